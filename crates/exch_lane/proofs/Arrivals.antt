@@ -4,7 +4,7 @@ use Rattle.mctp_wire.specs.declared.unit.Unit.{«Unit»}
 use Rattle.std.proofs.lemmas.Bool.{eq-eqb, ne_eqb}
 use Rattle.mctp_wire.specs.Packet as wire
 use Rattle.mctp_wire.specs.declared.layout.Head.{Head}
-use Rattle.mctp_reasm.specs.Pieces.{IsMessage, MessageOf, PacketOf, pieces, spelled}
+use Rattle.mctp_reasm.specs.Pieces.{IsMessage, MessageOf, PacketOf, pieces, spelling_of}
 use Rattle.mctp_reasm.specs.Inboxes.{for_end, is_for, packet_for}
 use Rattle.exch_lane.proofs.Below.{Laws}
 use Rattle.exch_lane.proofs.Pieces.{piece_reads}
@@ -18,7 +18,7 @@ not_for_it : (own peer : ℕ) (to : Bool) (h : Head) → h.dest ≢ own → is_f
 not_for_it own peer to h other = rw (ne_eqb h.dest own other) refl
 
 pub packet_arrives : (l : Laws) (u : «Unit») (own peer : ℕ) (to : Bool) (m : MessageOf) (i : ℕ) (p : PacketOf) (bytes : List ℕ) → IsMessage u m → m.tag < 8
-    → m.dest ≡ own → m.source ≡ peer → m.to ≡ to → slice_get (pieces u m) i ≡ Some p → bytes ≡ spelled p
+    → m.dest ≡ own → m.source ≡ peer → m.to ≡ to → slice_get (pieces u m) i ≡ Some p → bytes ≡ spelling_of p
     → packet_for u own peer to bytes ≡ Some p
 packet_arrives l u own peer to m i p bytes lawful low dest source side at is =
     let route = ((l.pieces u m lawful).each i p at).route in
@@ -27,7 +27,7 @@ packet_arrives l u own peer to m i p bytes lawful low dest source side at is =
     ap (for_end own peer to) reads ∙ rw here refl
 
 pub packet_misses : (l : Laws) (u : «Unit») (own peer : ℕ) (to : Bool) (m : MessageOf) (i : ℕ) (p : PacketOf) (bytes : List ℕ) → IsMessage u m → m.tag < 8
-    → m.dest ≢ own → slice_get (pieces u m) i ≡ Some p → bytes ≡ spelled p
+    → m.dest ≢ own → slice_get (pieces u m) i ≡ Some p → bytes ≡ spelling_of p
     → packet_for u own peer to bytes ≡ None
 packet_misses l u own peer to m i p bytes lawful low other at is =
     let route = ((l.pieces u m lawful).each i p at).route in

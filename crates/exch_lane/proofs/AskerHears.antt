@@ -5,7 +5,7 @@ use Rattle.std.proofs.lemmas.Cmp.{nat_list_eq_equiv}
 use Rattle.mctp_reasm.specs.Held.{Held}
 use Rattle.pldm_exch.specs.Caller.{CallerState, Open}
 use Rattle.exch_lane.specs.Cells.{cell_learn}
-use Rattle.exch_lane.specs.Lanes.{EntryOf, LaneOf, asker_clock}
+use Rattle.exch_lane.specs.Lanes.{LaneEntryOf, LaneOf, asker_clock}
 use Rattle.exch_lane.proofs.Deliveries.{view_asker_holds}
 use Rattle.exch_lane.proofs.Ghosts.{Ghost, GoesOn, LaneGood, ends_of, run_of, view_of}
 use Rattle.exch_lane.proofs.Lifts.{set_here, set_length, set_there}
@@ -67,7 +67,7 @@ abbrev pub learnt_caller : CallerState → CallerState
 learnt_caller c = record c { asked = None; answered = true }
 
 abbrev pub learnt_lane : LaneOf → ℕ → List ℕ → LaneOf
-learnt_lane w tag r = record w { asker = record w.asker { caller = learnt_caller w.asker.caller; replies = slice_set w.asker.replies tag None }; entries = w.entries ++ EntryOf.Learnt r ∷ [] }
+learnt_lane w tag r = record w { asker = record w.asker { caller = learnt_caller w.asker.caller; replies = slice_set w.asker.replies tag None }; entries = w.entries ++ LaneEntryOf.Learnt r ∷ [] }
 
 pub settled_of : (o : Option Exchange) (v : TagView) → v.is_current ≡ false → TagOf v o → IfSome o (IsSettled v.now)
 settled_of None v other h = tt

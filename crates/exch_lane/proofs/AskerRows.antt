@@ -4,11 +4,11 @@ use Rattle.pldm_base.specs.Limits.{reply_limit}
 use Rattle.mctp_wire.specs.declared.unit.Unit.{«Unit»}
 use Rattle.std.proofs.lemmas.Bool.{eq-eqb}
 use Rattle.std.proofs.lemmas.Bool.Decides.{eqb_tells}
-use Rattle.mctp_reasm.specs.Held.{Held, fed, held_after}
+use Rattle.mctp_reasm.specs.Held.{Held, feed_outcome, held_after}
 use Rattle.mctp_reasm.specs.declared.outcomes.Fed.{Fed}
 use Rattle.mctp_reasm.specs.declared.outcomes.Fed.TheVariants.{Dropped, Whole}
 use Rattle.mctp_reasm.specs.declared.outcomes.Fed.TheVariants as outcomes
-use Rattle.pldm_exch.specs.Caller.{Open, answer_body, answer_in, closed_by, heard_as}
+use Rattle.pldm_exch.specs.Caller.{Open, answer_body, answer_in, closed_by, answer_outcome_for}
 use Rattle.exch_lane.specs.Cells.{cell_at_asker}
 use Rattle.exch_lane.specs.Clocks.{Clock}
 use Rattle.exch_lane.specs.Lanes.{LaneOf, Sent, asker_clock}
@@ -62,7 +62,7 @@ row_open l w g tag e r o asked k c h =
 
 row_heard : (l : Laws) (w : LaneOf) (g : Ghost) (tag : ℕ) (e : Exchange) (r : List ℕ) (o : Option Open) → w.asker.caller.asked ≡ o
     → IfSome o (IsAskedOf w g) → ReplyCame w g tag e r → LaneGood w g
-    → HearsRow w g (asker_answered (slice_set w.asker.replies tag None) (heard_as w.asker.caller o (reply_of (ends_of w tag) e r)).0 (heard_as w.asker.caller o (reply_of (ends_of w tag) e r)).1)
+    → HearsRow w g (asker_answered (slice_set w.asker.replies tag None) (answer_outcome_for w.asker.caller o (reply_of (ends_of w tag) e r)).0 (answer_outcome_for w.asker.caller o (reply_of (ends_of w tag) e r)).1)
 row_heard l w g tag e r None asked k c h = ignored_row w g tag e r c h
 row_heard l w g tag e r (Some o) asked k c h = row_open l w g tag e r o asked k c h
 
@@ -81,7 +81,7 @@ row_fed l w g tag e r (Dropped cause) o comes c h =
 -- the row of a packet of a reply
 row_is : (l : Laws) (w : LaneOf) (tag : ℕ) (e : Exchange) (r : List ℕ) (s : Sent) (p : IsPacketOf w.unit (reply_of (ends_of w tag) e r) s.bytes)
     → w.asker.deaf ≡ 0 → length r ≤ reply_limit w.unit → tag < 8
-    → asker_row_in w s.bytes ≡ asker_fed (slice_set w.asker.replies tag (held_after w.unit (held_at w.asker.replies tag) p.packet)) w.asker.caller (fed w.unit (held_at w.asker.replies tag) p.packet)
+    → asker_row_in w s.bytes ≡ asker_fed (slice_set w.asker.replies tag (held_after w.unit (held_at w.asker.replies tag) p.packet)) w.asker.caller (feed_outcome w.unit (held_at w.asker.replies tag) p.packet)
 row_is l w tag e r s p hears few low =
     let lawful = reply_is (ends_of w tag) e r few in
     let arrives = packet_arrives l w.unit w.asker_eid w.taker_eid false (reply_of (ends_of w tag) e r) p.number p.packet s.bytes lawful low refl refl refl p.at p.is in
@@ -106,7 +106,7 @@ hears_reply l w g tag e r s p c h =
     let part = part_from (asker_clock w) (ends_of w tag) e r (held_at w.asker.replies tag) c.answered k.asker.replies in
     let comes = piece_comes l w.unit (reply_of (ends_of w tag) e r) p.number p.packet (held_at w.asker.replies tag) (reply_is (ends_of w tag) e r few) p.at part in
     subst (HearsRow w g) (sym (row_is l w tag e r s p c.hears few c.low))
-    (row_fed l w g tag e r (fed w.unit (held_at w.asker.replies tag) p.packet) (held_after w.unit (held_at w.asker.replies tag) p.packet) comes c h)
+    (row_fed l w g tag e r (feed_outcome w.unit (held_at w.asker.replies tag) p.packet) (held_after w.unit (held_at w.asker.replies tag) p.packet) comes c h)
 
 -- a deaf asker, and a packet that isn't for it
 pub asker_silent : (w : LaneOf) (g : Ghost) (row : AskerRow) → row ≡ AskerRow.Ignores w.asker.replies → LaneGood w g → HearsRow w g row

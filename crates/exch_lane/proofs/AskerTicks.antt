@@ -3,7 +3,7 @@ use Rattle.std.proofs.Common.{◌≡◌, ◌+◌, ◌-◌, ◌≤◌, ◌<◌, B
 use Rattle.std.proofs.lemmas.Bool.{cases_lt, lt-leb, le-leb}
 use Rattle.std.proofs.lemmas.Bool.Decides.{eqb_tells}
 use Rattle.mctp_reasm.specs.Held.{Held, held_tick}
-use Rattle.exch_lane.specs.Clocks.{Clock, MayBeat, beat}
+use Rattle.exch_lane.specs.Clocks.{Clock, MayBeat, clock_after_unit}
 use Rattle.exch_lane.proofs.Elapsed.{elapsed_counted, elapsed_later, elapsed_missed, within_assembly}
 use Rattle.exch_lane.proofs.Facts.{lt_from, none_of, some_maps}
 use Rattle.exch_lane.proofs.Views.{AskerView, Ends, Exchange, IsAsker, IsReplies, IsSpan, asker_at, asker_view_tick, resent, rested}
@@ -18,7 +18,7 @@ held_ages (Some held) P Q h young next = elim (eqb_tells held.age 8) [
 ]
 
 -- a tick that the asker counts, or misses
-asker_waits : (c : Clock) (x : Ends) (e : Exchange) (w : AskerView) → 1 < w.deaf → IsAsker c x e w → IsAsker (beat true c) x e (record w { deaf = w.deaf - 1 })
+asker_waits : (c : Clock) (x : Ends) (e : Exchange) (w : AskerView) → 1 < w.deaf → IsAsker c x e w → IsAsker (clock_after_unit true c) x e (record w { deaf = w.deaf - 1 })
 asker_waits c x e w lt h =
     let d = h.deaf (omega arith) in
     record {
@@ -28,9 +28,9 @@ asker_waits c x e w lt h =
     }
 
 asker_ages : (c : Clock) (x : Ends) (e : Exchange) (w : AskerView) → MayBeat true c → w.deaf ≤ 1 → IsAsker c x e w
-    → IsAsker (beat true c) x e (record { deaf = 0; rest = w.rest - 1; replies = held_tick w.replies })
+    → IsAsker (clock_after_unit true c) x e (record { deaf = 0; rest = w.rest - 1; replies = held_tick w.replies })
 asker_ages c x e w may le h = record {
-  replies = held_ages w.replies (IsReplies c x e) (IsReplies (beat true c) x e) h.replies (λ o r. r.age)
+  replies = held_ages w.replies (IsReplies c x e) (IsReplies (clock_after_unit true c) x e) h.replies (λ o r. r.age)
       (λ o r lt. record { part = r.part; age = omega arith; soon = elapsed_counted c (e.last + 16) o.age may r.soon });
   rest = λ _. elim (cases_lt 0 w.deaf) [
     | inl was ↦ let d = h.deaf was in omega (arith, d.0)
@@ -39,21 +39,21 @@ asker_ages c x e w may le h = record {
   deaf = λ z. absurd (omega (arith, z));
 }
 
-asker_counts : (c : Clock) (x : Ends) (e : Exchange) (w : AskerView) → MayBeat true c → IsAsker c x e w → IsAsker (beat true c) x e (asker_view_tick w)
+asker_counts : (c : Clock) (x : Ends) (e : Exchange) (w : AskerView) → MayBeat true c → IsAsker c x e w → IsAsker (clock_after_unit true c) x e (asker_view_tick w)
 asker_counts c x e w may h = elim (cases_lt 1 w.deaf) [
   | inl more ↦ rw (lt-leb w.deaf 1 more) (asker_waits c x e w more h)
   | inr less ↦ rw (le-leb w.deaf 1 less) (asker_ages c x e w may less h)
 ]
 
-asker_misses : (c : Clock) (x : Ends) (e : Exchange) (w : AskerView) → MayBeat false c → IsAsker c x e w → IsAsker (beat false c) x e w
+asker_misses : (c : Clock) (x : Ends) (e : Exchange) (w : AskerView) → MayBeat false c → IsAsker c x e w → IsAsker (clock_after_unit false c) x e w
 asker_misses c x e w may h = record {
-  replies = some_maps w.replies (IsReplies c x e) (IsReplies (beat false c) x e) h.replies (λ o r. record { part = r.part; age = r.age; soon = elapsed_missed c (e.last + 16) o.age may r.soon });
+  replies = some_maps w.replies (IsReplies c x e) (IsReplies (clock_after_unit false c) x e) h.replies (λ o r. record { part = r.part; age = r.age; soon = elapsed_missed c (e.last + 16) o.age may r.soon });
   rest = λ z. let r = h.rest z in omega arith;
   deaf = λ z. let d = h.deaf z in (omega (arith, d.0), d.1, d.2);
 }
 
 pub asker_beats : (counts : Bool) (c : Clock) (x : Ends) (e : Exchange) (w : AskerView) → MayBeat counts c → IsAsker c x e w
-    → IsAsker (beat counts c) x e (asker_at counts w)
+    → IsAsker (clock_after_unit counts c) x e (asker_at counts w)
 asker_beats true c x e w may h = asker_counts c x e w may h
 asker_beats false c x e w may h = asker_misses c x e w may h
 

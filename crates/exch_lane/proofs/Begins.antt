@@ -4,11 +4,11 @@ use Rattle.pldm_base.specs.Limits.{reply_limit}
 use Rattle.std.specs.List.{AllByRecursion}
 use Rattle.std.proofs.lemmas.Bool.{eq-eqb, eqb-true}
 use Rattle.std.proofs.lemmas.Bool.Decides.{eqb_tells}
-use Rattle.pldm_exch.specs.Caller.{begun, is_quiet, may_begin, next_tag, rest_at}
+use Rattle.pldm_exch.specs.Caller.{begin_outcome, is_quiet, may_begin, next_tag, rest_at}
 use Rattle.pldm_exch.specs.Laws.{CallerStep}
 use Rattle.exch_lane.specs.Cells.{cell_ask}
 use Rattle.exch_lane.specs.Lanes.{LaneOf, asker_clock}
-use Rattle.exch_lane.specs.Steps.{begins, sendings}
+use Rattle.exch_lane.specs.Steps.{lane_after_begin, packets_of_message}
 use Rattle.exch_lane.specs.declared.step.LaneFault.TheVariants as faults
 use Rattle.exch_lane.proofs.Below.{Laws}
 use Rattle.exch_lane.proofs.Elapsed.{elapsed_start}
@@ -31,7 +31,7 @@ exchange_of w command body = record { identifier = w.asker.caller.number; comman
 begins_tag : (l : Laws) (w : LaneOf) (g : Ghost) (command : ℕ) (body : List ℕ) → length body ≤ reply_limit w.unit → w.asker.deaf ≡ 0
     → rest_at w.asker.caller (next_tag w.asker.caller) ≡ 0 → g.current ≡ None → LaneGood w g
     → (t : ℕ) → t < 8
-    → TagOf (view_of (begins w command body) (Some (next_tag w.asker.caller)) t) (put (next_tag w.asker.caller) (exchange_of w command body) g.exchanges t)
+    → TagOf (view_of (lane_after_begin w command body) (Some (next_tag w.asker.caller)) t) (put (next_tag w.asker.caller) (exchange_of w command body) g.exchanges t)
 unfolding exchange_of
 begins_tag l w g command body few hears rest none h t lt =
     let set = l.rests.begin w.asker.caller 5 command body t h.body.caller in
@@ -52,7 +52,7 @@ tag_low n = omega arith
 
 -- the request that is sent
 begins_message : (w : LaneOf) (command : ℕ) (body : List ℕ) → w.asker.caller.own ≡ w.asker_eid → w.asker.caller.peer ≡ w.taker_eid
-    → (begun w.asker.caller 5 command body).1 ≡ request_of (ends_of w (next_tag w.asker.caller)) (exchange_of w command body)
+    → (begin_outcome w.asker.caller 5 command body).1 ≡ request_of (ends_of w (next_tag w.asker.caller)) (exchange_of w command body)
 unfolding exchange_of
 begins_message w command body own peer = rw (own, peer) refl
 
@@ -64,7 +64,7 @@ begins_there : (tag : ℕ) (e : Exchange) (exchanges : ℕ → Option Exchange) 
 begins_there tag e exchanges = rw (eq-eqb tag tag refl) refl
 
 begins_asked : (w : LaneOf) (g : Ghost) (command : ℕ) (body : List ℕ) → w.asker.deaf ≡ 0 → LaneGood w g
-    → IfSome (begins w command body).asker.caller.asked (IsAskedOf (begins w command body) (record { exchanges = put (next_tag w.asker.caller) (exchange_of w command body) g.exchanges; current = Some (next_tag w.asker.caller) }))
+    → IfSome (lane_after_begin w command body).asker.caller.asked (IsAskedOf (lane_after_begin w command body) (record { exchanges = put (next_tag w.asker.caller) (exchange_of w command body) g.exchanges; current = Some (next_tag w.asker.caller) }))
 unfolding exchange_of
 begins_asked w g command body hears h = record {
   hears = hears;
@@ -79,18 +79,18 @@ begins_asked w g command body hears h = record {
 }
 
 begins_runs : (w : LaneOf) (g : Ghost) (command : ℕ) (body : List ℕ) → g.current ≡ None
-    → cell_ask command body (run_of w g) ≡ Some (run_of (begins w command body) (record { exchanges = put (next_tag w.asker.caller) (exchange_of w command body) g.exchanges; current = Some (next_tag w.asker.caller) }))
+    → cell_ask command body (run_of w g) ≡ Some (run_of (lane_after_begin w command body) (record { exchanges = put (next_tag w.asker.caller) (exchange_of w command body) g.exchanges; current = Some (next_tag w.asker.caller) }))
 unfolding exchange_of
 begins_runs w g command body none = rw (none, eq-eqb (next_tag w.asker.caller) (next_tag w.asker.caller) refl) refl
 
 begins_body : (l : Laws) (w : LaneOf) (g : Ghost) (command : ℕ) (body : List ℕ) → length body ≤ reply_limit w.unit → w.asker.deaf ≡ 0
     → rest_at w.asker.caller (next_tag w.asker.caller) ≡ 0 → g.current ≡ None → LaneGood w g
-    → LaneBody (begins w command body) (record { exchanges = put (next_tag w.asker.caller) (exchange_of w command body) g.exchanges; current = Some (next_tag w.asker.caller) })
+    → LaneBody (lane_after_begin w command body) (record { exchanges = put (next_tag w.asker.caller) (exchange_of w command body) g.exchanges; current = Some (next_tag w.asker.caller) })
 begins_body l w g command body few hears rest none h =
     let tag : ℕ = next_tag w.asker.caller in
     let e : Exchange = exchange_of w command body in
     let low = tag_low w.asker.caller.number in
-    let m : (begun w.asker.caller 5 command body).1 ≡ request_of (ends_of w (next_tag w.asker.caller)) (exchange_of w command body) = begins_message w command body h.body.own h.body.peer in
+    let m : (begin_outcome w.asker.caller 5 command body).1 ≡ request_of (ends_of w (next_tag w.asker.caller)) (exchange_of w command body) = begins_message w command body h.body.own h.body.peer in
     let now : (exchange_of w command body).last ≡ w.now = begins_now w command body in
     record {
       differ = h.body.differ;
@@ -103,7 +103,7 @@ begins_body l w g command body few hears rest none h =
       taker_time = h.body.taker_time;
       caller = l.callers.after w.asker.caller (CallerStep.Begin 5 command body) h.body.caller;
       tags = begins_tag l w g command body few hears rest none h;
-      packets = subst (λ x. AllByRecursion (IsLiving w.unit w.now w.asker_eid w.taker_eid (put tag e g.exchanges)) (w.packets ++ sendings w.unit w.now x)) (sym m)
+      packets = subst (λ x. AllByRecursion (IsLiving w.unit w.now w.asker_eid w.taker_eid (put tag e g.exchanges)) (w.packets ++ packets_of_message w.unit w.now x)) (sym m)
           (request_sent w.unit w.now w.asker_eid w.taker_eid (put tag e g.exchanges) tag e w.packets low (put_here tag e g.exchanges) (omega (arith, now))
           (packets_begin w.unit w.now w.asker_eid w.taker_eid g.exchanges tag e w.packets (rested_far (g.exchanges tag) (view_of w g.current tag) hears rest (h.body.tags tag low)) h.body.packets));
       asked = begins_asked w g command body hears h;
@@ -113,7 +113,7 @@ begins_body l w g command body few hears rest none h =
 
 begins_good : (l : Laws) (w : LaneOf) (g : Ghost) (command : ℕ) (body : List ℕ) → length body ≤ reply_limit w.unit → w.asker.deaf ≡ 0
     → rest_at w.asker.caller (next_tag w.asker.caller) ≡ 0 → g.current ≡ None → LaneGood w g
-    → GoesOn (begins w command body) (cell_ask command body (run_of w g))
+    → GoesOn (lane_after_begin w command body) (cell_ask command body (run_of w g))
 begins_good l w g command body few hears rest none h = record {
   ghost = record { exchanges = put (next_tag w.asker.caller) (exchange_of w command body) g.exchanges; current = Some (next_tag w.asker.caller) };
   good = record {
@@ -126,7 +126,7 @@ begins_good l w g command body few hears rest none h = record {
 
 pub goes_begin : (l : Laws) (w : LaneOf) (g : Ghost) (command : ℕ) (body : List ℕ) → length body ≤ reply_limit w.unit
     → (if (w.asker.deaf == 0) && may_begin w.asker.caller then None else Some faults.NotNow) ≡ None → LaneGood w g
-    → GoesOn (begins w command body) (cell_ask command body (run_of w g))
+    → GoesOn (lane_after_begin w command body) (cell_ask command body (run_of w g))
 goes_begin l w g command body few may h =
     let all = both (w.asker.deaf == 0) (may_begin w.asker.caller) (may_of ((w.asker.deaf == 0) && may_begin w.asker.caller) faults.NotNow may) in
     let begins_here = both (is_quiet w.asker.caller) (rest_at w.asker.caller (next_tag w.asker.caller) == 0) all.1 in

@@ -3,10 +3,10 @@ use Rattle.std.proofs.Common.{◌≡◌, ◌+◌, ◌-◌, ◌≤◌, ◌<◌, �
 use Rattle.pldm_base.specs.Limits.{reply_limit}
 use Rattle.std.proofs.lemmas.Bool.{cases_lt, le-ltb, lt-ltb}
 use Rattle.std.proofs.lemmas.Bool.Decides.{eqb_tells}
-use Rattle.exch_lane.specs.Cells.{cell_delivers, cell_hears}
-use Rattle.exch_lane.specs.Lanes.{LaneOf, Sent, numbered}
+use Rattle.exch_lane.specs.Cells.{cell_delivers, cell_after_packet}
+use Rattle.exch_lane.specs.Lanes.{LaneOf, Sent, item_numbered}
 use Rattle.mctp_reasm.specs.Inboxes.{packet_for}
-use Rattle.exch_lane.specs.Steps.{asker_row_in, delivers, lane_hears, may_deliver, taker_row_in}
+use Rattle.exch_lane.specs.Steps.{asker_row_in, lane_after_deliver, lane_after_packet, may_deliver, taker_row_in}
 use Rattle.exch_lane.specs.declared.step.End.{End}
 use Rattle.exch_lane.specs.declared.step.End.TheVariants as ends
 use Rattle.exch_lane.specs.declared.step.LaneFault.TheVariants as faults
@@ -22,7 +22,7 @@ use Rattle.exch_lane.proofs.Views.{Exchange, reply_of, request_of}
 
 -- what an end does with bytes, and what that is for the cell
 abbrev pub Hears : LaneOf → Ghost → End → List ℕ → List ℕ → Type 0
-Hears w g end reply bytes = GoesOn (lane_hears w end bytes reply) (cell_hears w end reply bytes (run_of w g))
+Hears w g end reply bytes = GoesOn (lane_after_packet w end bytes reply) (cell_after_packet w end reply bytes (run_of w g))
 
 -- a packet that isn't for an end
 asker_misses : (w : LaneOf) (g : Ghost) (reply bytes : List ℕ) → packet_for w.unit w.asker_eid w.taker_eid false bytes ≡ None → LaneGood w g → Hears w g ends.Asker reply bytes
@@ -88,7 +88,7 @@ living_comes : (l : Laws) (w : LaneOf) (g : Ghost) (end : End) (reply : List ℕ
 living_comes l w g end reply s k soon few h = exchange_from l w g k.tag (g.exchanges k.tag) end reply s refl k.of soon k.low few h
 
 -- the packet of a number
-at_number : (packets : List Sent) (number : ℕ) (s : Sent) → numbered packets number ≡ Some s → slice_get packets (number - 1) ≡ Some s
+at_number : (packets : List Sent) (number : ℕ) (s : Sent) → item_numbered packets number ≡ Some s → slice_get packets (number - 1) ≡ Some s
 at_number packets number s e = elim (cases_lt 0 number) [
   | inl some ↦ rw (lt-ltb 0 number some) at e
   | inr none ↦ let no : None ≡ Some s = rw (le-ltb 0 number none) at e in absurd (cc)
@@ -100,15 +100,15 @@ still_living now s e = elim (cases_lt (s.date + 8) now) [
   | inr lives ↦ lives
 ]
 
-delivers_from : (l : Laws) (w : LaneOf) (g : Ghost) (number : ℕ) (end : End) (reply : List ℕ) (o : Option Sent) → numbered w.packets number ≡ o
+delivers_from : (l : Laws) (w : LaneOf) (g : Ghost) (number : ℕ) (end : End) (reply : List ℕ) (o : Option Sent) → item_numbered w.packets number ≡ o
     → may_deliver w.now o ≡ None → length reply ≤ reply_limit w.unit → LaneGood w g
-    → GoesOn (delivers w end reply o) (cell_delivers w end reply o (run_of w g))
+    → GoesOn (lane_after_deliver w end reply o) (cell_delivers w end reply o (run_of w g))
 delivers_from l w g number end reply None is may few h = absurd (cc)
 delivers_from l w g number end reply (Some s) is may few h =
     let soon = still_living w.now s may in
     living_comes l w g end reply s (all_at (IsLiving w.unit w.now w.asker_eid w.taker_eid g.exchanges) w.packets (number - 1) s h.body.packets (at_number w.packets number s is) soon) soon few h
 
 pub goes_deliver : (l : Laws) (w : LaneOf) (g : Ghost) (number : ℕ) (end : End) (reply : List ℕ)
-    → may_deliver w.now (numbered w.packets number) ≡ None → length reply ≤ reply_limit w.unit → LaneGood w g
-    → GoesOn (delivers w end reply (numbered w.packets number)) (cell_delivers w end reply (numbered w.packets number) (run_of w g))
-goes_deliver l w g number end reply may few h = delivers_from l w g number end reply (numbered w.packets number) refl may few h
+    → may_deliver w.now (item_numbered w.packets number) ≡ None → length reply ≤ reply_limit w.unit → LaneGood w g
+    → GoesOn (lane_after_deliver w end reply (item_numbered w.packets number)) (cell_delivers w end reply (item_numbered w.packets number) (run_of w g))
+goes_deliver l w g number end reply may few h = delivers_from l w g number end reply (item_numbered w.packets number) refl may few h

@@ -2,11 +2,11 @@
 use Rattle.std.proofs.Common.{◌≡◌, ◌≢◌, ◌+◌, ◌≤◌, ◌<◌, ◌==◌, ℕ, Bool, true, false, if◌then◌else◌, List, Option, Some, None, IfSome, IsSomeAnd, is_none, is_some, length, slice_get, ◌⊎◌}
 use Rattle.mctp_wire.specs.declared.unit.Unit.{«Unit»}
 use Rattle.std.specs.List.{AllByRecursion}
-use Rattle.mctp_reasm.specs.Pieces.{MessageOf, PacketOf, pieces, spelled}
-use Rattle.pldm_exch.specs.Caller.{IsCaller, Open, fresh, is_quiet, last_tag, rest_at}
+use Rattle.mctp_reasm.specs.Pieces.{MessageOf, PacketOf, pieces, spelling_of}
+use Rattle.pldm_exch.specs.Caller.{IsCaller, Open, new_caller, is_quiet, last_tag, rest_at}
 use Rattle.pldm_exch.specs.Kept.{kept_at}
 use Rattle.exch_lane.specs.Cells.{Cell, CellRun}
-use Rattle.exch_lane.specs.Clocks.{Clock, IsClock, elapsed}
+use Rattle.exch_lane.specs.Clocks.{Clock, IsClock, HasElapsedAtMost}
 use Rattle.exch_lane.specs.Lanes.{LaneOf, Sent, asker_clock, taker_clock}
 use Rattle.pldm_exch.specs.Ends.{AskerOf, TakerOf}
 use Rattle.mctp_reasm.specs.Inboxes.{held_at}
@@ -68,7 +68,7 @@ pub record IsPacketOf (u : «Unit») (m : MessageOf) (bytes : List ℕ) : Type 0
   pub number : ℕ
   pub packet : PacketOf
   pub at : slice_get (pieces u m) number ≡ Some packet
-  pub is : bytes ≡ spelled packet
+  pub is : bytes ≡ spelling_of packet
 
 -- a packet of an exchange: of its request, not sent after the last sending; or of its reply, which some packet of the
 -- request called forth
@@ -92,7 +92,7 @@ pub record IsOpenOf (c : Clock) (x : Ends) (o : Open) (e : Exchange) : Type 0 wh
   pub kind : o.pldm_type ≡ 5
   pub command : o.command ≡ e.command
   pub message : o.message ≡ request_of x e
-  pub soon : elapsed c e.first o.age
+  pub soon : HasElapsedAtMost c e.first o.age
 
 pub record IsOpenRequest (u : «Unit») (c : Clock) (asker taker deaf : ℕ) (g : Ghost) (o : Open) : Type 0 where
   pub hears : deaf ≡ 0
@@ -121,7 +121,7 @@ pub record LaneBody (w : LaneOf) (g : Ghost) : Type 0 where
   pub packets : AllByRecursion (IsLiving w.unit w.now w.asker_eid w.taker_eid g.exchanges) w.packets
   pub asked : IfSome w.asker.caller.asked (IsAskedOf w g)
   pub current : IfSome g.current (IsCurrent g)
-  pub deaf : 0 < w.asker.deaf → w.asker.caller ≡ fresh w.asker_eid w.taker_eid
+  pub deaf : 0 < w.asker.deaf → w.asker.caller ≡ new_caller w.asker_eid w.taker_eid
 
 -- all that is true of it: a hearing asker's cell is that of its last request, and it is empty exactly where it is quiet
 pub record LaneGood (w : LaneOf) (g : Ghost) : Type 0 where

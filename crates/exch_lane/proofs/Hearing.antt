@@ -1,9 +1,9 @@
 -- What is true of the hearing asker after a tick.
 use Rattle.std.proofs.Common.{◌≡◌, ◌∙◌, ◌+◌, ◌≤◌, ◌<◌, ◌==◌, ℕ, Bool, true, false, true≢false, Option, Some, None, IfSome, is_none, inl, inr, refl, sym, ap, subst, arith}
 use Rattle.std.proofs.lemmas.Bool.{cases_lt, eqb-true, ne_eqb}
-use Rattle.pldm_exch.specs.Caller.{CallerState, IsCaller, IsOpen, Open, fresh, is_quiet, last_tag, older, rest_at, sends_at, ticked}
+use Rattle.pldm_exch.specs.Caller.{CallerState, IsCaller, IsOpen, Open, new_caller, is_quiet, last_tag, open_after_tick, rest_at, sends_at, caller_tick_for}
 use Rattle.pldm_exch.specs.Laws.{CallerStep}
-use Rattle.pldm_exch.specs.Rests.{fallen}
+use Rattle.pldm_exch.specs.Rests.{rests_after_tick}
 use Rattle.exch_lane.specs.Clocks.{MayBeat}
 use Rattle.exch_lane.specs.Lanes.{LaneOf, asker_clock, taker_clock}
 use Rattle.pldm_exch.specs.Sides.{AskerTick}
@@ -17,14 +17,14 @@ use Rattle.exch_lane.proofs.TickViews.{asker_hear_view, rest_falls}
 use Rattle.exch_lane.proofs.Waits.{IsWaiting, TicksRow, waiting_body}
 
 -- its caller stays lawful
-pub caller_ticks : (l : Laws) (c : CallerState) (o : Option Open) → c.asked ≡ o → IsCaller c → IsCaller (ticked c o).0
-caller_ticks l c o is h = subst (λ o. IsCaller (ticked c o).0) is (l.callers.after c CallerStep.Tick h)
+pub caller_ticks : (l : Laws) (c : CallerState) (o : Option Open) → c.asked ≡ o → IsCaller c → IsCaller (caller_tick_for c o).0
+caller_ticks l c o is h = subst (λ o. IsCaller (caller_tick_for c o).0) is (l.callers.after c CallerStep.Tick h)
 
 -- no request is open
-fresh_quiet : (c : CallerState) (own peer : ℕ) → c ≡ fresh own peer → is_quiet (rested_caller c) ≡ true
+fresh_quiet : (c : CallerState) (own peer : ℕ) → c ≡ new_caller own peer → is_quiet (rested_caller c) ≡ true
 fresh_quiet c own peer is = subst (λ c. is_quiet (rested_caller c) ≡ true) (sym is) refl
 
-fresh_rest : (c : CallerState) (own peer t : ℕ) → c ≡ fresh own peer → t < 8 → rest_at (rested_caller c) t ≡ 0
+fresh_rest : (c : CallerState) (own peer t : ℕ) → c ≡ new_caller own peer → t < 8 → rest_at (rested_caller c) t ≡ 0
 fresh_rest c own peer t is lt = zero_falls c t (subst (λ c. rest_at c t ≡ 0) (sym is) (no_rest own peer t lt))
 
 rested_last : (w : LaneOf) (g : Ghost) → is_quiet (rested_caller w.asker.caller) ≡ false → LaneGood w g → IfSome g.current (λ t. t ≡ last_tag w.asker.caller)
@@ -65,7 +65,7 @@ rested_waits l w g less none h = record {
 
 -- the open request waits on
 abbrev pub older_caller : CallerState → Open → CallerState
-older_caller c o = record c { rests = fallen c.rests; asked = Some (older o) }
+older_caller c o = record c { rests = rests_after_tick c.rests; asked = Some (open_after_tick o) }
 
 pub older_waits : (l : Laws) (w : LaneOf) (g : Ghost) (o : Open) → MayBeat true (asker_clock w) → w.asker.caller.asked ≡ Some o → IsAskedOf w g o
     → sends_at (o.age + 1) ≡ false → (o.age + 1 == 18) ≡ false → LaneGood w g
@@ -83,7 +83,7 @@ older_waits l w g o may is k not_due not_over h =
 
 -- the open request is given up
 abbrev pub over_caller : CallerState → CallerState
-over_caller c = record c { rests = fallen c.rests; asked = None }
+over_caller c = record c { rests = rests_after_tick c.rests; asked = None }
 
 over_busy : (c : CallerState) (o : Open) → IsOpen c o → (o.age + 1 ≡ 18) → is_quiet (over_caller c) ≡ false
 over_busy c o h over =

@@ -11,11 +11,11 @@ use Rattle.mctp_reasm.specs.Pieces.{MessageOf}
 use Rattle.pldm_exch.specs.declared.caller.CallTick.TheVariants as ticks
 use Rattle.pldm_exch.specs.Caller.{CallTickOf, Open, tick_of}
 use Rattle.exch_lane.specs.Lanes.{LaneOf}
-use Rattle.pldm_exch.specs.Sides.{AskerRow, AskerTick, TakerRow, answering_row, asker_packet, asker_row, asking_after, asking_row, learnt_in, taker_packet, taker_row}
-use Rattle.exch_lane.specs.Steps.{asker_does, asker_ticks, sendings, taker_does, with_asker}
+use Rattle.pldm_exch.specs.Sides.{AskerRow, AskerTick, TakerRow, answering_row, asker_packet, asker_row, asking_after, asking_row, reply_in_row, taker_packet, taker_row}
+use Rattle.exch_lane.specs.Steps.{asker_does, asker_ticks, packets_of_message, taker_does, with_asker}
 use Rattle.exch_lane.specs.Journals.{with_learnt, with_sent, with_taken}
 use Rattle.pldm_exch.specs.Ends.{AnsweringOf, AskingOf, asker_of, taker_of}
-use Rattle.exch_lane.specs.Nodes.{asker_after, asker_ticked, call_tick_of, heard_in, taker_after}
+use Rattle.exch_lane.specs.Nodes.{asker_after, asker_ticked, call_tick_of, taker_action_in, taker_after}
 
 -- a hearing end has the same row for bytes as for the packet that they read as
 pub asker_reads : (deaf : ℕ) (a : AskingOf) (u : «Unit») (bytes : List ℕ) (p : Packet) → deaf ≡ 0 → Ok (p.head, p.body.now) ≡ wire.packet_of u bytes
@@ -39,7 +39,7 @@ stays_between a (AskerRow.Learns replies caller heard) = (refl, refl, refl)
 
 -- a packet at the node that asks
 pub asker_does_is : (w : LaneOf) (row : AskerRow)
-    → asker_does w row ≡ record w { asker = asker_after w.asker row; entries = with_learnt w.entries (learnt_in row) }
+    → asker_does w row ≡ record w { asker = asker_after w.asker row; entries = with_learnt w.entries (reply_in_row row) }
 asker_does_is w (AskerRow.Ignores replies) = refl
 asker_does_is w (AskerRow.Learns replies caller heard) = refl
 
@@ -48,8 +48,8 @@ pub taker_does_is : (w : LaneOf) (reply : List ℕ) (row : TakerRow)
     → taker_does w reply row
     ≡ record w {
       taker = taker_after w.taker reply row;
-      packets = with_sent w.unit w.now w.packets (heard_in reply row);
-      entries = with_taken reply w.entries (heard_in reply row);
+      packets = with_sent w.unit w.now w.packets (taker_action_in reply row);
+      entries = with_taken reply w.entries (taker_action_in reply row);
     }
 taker_does_is w reply (TakerRow.Silent requests) = refl
 taker_does_is w reply (TakerRow.Repeats requests answer) = refl
@@ -67,7 +67,7 @@ none_is (Some o) e = absurd (cc)
 
 -- a tick of the node that asks
 pub resends_is : (w : LaneOf) (row : AskerTick) (m : MessageOf) → CallTickOf.Send m ≡ call_tick_of row
-    → asker_ticks w row ≡ record w { asker = asker_ticked row; packets = w.packets ++ sendings w.unit w.now m }
+    → asker_ticks w row ≡ record w { asker = asker_ticked row; packets = w.packets ++ packets_of_message w.unit w.now m }
 resends_is w (AskerTick.Waits a) m e = absurd (cc)
 resends_is w (AskerTick.Resends a n) m e = let same : n ≡ m = cc in rw same refl
 resends_is w (AskerTick.GivesUp a) m e = absurd (cc)

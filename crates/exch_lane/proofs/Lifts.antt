@@ -3,8 +3,8 @@ use Rattle.std.proofs.Common.{◌≡◌, ◌≢◌, ◌∙◌, ◌<◌, ℕ, zer
 use Rattle.std.specs.List.{AllByRecursion}
 use Rattle.std.proofs.lemmas.List.{get_or-replicate, get_or-set_other, get_or-set_same, length-set}
 use Rattle.mctp_reasm.specs.Held.{Held}
-use Rattle.pldm_exch.specs.Caller.{fresh, rest_at}
-use Rattle.pldm_exch.specs.Kept.{Kept, kept_at, none_kept}
+use Rattle.pldm_exch.specs.Caller.{new_caller, rest_at}
+use Rattle.pldm_exch.specs.Kept.{KeptAnswer, kept_at, none_kept}
 use Rattle.mctp_reasm.specs.Inboxes.{none_held, held_at}
 
 -- what stands under a tag after a tick
@@ -34,14 +34,14 @@ all_made P f g [] h = tt
 all_made P f g (x ∷ xs) h = (h 0 x refl, all_made P f g xs (λ i y e. h (suc i) y e))
 
 -- what new ends hold under a tag
-pub no_rest : (own peer t : ℕ) → t < 8 → rest_at (fresh own peer) t ≡ 0
+pub no_rest : (own peer t : ℕ) → t < 8 → rest_at (new_caller own peer) t ≡ 0
 no_rest own peer t lt = get_or-replicate {A = ℕ} 8 t 0 0 lt
 
 pub nothing_held_at : (t : ℕ) → t < 8 → held_at none_held t ≡ None
 nothing_held_at t lt = get_or-replicate {A = Option Held} 8 t None None lt
 
 pub nothing_kept_at : (t : ℕ) → t < 8 → kept_at none_kept t ≡ None
-nothing_kept_at t lt = get_or-replicate {A = Option Kept} 8 t None None lt
+nothing_kept_at t lt = get_or-replicate {A = Option KeptAnswer} 8 t None None lt
 
 -- what a tag holds where something was put under it
 pub set_here : {A : Type 0} (xs : List (Option A)) (tag : ℕ) (x : Option A) → length xs ≡ 8 → tag < 8 → get_or (slice_set xs tag x) tag None ≡ x

@@ -3,9 +3,9 @@ use Rattle.std.proofs.Common.{◌≡◌, ◌∙◌, ◌+◌, ◌≤◌, ◌<◌,
 use Rattle.mctp_wire.specs.declared.unit.Unit.{«Unit»}
 use Rattle.std.specs.List.{AllByRecursion}
 use Rattle.std.proofs.lemmas.Bool.Decides.{eqb_tells}
-use Rattle.mctp_reasm.specs.Pieces.{MessageOf, pieces, spelled}
+use Rattle.mctp_reasm.specs.Pieces.{MessageOf, pieces, spelling_of}
 use Rattle.exch_lane.specs.Lanes.{Sent}
-use Rattle.exch_lane.specs.Steps.{sendings, sent_at}
+use Rattle.exch_lane.specs.Steps.{packets_of_message, sent_at}
 use Rattle.exch_lane.proofs.Ghosts.{IsLiving, IsOfExchange, IsPacketOf, put}
 use Rattle.exch_lane.proofs.Lifts.{all_append, all_made, all_maps}
 use Rattle.exch_lane.proofs.Views.{Ends, Exchange, reply_of, request_of}
@@ -85,17 +85,17 @@ packets_begin u now a b exchanges tag e packets far h = all_maps (IsLiving u now
 -- the packets of a message that is sent
 pub request_sent : (u : «Unit») (now a b : ℕ) (exchanges : ℕ → Option Exchange) (tag : ℕ) (e : Exchange) (packets : List Sent) → tag < 8 → exchanges tag ≡ Some e → now ≤ e.last
     → AllByRecursion (IsLiving u now a b exchanges) packets
-    → AllByRecursion (IsLiving u now a b exchanges) (packets ++ sendings u now (request_of (record { unit = u; asker = a; taker = b; tag = tag }) e))
+    → AllByRecursion (IsLiving u now a b exchanges) (packets ++ packets_of_message u now (request_of (record { unit = u; asker = a; taker = b; tag = tag }) e))
 request_sent u now a b exchanges tag e packets low is le h =
     let m : MessageOf = request_of (record { unit = u; asker = a; taker = b; tag = tag }) e in
-    all_append (IsLiving u now a b exchanges) packets (sendings u now m) h
-    (all_made (IsLiving u now a b exchanges) (sent_at now) spelled (pieces u m) (λ i p at soon. record { tag = tag; low = low; of = rw is (inl (record { number = i; packet = p; at = at; is = refl }, le)) }))
+    all_append (IsLiving u now a b exchanges) packets (packets_of_message u now m) h
+    (all_made (IsLiving u now a b exchanges) (sent_at now) spelling_of (pieces u m) (λ i p at soon. record { tag = tag; low = low; of = rw is (inl (record { number = i; packet = p; at = at; is = refl }, le)) }))
 
 pub reply_sent : (u : «Unit») (now a b : ℕ) (exchanges : ℕ → Option Exchange) (tag : ℕ) (e : Exchange) (r : List ℕ) (packets : List Sent) → tag < 8
     → exchanges tag ≡ Some e → e.reply ≡ Some r → now ≤ e.last + 8
     → AllByRecursion (IsLiving u now a b exchanges) packets
-    → AllByRecursion (IsLiving u now a b exchanges) (packets ++ sendings u now (reply_of (record { unit = u; asker = a; taker = b; tag = tag }) e r))
+    → AllByRecursion (IsLiving u now a b exchanges) (packets ++ packets_of_message u now (reply_of (record { unit = u; asker = a; taker = b; tag = tag }) e r))
 reply_sent u now a b exchanges tag e r packets low is answered le h =
     let m : MessageOf = reply_of (record { unit = u; asker = a; taker = b; tag = tag }) e r in
-    all_append (IsLiving u now a b exchanges) packets (sendings u now m) h
-    (all_made (IsLiving u now a b exchanges) (sent_at now) spelled (pieces u m) (λ i p at soon. record { tag = tag; low = low; of = rw is (inr (rw answered (record { number = i; packet = p; at = at; is = refl }, le))) }))
+    all_append (IsLiving u now a b exchanges) packets (packets_of_message u now m) h
+    (all_made (IsLiving u now a b exchanges) (sent_at now) spelling_of (pieces u m) (λ i p at soon. record { tag = tag; low = low; of = rw is (inr (rw answered (record { number = i; packet = p; at = at; is = refl }, le))) }))

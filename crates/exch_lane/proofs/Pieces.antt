@@ -9,9 +9,9 @@ use Rattle.std.proofs.lemmas.Option.{slice_get_within}
 use Rattle.std.proofs.Math.Nat.{mul-suc}
 use Rattle.mctp_wire.specs.declared.unit.Unit.TheVariants.{U64, U128}
 use Rattle.mctp_wire.specs.Packet.{packet_of}
-use Rattle.mctp_reasm.specs.Pieces.{IsMessage, MessageOf, PacketOf, Route, message_route, piece, pieces, pieces_from, spelled}
-use Rattle.mctp_reasm.specs.Held.{Held, fed, held_after}
-use Rattle.mctp_reasm.specs.Laws.{holding}
+use Rattle.mctp_reasm.specs.Pieces.{IsMessage, MessageOf, PacketOf, Route, message_route, piece, pieces, pieces_from, spelling_of}
+use Rattle.mctp_reasm.specs.Held.{Held, feed_outcome, held_after}
+use Rattle.mctp_reasm.specs.Laws.{held_first_pieces}
 use Rattle.mctp_wire.specs.declared.unit.TheConstants.{MAX_PACKETS}
 use Rattle.mctp_reasm.specs.declared.outcomes.Fed.{Fed}
 use Rattle.mctp_reasm.specs.declared.outcomes.Fed.TheVariants.{Dropped, Open, Whole}
@@ -52,7 +52,7 @@ sized_from u (suc fuel) r n bytes i p some le h = elim (cases_lt (bytes_of u) (l
 
 -- each piece of a message reads back
 pub piece_reads : (l : Laws) (u : «Unit») (m : MessageOf) (i : ℕ) (p : PacketOf) → IsMessage u m → m.tag < 8 → slice_get (pieces u m) i ≡ Some p
-    → packet_of u (spelled p) ≡ Ok (p.head, p.body)
+    → packet_of u (spelling_of p) ≡ Ok (p.head, p.body)
 piece_reads l u m i p lawful low h =
     let all = l.pieces u m lawful in
     let here = all.each i p h in
@@ -61,7 +61,7 @@ piece_reads l u m i p lawful low h =
     let within = slice_get_within (pieces u m) i p h in
     let sized = sized_from u MAX_PACKETS (message_route m) 0 m.bytes i p lawful.0 (omega (arith, lawful.1)) h in
     let tag : p.head.tag ≡ m.tag = ap (λ r. r.tag) here.route in
-    l.packets_read u (spelled p) p.head p.body (l.packets_written u p.head p.body (omega arith, omega (arith, low, tag)) sized.0 sized.1)
+    l.packets_read u (spelling_of p) p.head p.body (l.packets_written u p.head p.body (omega arith, omega (arith, low, tag)) sized.0 sized.1)
 
 -- what may come of a piece of a message: the whole message, a longer beginning of it, or nothing
 abbrev pub Comes : «Unit» → MessageOf → Fed → Option Held → Type 0
@@ -70,7 +70,7 @@ Comes u m Open held = IsSomeAnd held (λ h. IsPart u m h.packets × (h.age ≡ 0
 Comes u m (Dropped cause) held = held ≡ None
 
 comes_next : (l : Laws) (u : «Unit») (m : MessageOf) (k i age : ℕ) (p : PacketOf) → IsMessage u m → k < length (pieces u m) → slice_get (pieces u m) i ≡ Some p
-    → (i ≡ 0) ⊎ (i ≡ k) → Comes u m (fed u (holding u m k age) p) (held_after u (holding u m k age) p)
+    → (i ≡ 0) ⊎ (i ≡ k) → Comes u m (feed_outcome u (held_first_pieces u m k age) p) (held_after u (held_first_pieces u m k age) p)
 comes_next l u m k i age p lawful lt h next =
     let f = l.feeds_next u m k i age p lawful lt h next in
     let within = slice_get_within (pieces u m) i p h in
@@ -80,11 +80,11 @@ comes_next l u m k i age p lawful lt h next =
     ]
 
 comes_other : (l : Laws) (u : «Unit») (m : MessageOf) (k i age : ℕ) (p : PacketOf) → IsMessage u m → k < length (pieces u m) → slice_get (pieces u m) i ≡ Some p
-    → (i ≡ 0 → ⊥) → (i ≡ k → ⊥) → Comes u m (fed u (holding u m k age) p) (held_after u (holding u m k age) p)
+    → (i ≡ 0 → ⊥) → (i ≡ k → ⊥) → Comes u m (feed_outcome u (held_first_pieces u m k age) p) (held_after u (held_first_pieces u m k age) p)
 comes_other l u m k i age p lawful lt h first next = let f = l.feeds_other u m k i age p lawful lt h first next in rw (f.0, f.1) refl
 
 comes_at : (l : Laws) (u : «Unit») (m : MessageOf) (k i age : ℕ) (p : PacketOf) → IsMessage u m → k < length (pieces u m) → slice_get (pieces u m) i ≡ Some p
-    → Comes u m (fed u (holding u m k age) p) (held_after u (holding u m k age) p)
+    → Comes u m (feed_outcome u (held_first_pieces u m k age) p) (held_after u (held_first_pieces u m k age) p)
 comes_at l u m k i age p lawful lt h = elim (eqb_tells i 0) [
   | inl first ↦ comes_next l u m k i age p lawful lt h (inl first.1)
   | inr later ↦ elim (eqb_tells i k) [
@@ -94,9 +94,9 @@ comes_at l u m k i age p lawful lt h = elim (eqb_tells i 0) [
 ]
 
 pub piece_comes : (l : Laws) (u : «Unit») (m : MessageOf) (i : ℕ) (p : PacketOf) (o : Option Held) → IsMessage u m → slice_get (pieces u m) i ≡ Some p
-    → IfSome o (λ h. IsPart u m h.packets) → Comes u m (fed u o p) (held_after u o p)
+    → IfSome o (λ h. IsPart u m h.packets) → Comes u m (feed_outcome u o p) (held_after u o p)
 piece_comes l u m i p None lawful h part = comes_at l u m 0 i 0 p lawful (let some = (l.pieces u m lawful).some in omega arith) h
 piece_comes l u m i p (Some held) lawful h part =
     let some = part.some in
-    let is : Some held ≡ holding u m part.count held.age = rw (ne_eqb part.count 0 (λ e. absurd (omega (arith, e)))) (ap (λ ps. Some (record { packets = ps; age = held.age })) part.is) in
-    subst (λ o. Comes u m (fed u o p) (held_after u o p)) (sym is) (comes_at l u m part.count i held.age p lawful part.proper h)
+    let is : Some held ≡ held_first_pieces u m part.count held.age = rw (ne_eqb part.count 0 (λ e. absurd (omega (arith, e)))) (ap (λ ps. Some (record { packets = ps; age = held.age })) part.is) in
+    subst (λ o. Comes u m (feed_outcome u o p) (held_after u o p)) (sym is) (comes_at l u m part.count i held.age p lawful part.proper h)

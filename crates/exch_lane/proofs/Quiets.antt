@@ -3,9 +3,9 @@ use Rattle.std.proofs.Common.{◌≡◌, ◌∙◌, ◌-◌, ◌≤◌, ◌<◌,
 use Rattle.std.proofs.lemmas.Bool.{eq-eqb, eqb-true}
 use Rattle.std.proofs.lemmas.List.{length-map}
 use Rattle.mctp_reasm.specs.Held.{held_tick}
-use Rattle.pldm_exch.specs.Caller.{CallerState, IsCaller, Open, is_quiet, last_tag, older, rest_at}
-use Rattle.pldm_exch.specs.Rests.{fallen}
-use Rattle.exch_lane.specs.Clocks.{Clock, MayBeat, beat}
+use Rattle.pldm_exch.specs.Caller.{CallerState, IsCaller, Open, is_quiet, last_tag, open_after_tick, rest_at}
+use Rattle.pldm_exch.specs.Rests.{rests_after_tick}
+use Rattle.exch_lane.specs.Clocks.{Clock, MayBeat, clock_after_unit}
 use Rattle.exch_lane.specs.Lanes.{LaneOf, asker_clock}
 use Rattle.pldm_exch.specs.Ends.{AskerOf}
 use Rattle.exch_lane.proofs.Elapsed.{elapsed_counted, elapsed_missed}
@@ -18,12 +18,12 @@ use Rattle.exch_lane.proofs.Waits.{IsWaiting}
 
 -- the open request as time goes on
 pub open_misses : (c : Clock) (x : Ends) (o : Open) (exchange : Option Exchange) → MayBeat false c → IsSomeAnd exchange (IsOpenOf c x o)
-    → IsSomeAnd exchange (IsOpenOf (beat false c) x o)
+    → IsSomeAnd exchange (IsOpenOf (clock_after_unit false c) x o)
 open_misses c x o None may h = h
 open_misses c x o (Some e) may h = record { identifier = h.identifier; kind = h.kind; command = h.command; message = h.message; soon = elapsed_missed c e.first o.age may h.soon }
 
 pub open_counts : (c : Clock) (x : Ends) (o : Open) (exchange : Option Exchange) → MayBeat true c → IsSomeAnd exchange (IsOpenOf c x o)
-    → IsSomeAnd exchange (IsOpenOf (beat true c) x (older o))
+    → IsSomeAnd exchange (IsOpenOf (clock_after_unit true c) x (open_after_tick o))
 open_counts c x o None may h = h
 open_counts c x o (Some e) may h = record { identifier = h.identifier; kind = h.kind; command = h.command; message = h.message; soon = elapsed_counted c e.first o.age may h.soon }
 
@@ -62,12 +62,12 @@ pub heard_ticked : (w : LaneOf) (c : CallerState) → IsCaller c → c.own ≡ w
     → IsTicked w true (heard_tick w c)
 heard_ticked w c caller own peer long = record { own = own; peer = peer; replies = length-map w.asker.replies held_tick ∙ long; caller = caller; deaf = λ z. absurd (omega (arith, z)) }
 
-pub heard_view : (w : LaneOf) (c : CallerState) → w.asker.deaf ≤ 1 → c.rests ≡ fallen w.asker.caller.rests → (t : ℕ) → rest_at c t ≡ rest_at w.asker.caller t - 1
+pub heard_view : (w : LaneOf) (c : CallerState) → w.asker.deaf ≤ 1 → c.rests ≡ rests_after_tick w.asker.caller.rests → (t : ℕ) → rest_at c t ≡ rest_at w.asker.caller t - 1
 heard_view w c less fell t = ap (λ rests. get_or rests t 0) fell ∙ rest_falls w.asker.caller.rests t
 
 -- without an open request
 abbrev pub rested_caller : CallerState → CallerState
-rested_caller c = record c { rests = fallen c.rests }
+rested_caller c = record c { rests = rests_after_tick c.rests }
 
 pub zero_falls : (c : CallerState) (t : ℕ) → rest_at c t ≡ 0 → rest_at (rested_caller c) t ≡ 0
 zero_falls c t z = let falls = rest_falls c.rests t in omega (arith, z, falls)

@@ -3,12 +3,12 @@ use Rattle.std.proofs.Common.{◌≡◌, ◌∙◌, ◌+◌, ◌-◌, ◌≤◌,
 use Rattle.std.specs.List.{AllByRecursion}
 use Rattle.std.proofs.lemmas.Bool.{eq-eqb, le-leb}
 use Rattle.std.proofs.lemmas.Bool.Decides.{eqb_tells}
-use Rattle.pldm_exch.specs.Caller.{CallerState, IsCaller, Open, older, rest_at, sends_at}
-use Rattle.pldm_exch.specs.Rests.{fallen}
-use Rattle.exch_lane.specs.Clocks.{MayBeat, beat}
+use Rattle.pldm_exch.specs.Caller.{CallerState, IsCaller, Open, open_after_tick, rest_at, sends_at}
+use Rattle.pldm_exch.specs.Rests.{rests_after_tick}
+use Rattle.exch_lane.specs.Clocks.{MayBeat, clock_after_unit}
 use Rattle.exch_lane.specs.Lanes.{LaneOf, asker_clock, taker_clock}
 use Rattle.pldm_exch.specs.Sides.{AskerTick}
-use Rattle.exch_lane.specs.Steps.{sendings}
+use Rattle.exch_lane.specs.Steps.{packets_of_message}
 use Rattle.exch_lane.proofs.Below.{Laws}
 use Rattle.exch_lane.proofs.Elapsed.{elapsed_counted}
 use Rattle.exch_lane.proofs.Facts.{some_maps}
@@ -25,7 +25,7 @@ use Rattle.exch_lane.proofs.Waits.{TicksRow}
 
 -- its caller afterwards
 abbrev pub sent_caller : CallerState → Open → CallerState
-sent_caller c o = record c { rests = slice_set (fallen c.rests) o.tag 40; asked = Some (older o) }
+sent_caller c o = record c { rests = slice_set (rests_after_tick c.rests) o.tag 40; asked = Some (open_after_tick o) }
 
 -- the age at which it is sent again
 due_age : (o : Open) → sends_at (o.age + 1) ≡ true → o.age + 1 ≤ 12
@@ -49,7 +49,7 @@ pub record IsDue (w : LaneOf) (g : Ghost) (o : Open) (e : Exchange) : Type 0 whe
 
 -- the lane and what explains it then
 abbrev pub sent_lane : LaneOf → Bool → Open → LaneOf
-sent_lane w taker o = ticked_lane w true taker (heard_tick w (sent_caller w.asker.caller o)) (w.packets ++ sendings w.unit (w.now + 1) o.message)
+sent_lane w taker o = ticked_lane w true taker (heard_tick w (sent_caller w.asker.caller o)) (w.packets ++ packets_of_message w.unit (w.now + 1) o.message)
 
 abbrev pub sent_ghost : LaneOf → Ghost → Open → Exchange → Ghost
 sent_ghost w g o e = record { exchanges = put o.tag (resent (w.now + 1) e) g.exchanges; current = g.current }
@@ -70,7 +70,7 @@ sent_here : (w : LaneOf) (g : Ghost) (taker : Bool) (o : Open) (e : Exchange) �
 sent_here w g taker o e may allowed d h =
     let anew : rest_at (sent_caller w.asker.caller o) o.tag ≡ 40 = rest_anew w.asker.caller.rests o.tag h.caller.rests d.low in
     let same : view_of (sent_lane w taker o) g.current o.tag ≡ record (view_ticked (view_of w g.current o.tag) true taker) { asker = rested (asker_at true (asker_view w.asker o.tag)) }
-    = made_same (w.now + 1) (beat true (asker_clock w)).since_miss (beat taker (taker_clock w)).since_miss (ends_of w o.tag) (asker_view (heard_tick w (sent_caller w.asker.caller o)) o.tag)
+    = made_same (w.now + 1) (clock_after_unit true (asker_clock w)).since_miss (clock_after_unit taker (taker_clock w)).since_miss (ends_of w o.tag) (asker_view (heard_tick w (sent_caller w.asker.caller o)) o.tag)
     (rested (asker_at true (asker_view w.asker o.tag))) (taker_view (sent_lane w taker o).taker o.tag) (taker_at taker (taker_view w.taker o.tag)) (is_at g.current o.tag) (asker_send_view w.asker o.tag (sent_caller w.asker.caller o) (omega (arith, d.hears)) anew)
     (taker_tick_view taker w.taker o.tag) in
     rw (eq-eqb o.tag o.tag refl) (subst (λ v. IsExchange v (resent (w.now + 1) e)) (sym same) (sent_view w g taker o e may allowed d h))
@@ -83,20 +83,20 @@ sent_tags w g taker o e may allowed d h t lt = elim (eqb_tells t o.tag) [
   | inr other ↦
       let falls : rest_at (sent_caller w.asker.caller o) t ≡ rest_at w.asker.caller t - 1 = rest_of_others w.asker.caller.rests o.tag t other.1 in
       rw other.0
-      (tag_ticks w g true taker (heard_tick w (sent_caller w.asker.caller o)) (w.packets ++ sendings w.unit (w.now + 1) o.message) t may allowed h lt
+      (tag_ticks w g true taker (heard_tick w (sent_caller w.asker.caller o)) (w.packets ++ packets_of_message w.unit (w.now + 1) o.message) t may allowed h lt
       (asker_hear_view w.asker t (sent_caller w.asker.caller o) (omega (arith, d.hears)) falls))
 ]
 
 -- all packets
 sent_packets : (w : LaneOf) (g : Ghost) (o : Open) (e : Exchange) → IsDue w g o e → LaneBody w g → e.last ≤ w.now
-    → AllByRecursion (IsLiving w.unit (w.now + 1) w.asker_eid w.taker_eid (put o.tag (resent (w.now + 1) e) g.exchanges)) (w.packets ++ sendings w.unit (w.now + 1) o.message)
+    → AllByRecursion (IsLiving w.unit (w.now + 1) w.asker_eid w.taker_eid (put o.tag (resent (w.now + 1) e) g.exchanges)) (w.packets ++ packets_of_message w.unit (w.now + 1) o.message)
 sent_packets w g o e d h past =
     let old = packets_grow w.unit (w.now + 1) w.asker_eid w.taker_eid g.exchanges o.tag e (w.now + 1) e.reply w.packets d.is (omega arith) (λ r is. is) (packets_later w.unit w.now w.asker_eid w.taker_eid g.exchanges w.packets h.packets) in
-    subst (λ m. AllByRecursion (IsLiving w.unit (w.now + 1) w.asker_eid w.taker_eid (put o.tag (resent (w.now + 1) e) g.exchanges)) (w.packets ++ sendings w.unit (w.now + 1) m)) (sym d.of.message)
+    subst (λ m. AllByRecursion (IsLiving w.unit (w.now + 1) w.asker_eid w.taker_eid (put o.tag (resent (w.now + 1) e) g.exchanges)) (w.packets ++ packets_of_message w.unit (w.now + 1) m)) (sym d.of.message)
     (request_sent w.unit (w.now + 1) w.asker_eid w.taker_eid (put o.tag (resent (w.now + 1) e) g.exchanges) o.tag (resent (w.now + 1) e) w.packets d.low (put_here o.tag (resent (w.now + 1) e) g.exchanges) (omega arith) old)
 
 sent_asked : (w : LaneOf) (g : Ghost) (o : Open) (e : Exchange) → MayBeat true (asker_clock w) → IsDue w g o e
-    → IsAskedThen w true (heard_tick w (sent_caller w.asker.caller o)) (sent_ghost w g o e) (older o)
+    → IsAskedThen w true (heard_tick w (sent_caller w.asker.caller o)) (sent_ghost w g o e) (open_after_tick o)
 sent_asked w g o e may d = record {
   hears = refl;
   current = d.current;
@@ -130,7 +130,7 @@ resends l w g taker o e may allowed d h =
     record {
       ghost = sent_ghost w g o e;
       good = record {
-        body = ticks_body w g true taker (heard_tick w (sent_caller w.asker.caller o)) (put o.tag (resent (w.now + 1) e) g.exchanges) (w.packets ++ sendings w.unit (w.now + 1) o.message) may allowed h.body
+        body = ticks_body w g true taker (heard_tick w (sent_caller w.asker.caller o)) (put o.tag (resent (w.now + 1) e) g.exchanges) (w.packets ++ packets_of_message w.unit (w.now + 1) o.message) may allowed h.body
             (heard_ticked w (sent_caller w.asker.caller o) lawful h.body.own h.body.peer h.body.replies)
             (sent_tags w g taker o e may allowed d h.body)
             (sent_packets w g o e d h.body (past_of w g o e d h.body))

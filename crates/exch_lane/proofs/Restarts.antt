@@ -5,7 +5,7 @@ use Rattle.pldm_exch.specs.Caller.{CallerState, IsOpen, Open, last_tag, rest_at}
 use Rattle.pldm_exch.specs.Laws.{CallerStep}
 use Rattle.exch_lane.specs.Cells.{Cell, CellRun, cell_close, cell_closes_if, close_in, drop_in, is_empty_cell}
 use Rattle.exch_lane.specs.Lanes.{LaneOf}
-use Rattle.exch_lane.specs.Steps.{abandons, restarts}
+use Rattle.exch_lane.specs.Steps.{lane_after_abandon, lane_after_restart}
 use Rattle.exch_lane.specs.declared.step.End.TheVariants as ends
 use Rattle.exch_lane.specs.declared.step.LaneFault.TheVariants as faults
 use Rattle.exch_lane.proofs.Below.{Laws}
@@ -44,7 +44,7 @@ there_at g tag is h = let k = rw is at h in k.there
 
 -- the open request is given up
 abandons_open : (l : Laws) (w : LaneOf) (g : Ghost) (o : Open) → w.asker.caller.asked ≡ Some o → IsAskedOf w g o → IsOpen w.asker.caller o
-    → LaneGood w g → GoesOn (abandons w) (cell_close (run_of w g))
+    → LaneGood w g → GoesOn (lane_after_abandon w) (cell_close (run_of w g))
 abandons_open l w g o is k open_is h = record {
   ghost = g;
   good = record {
@@ -72,16 +72,16 @@ abandons_open l w g o is k open_is h = record {
 
 abandons_from : (l : Laws) (w : LaneOf) (g : Ghost) (o : Option Open) → w.asker.caller.asked ≡ o
     → (if is_some o then None else Some faults.NotNow) ≡ None → IfSome o (IsAskedOf w g) → IfSome o (IsOpen w.asker.caller) → LaneGood w g
-    → GoesOn (abandons w) (cell_close (run_of w g))
+    → GoesOn (lane_after_abandon w) (cell_close (run_of w g))
 abandons_from l w g None is may k open_is h = absurd (cc)
 abandons_from l w g (Some o) is may k open_is h = abandons_open l w g o is k open_is h
 
 pub goes_abandon : (l : Laws) (w : LaneOf) (g : Ghost) → (if is_some w.asker.caller.asked then None else Some faults.NotNow) ≡ None → LaneGood w g
-    → GoesOn (abandons w) (cell_close (run_of w g))
+    → GoesOn (lane_after_abandon w) (cell_close (run_of w g))
 goes_abandon l w g may h = abandons_from l w g w.asker.caller.asked refl may h.body.asked h.body.caller.asked h
 
 -- the asker restarts
-asker_restarted : (l : Laws) (w : LaneOf) (g : Ghost) → LaneGood w g → LaneGood (restarts w ends.Asker) g
+asker_restarted : (l : Laws) (w : LaneOf) (g : Ghost) → LaneGood w g → LaneGood (lane_after_restart w ends.Asker) g
 asker_restarted l w g h = record {
   body = record {
     differ = h.body.differ;
@@ -104,15 +104,15 @@ asker_restarted l w g h = record {
 }
 
 closes_if : (w : LaneOf) (g : Ghost) (o : Option Open) → w.asker.caller.asked ≡ o → IfSome o (IsAskedOf w g) → LaneGood w g
-    → cell_closes_if (is_some w.asker.caller.asked) (run_of w g) ≡ Some (run_of (restarts w ends.Asker) g)
+    → cell_closes_if (is_some w.asker.caller.asked) (run_of w g) ≡ Some (run_of (lane_after_restart w ends.Asker) g)
 closes_if w g None is k h = rw is refl
 closes_if w g (Some o) is k h = rw (is, k.current) (cell_closes (record { cell = cell_from true (g.exchanges o.tag); entries = w.entries }) (g.exchanges o.tag) (there_at g o.tag k.current h.body.current))
 
-pub goes_restart_asker : (l : Laws) (w : LaneOf) (g : Ghost) → LaneGood w g → GoesOn (restarts w ends.Asker) (cell_closes_if (is_some w.asker.caller.asked) (run_of w g))
+pub goes_restart_asker : (l : Laws) (w : LaneOf) (g : Ghost) → LaneGood w g → GoesOn (lane_after_restart w ends.Asker) (cell_closes_if (is_some w.asker.caller.asked) (run_of w g))
 goes_restart_asker l w g h = record { ghost = g; good = asker_restarted l w g h; runs = closes_if w g w.asker.caller.asked refl h.body.asked h }
 
 -- the taker restarts
-pub goes_restart_taker : (w : LaneOf) (g : Ghost) → LaneGood w g → GoesOn (restarts w ends.Taker) (Some (run_of w g))
+pub goes_restart_taker : (w : LaneOf) (g : Ghost) → LaneGood w g → GoesOn (lane_after_restart w ends.Taker) (Some (run_of w g))
 goes_restart_taker w g h = record {
   ghost = g;
   good = record {

@@ -5,11 +5,11 @@ use Rattle.mctp_wire.specs.declared.unit.Unit.{«Unit»}
 use Rattle.pldm_base.specs.Limits.{reply_limit}
 use Rattle.exch_lane.specs.declared.step.LaneFault.{LaneFault}
 use Rattle.std.specs.Option.{option_map}
-use Rattle.pldm_exch.specs.Caller.{Open, asking}
+use Rattle.pldm_exch.specs.Caller.{Open, request_of_open}
 use Rattle.exch_lane.specs.Cells.{cell_along, cells_along}
 use Rattle.exch_lane.specs.Clocks.{Clock, MayBeat, may_beat}
-use Rattle.exch_lane.specs.Lanes.{LaneOf, StepOf, asker_clock, lane_new, taker_clock}
-use Rattle.exch_lane.specs.Laws.{IsCellOf, LaneIsACell, awaited}
+use Rattle.exch_lane.specs.Lanes.{LaneOf, LaneStepOf, asker_clock, lane_new, taker_clock}
+use Rattle.exch_lane.specs.Laws.{IsCellOf, LaneIsACell, awaited_request}
 use Rattle.exch_lane.specs.Steps.{MayRun, MayTake, lane_after, lane_run, may_step}
 use Rattle.exch_lane.specs.declared.step.End.TheVariants as ends
 use Rattle.exch_lane.specs.declared.step.LaneFault.TheVariants as faults
@@ -52,7 +52,7 @@ new_good l u asker taker differ = record {
 }
 
 -- a tick that may be taken is one that both ends' clocks allow
-ticks_beat : (w : LaneOf) (asker taker : Bool) → may_step w (StepOf.Tick asker taker) ≡ None → MayBeat asker (asker_clock w) × MayBeat taker (taker_clock w)
+ticks_beat : (w : LaneOf) (asker taker : Bool) → may_step w (LaneStepOf.Tick asker taker) ≡ None → MayBeat asker (asker_clock w) × MayBeat taker (taker_clock w)
 ticks_beat w asker taker may =
     let ends = may_beat asker w.asker_since_miss && may_beat taker w.taker_since_miss in
     let all = both (nat_lt w.now (2 ^ 32 - 1)) ends (may_of (nat_lt w.now (2 ^ 32 - 1) && ends) faults.NotNow may) in
@@ -63,35 +63,35 @@ short_enough : (limit size : ℕ) (o : Option LaneFault) → size ≤ limit → 
 short_enough limit size o le h = rw (le-ltb limit size le) at h
 
 -- each step goes on
-step_goes : (l : Laws) (w : LaneOf) (g : Ghost) (s : StepOf) → MayTake w s → LaneGood w g → GoesOn (lane_after w s) (cell_along w s (run_of w g))
-step_goes l w g (StepOf.Begin command body) may h = goes_begin l w g command body may.lawful (short_enough (reply_limit w.unit) (length body) _ may.lawful may.may) h
-step_goes l w g StepOf.Abandon may h = goes_abandon l w g may.may h
-step_goes l w g (StepOf.Deliver number end reply) may h = goes_deliver l w g number end reply (short_enough (reply_limit w.unit) (length reply) _ may.lawful may.may) may.lawful h
-step_goes l w g (StepOf.Tick asker taker) may h =
+step_goes : (l : Laws) (w : LaneOf) (g : Ghost) (s : LaneStepOf) → MayTake w s → LaneGood w g → GoesOn (lane_after w s) (cell_along w s (run_of w g))
+step_goes l w g (LaneStepOf.Begin command body) may h = goes_begin l w g command body may.lawful (short_enough (reply_limit w.unit) (length body) _ may.lawful may.may) h
+step_goes l w g LaneStepOf.Abandon may h = goes_abandon l w g may.may h
+step_goes l w g (LaneStepOf.Deliver number end reply) may h = goes_deliver l w g number end reply (short_enough (reply_limit w.unit) (length reply) _ may.lawful may.may) may.lawful h
+step_goes l w g (LaneStepOf.Tick asker taker) may h =
     let beats = ticks_beat w asker taker may.may in
     goes_tick l w g asker taker beats.0 beats.1 h
-step_goes l w g (StepOf.Restart ends.Asker) may h = goes_restart_asker l w g h
-step_goes l w g (StepOf.Restart ends.Taker) may h = goes_restart_taker w g h
+step_goes l w g (LaneStepOf.Restart ends.Asker) may h = goes_restart_asker l w g h
+step_goes l w g (LaneStepOf.Restart ends.Taker) may h = goes_restart_taker w g h
 
 -- what the cell waits for is the open request
-waits_with : (e : Exchange) (r : Option (List ℕ)) → awaited (cell_with e true r) ≡ Some (e.command, e.body)
+waits_with : (e : Exchange) (r : Option (List ℕ)) → awaited_request (cell_with e true r) ≡ Some (e.command, e.body)
 waits_with e None = refl
 waits_with e (Some r) = refl
 
-closed_waits : (e : Exchange) (r : Option (List ℕ)) → awaited (cell_with e false r) ≡ None
+closed_waits : (e : Exchange) (r : Option (List ℕ)) → awaited_request (cell_with e false r) ≡ None
 closed_waits e None = refl
 closed_waits e (Some r) = refl
 
-none_waits : (e : Option Exchange) → awaited (cell_from false e) ≡ None
+none_waits : (e : Option Exchange) → awaited_request (cell_from false e) ≡ None
 none_waits None = refl
 none_waits (Some e) = closed_waits e e.reply
 
-some_waits : (c : Clock) (x : Ends) (o : Open) (e : Option Exchange) → IsSomeAnd e (IsOpenOf c x o) → awaited (cell_from true e) ≡ Some (asking o)
+some_waits : (c : Clock) (x : Ends) (o : Open) (e : Option Exchange) → IsSomeAnd e (IsOpenOf c x o) → awaited_request (cell_from true e) ≡ Some (request_of_open o)
 some_waits c x o None is = absurd is
 some_waits c x o (Some e) is = waits_with e e.reply ∙ rw (is.command, is.message) refl
 
 waits_of : (w : LaneOf) (g : Ghost) (o : Option Open) → IfSome o (IsAskedOf w g)
-    → awaited (cell_from (is_some o) (exchange_at g.exchanges g.current)) ≡ option_map asking o
+    → awaited_request (cell_from (is_some o) (exchange_at g.exchanges g.current)) ≡ option_map request_of_open o
 waits_of w g None is = none_waits (exchange_at g.exchanges g.current)
 waits_of w g (Some o) is = rw is.current (some_waits (asker_clock w) (ends_of w o.tag) o (g.exchanges o.tag) is.of)
 
@@ -105,7 +105,7 @@ cell_of_good l w g h = record {
 }
 
 -- every list of steps goes on
-run_goes : (l : Laws) (w : LaneOf) (g : Ghost) (ss : List StepOf) → MayRun w ss → LaneGood w g
+run_goes : (l : Laws) (w : LaneOf) (g : Ghost) (ss : List LaneStepOf) → MayRun w ss → LaneGood w g
     → IsSomeAnd (cells_along w ss (Some (run_of w g))) (IsCellOf (lane_run w ss))
 run_goes l w g [] may h = cell_of_good l w g h
 run_goes l w g (s ∷ ss) may h =

@@ -1,13 +1,13 @@
 -- How one tag goes through ticks, repeats, a beginning and restarts.
 use Rattle.std.proofs.Common.{◌≡◌, ◌∙◌, ◌≤◌, ℕ, Bool, true, false, Option, Some, None, IfSome, inl, inr, refl, sym, arith}
-use Rattle.exch_lane.specs.Clocks.{Clock, MayBeat, beat, elapsed}
+use Rattle.exch_lane.specs.Clocks.{Clock, MayBeat, clock_after_unit, HasElapsedAtMost}
 use Rattle.exch_lane.proofs.AskerTicks.{asker_at_none, asker_begins, asker_beats, asker_resends, asker_restarts, nothing_held}
 use Rattle.exch_lane.proofs.Elapsed.{within_repeats}
 use Rattle.exch_lane.proofs.TakerTicks.{nothing_kept, taker_at_none, taker_begins, taker_beats, taker_resends, taker_restarts}
 use Rattle.exch_lane.proofs.Views.{Exchange, IsEmptyTag, IsExchange, IsSettled, IsSpan, IsWording, TagOf, TagView, asker_time, resent, rested, taker_time, view_ticked}
 
 -- time goes on by a unit, and each end counts the tick or misses it
-span_beats : (counts : Bool) (c : Clock) (e : Exchange) → IsSpan c.now e → IsSpan (beat counts c).now e
+span_beats : (counts : Bool) (c : Clock) (e : Exchange) → IsSpan c.now e → IsSpan (clock_after_unit counts c).now e
 span_beats counts c e h = let past = h.past in record { order = h.order; span = h.span; past = omega arith }
 
 pub view_ticks : (o : Option Exchange) (v : TagView) (asker taker : Bool) → MayBeat asker (asker_time v) → MayBeat taker (taker_time v) → TagOf v o
@@ -24,13 +24,13 @@ view_ticks (Some e) v asker taker may allowed h = record {
 }
 
 -- the open request is sent again
-pub span_resends : (c : Clock) (e : Exchange) (age : ℕ) → elapsed c e.first age → age ≤ 12 → IsSpan c.now e → IsSpan c.now (resent c.now e)
+pub span_resends : (c : Clock) (e : Exchange) (age : ℕ) → HasElapsedAtMost c e.first age → age ≤ 12 → IsSpan c.now e → IsSpan c.now (resent c.now e)
 span_resends c e age soon le h =
     let order = h.order in
     let past = h.past in
     record { order = omega arith; span = within_repeats c e.first age soon le; past = omega arith }
 
-pub view_resends : (v : TagView) (e : Exchange) (age : ℕ) → v.asker.deaf ≡ 0 → v.is_current ≡ true → elapsed (asker_time v) e.first age → age ≤ 12
+pub view_resends : (v : TagView) (e : Exchange) (age : ℕ) → v.asker.deaf ≡ 0 → v.is_current ≡ true → HasElapsedAtMost (asker_time v) e.first age → age ≤ 12
     → IsExchange v e → IsExchange (record v { asker = rested v.asker }) (resent v.now e)
 view_resends v e age hears current soon le h =
     let past = h.span.past in

@@ -3,7 +3,7 @@ use Rattle.std.proofs.Common.{◌≡◌, ◌<◌, ℕ, List, Option, Some, IfSom
 use Rattle.std.specs.List.{AllByRecursion}
 use Rattle.std.proofs.lemmas.Bool.Decides.{eqb_tells}
 use Rattle.mctp_reasm.specs.Held.{Held}
-use Rattle.exch_lane.specs.Lanes.{EntryOf, LaneOf, Sent, taker_clock}
+use Rattle.exch_lane.specs.Lanes.{LaneEntryOf, LaneOf, Sent, taker_clock}
 use Rattle.pldm_exch.specs.Ends.{TakerOf}
 use Rattle.exch_lane.proofs.Deliveries.{view_taker_holds}
 use Rattle.exch_lane.proofs.Ghosts.{Ghost, GoesOn, IsAskedOf, IsCurrent, IsLiving, LaneGood, ends_of, run_of, view_of}
@@ -15,10 +15,10 @@ pub goes_nowhere : (w : LaneOf) (g : Ghost) → LaneGood w g → GoesOn w (Some 
 goes_nowhere w g h = record { ghost = g; good = h; runs = refl }
 
 -- only the taker, the packets and the history change
-abbrev pub taker_turned : LaneOf → TakerOf → List Sent → List EntryOf → LaneOf
+abbrev pub taker_turned : LaneOf → TakerOf → List Sent → List LaneEntryOf → LaneOf
 taker_turned w taker packets entries = record w { taker = taker; packets = packets; entries = entries }
 
-pub taker_turns : (w : LaneOf) (g : Ghost) (exchanges : ℕ → Option Exchange) (taker : TakerOf) (packets : List Sent) (entries : List EntryOf) → LaneGood w g
+pub taker_turns : (w : LaneOf) (g : Ghost) (exchanges : ℕ → Option Exchange) (taker : TakerOf) (packets : List Sent) (entries : List LaneEntryOf) → LaneGood w g
     → length taker.kept ≡ 8 → length taker.requests ≡ 8
     → ((t : ℕ) → t < 8 → TagOf (view_of (taker_turned w taker packets entries) g.current t) (exchanges t))
     → AllByRecursion (IsLiving w.unit w.now w.asker_eid w.taker_eid exchanges) packets

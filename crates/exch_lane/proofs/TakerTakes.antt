@@ -5,11 +5,11 @@ use Rattle.std.specs.List.{AllByRecursion}
 use Rattle.std.proofs.lemmas.Bool.{eq-eqb}
 use Rattle.std.proofs.lemmas.Bool.Decides.{eqb_tells}
 use Rattle.std.proofs.lemmas.Cmp.{nat_list_eq_equiv}
-use Rattle.pldm_exch.specs.Kept.{Kept, kept_at}
+use Rattle.pldm_exch.specs.Kept.{KeptAnswer, kept_at}
 use Rattle.exch_lane.specs.Cells.{cell_take}
-use Rattle.exch_lane.specs.Lanes.{EntryOf, LaneOf, asker_clock, taker_clock}
+use Rattle.exch_lane.specs.Lanes.{LaneEntryOf, LaneOf, asker_clock, taker_clock}
 use Rattle.pldm_exch.specs.Ends.{TakerOf}
-use Rattle.exch_lane.specs.Steps.{sendings}
+use Rattle.exch_lane.specs.Steps.{packets_of_message}
 use Rattle.exch_lane.proofs.Deliveries.{new_is_unanswered, unanswered_is_current, view_takes}
 use Rattle.exch_lane.proofs.Facts.{some_maps}
 use Rattle.exch_lane.proofs.Ghosts.{Ghost, GoesOn, IsAskedOf, IsCurrent, IsLiving, LaneGood, ends_of, put, run_of, view_of}
@@ -31,17 +31,17 @@ pub came_of : (w : LaneOf) (g : Ghost) (tag : ℕ) (e : Exchange) → tag < 8 �
 came_of w g tag e low is h = rw is at (h.body.tags tag low)
 
 -- its kept answer is sent again
-again_from : (w : LaneOf) (g : Ghost) (tag : ℕ) (e : Exchange) (k : Kept) (o : Option (List ℕ)) → e.reply ≡ o
+again_from : (w : LaneOf) (g : Ghost) (tag : ℕ) (e : Exchange) (k : KeptAnswer) (o : Option (List ℕ)) → e.reply ≡ o
     → IsSomeAnd o (λ r. k.reply ≡ reply_of (ends_of w tag) e r) → RequestCame w g tag e → LaneGood w g
-    → AllByRecursion (IsLiving w.unit w.now w.asker_eid w.taker_eid g.exchanges) (w.packets ++ sendings w.unit w.now k.reply)
+    → AllByRecursion (IsLiving w.unit w.now w.asker_eid w.taker_eid g.exchanges) (w.packets ++ packets_of_message w.unit w.now k.reply)
 again_from w g tag e k None is reply c h = absurd reply
 again_from w g tag e k (Some r) is reply c h =
-    subst (λ m. AllByRecursion (IsLiving w.unit w.now w.asker_eid w.taker_eid g.exchanges) (w.packets ++ sendings w.unit w.now m)) (sym reply)
+    subst (λ m. AllByRecursion (IsLiving w.unit w.now w.asker_eid w.taker_eid g.exchanges) (w.packets ++ packets_of_message w.unit w.now m)) (sym reply)
     (reply_sent w.unit w.now w.asker_eid w.taker_eid g.exchanges tag e r w.packets c.low c.is is c.soon h.body.packets)
 
-pub taker_repeats : (w : LaneOf) (g : Ghost) (tag : ℕ) (e : Exchange) (k : Kept) → IsKept (taker_clock w) (ends_of w tag) e k → RequestCame w g tag e → LaneGood w g
-    → GoesOn (taker_turned w (record w.taker { requests = slice_set w.taker.requests tag None }) (w.packets ++ sendings w.unit w.now k.reply) w.entries) (Some (run_of w g))
-taker_repeats w g tag e k kept c h = taker_holds w g tag e None (w.packets ++ sendings w.unit w.now k.reply) c.low c.is c.hears tt (again_from w g tag e k e.reply refl kept.reply c h) h
+pub taker_repeats : (w : LaneOf) (g : Ghost) (tag : ℕ) (e : Exchange) (k : KeptAnswer) → IsKept (taker_clock w) (ends_of w tag) e k → RequestCame w g tag e → LaneGood w g
+    → GoesOn (taker_turned w (record w.taker { requests = slice_set w.taker.requests tag None }) (w.packets ++ packets_of_message w.unit w.now k.reply) w.entries) (Some (run_of w g))
+taker_repeats w g tag e k kept c h = taker_holds w g tag e None (w.packets ++ packets_of_message w.unit w.now k.reply) c.low c.is c.hears tt (again_from w g tag e k e.reply refl kept.reply c h) h
 
 -- the taker after it took a new request
 abbrev pub taker_after : LaneOf → ℕ → Exchange → List ℕ → TakerOf
@@ -53,7 +53,7 @@ taker_after w tag e reply =
 
 abbrev pub taken_lane : LaneOf → ℕ → Exchange → List ℕ → LaneOf
 taken_lane w tag e reply =
-    taker_turned w (taker_after w tag e reply) (w.packets ++ sendings w.unit w.now (reply_of (ends_of w tag) e reply)) (w.entries ++ EntryOf.Taken e.command e.body reply ∷ [])
+    taker_turned w (taker_after w tag e reply) (w.packets ++ packets_of_message w.unit w.now (reply_of (ends_of w tag) e reply)) (w.entries ++ LaneEntryOf.Taken e.command e.body reply ∷ [])
 
 takes_tags : (w : LaneOf) (g : Ghost) (tag : ℕ) (e : Exchange) (reply : List ℕ) → length reply ≤ reply_limit w.unit → e.reply ≡ None → RequestCame w g tag e → LaneGood w g
     → (t : ℕ) → t < 8 → TagOf (view_of (taken_lane w tag e reply) g.current t) (put tag (answered_with reply e) g.exchanges t)
@@ -70,7 +70,7 @@ takes_good : (w : LaneOf) (g : Ghost) (tag : ℕ) (e : Exchange) (reply : List �
     → LaneGood (taken_lane w tag e reply) (record { exchanges = put tag (answered_with reply e) g.exchanges; current = g.current })
 takes_good w g tag e reply few none c h =
     let living = packets_grow w.unit w.now w.asker_eid w.taker_eid g.exchanges tag e e.last (Some reply) w.packets c.is (omega arith) (λ r is. absurd (let clash : None ≡ Some r = sym none ∙ is in cc)) h.body.packets in
-    taker_turns w g (put tag (answered_with reply e) g.exchanges) (taker_after w tag e reply) (w.packets ++ sendings w.unit w.now (reply_of (ends_of w tag) e reply)) (w.entries ++ EntryOf.Taken e.command e.body reply ∷ []) h
+    taker_turns w g (put tag (answered_with reply e) g.exchanges) (taker_after w tag e reply) (w.packets ++ packets_of_message w.unit w.now (reply_of (ends_of w tag) e reply)) (w.entries ++ LaneEntryOf.Taken e.command e.body reply ∷ []) h
     (set_length w.taker.kept tag (Some (record { identifier = e.identifier; reply = reply_of (ends_of w tag) e reply; age = 0 })) h.body.kept)
     (set_length w.taker.requests tag None h.body.requests)
     (takes_tags w g tag e reply few none c h)

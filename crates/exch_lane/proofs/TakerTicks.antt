@@ -2,16 +2,16 @@
 use Rattle.std.proofs.Common.{◌≡◌, ◌∙◌, ◌+◌, ◌-◌, ◌≤◌, ◌<◌, Bool, true, false, Option, Some, None, IfSome, is_some, inl, inr, refl, sym, arith}
 use Rattle.std.proofs.lemmas.Bool.{cases_lt, lt-leb, le-leb, lt-ltb, le-ltb}
 use Rattle.mctp_reasm.specs.Held.{held_tick}
-use Rattle.pldm_exch.specs.Kept.{Kept, kept_tick}
-use Rattle.exch_lane.specs.Clocks.{Clock, MayBeat, beat}
+use Rattle.pldm_exch.specs.Kept.{KeptAnswer, kept_tick}
+use Rattle.exch_lane.specs.Clocks.{Clock, MayBeat, clock_after_unit}
 use Rattle.exch_lane.proofs.AskerTicks.{held_ages}
 use Rattle.exch_lane.proofs.Elapsed.{elapsed_counted, elapsed_later, elapsed_missed, within_assembly, within_keeping}
 use Rattle.exch_lane.proofs.Facts.{none_of, some_maps}
 use Rattle.exch_lane.proofs.Views.{Ends, Exchange, IsKept, IsRequests, IsSpan, IsTaker, TakerView, resent, taker_at, taker_view_tick}
 
 -- a kept answer ages only below its limit
-kept_ages : (o : Option Kept) (P Q : Kept → Type 0) → IfSome o P
-    → ((k : Kept) → P k → k.age < 24 → Q (record { identifier = k.identifier; reply = k.reply; age = k.age + 1 })) → IfSome (kept_tick o) Q
+kept_ages : (o : Option KeptAnswer) (P Q : KeptAnswer → Type 0) → IfSome o P
+    → ((k : KeptAnswer) → P k → k.age < 24 → Q (record { identifier = k.identifier; reply = k.reply; age = k.age + 1 })) → IfSome (kept_tick o) Q
 kept_ages None P Q h next = tt
 kept_ages (Some kept) P Q h next = elim (cases_lt kept.age 24) [
   | inl more ↦ rw (lt-ltb kept.age 24 more) (next kept h more)
@@ -19,12 +19,12 @@ kept_ages (Some kept) P Q h next = elim (cases_lt kept.age 24) [
 ]
 
 -- an answer that must still be kept is young enough to stay
-kept_stays : (c : Clock) (x : Ends) (e : Exchange) (o : Option Kept) → IfSome o (IsKept c x e) → is_some o ≡ true → c.now < e.first + 24 → is_some (kept_tick o) ≡ true
+kept_stays : (c : Clock) (x : Ends) (e : Exchange) (o : Option KeptAnswer) → IfSome o (IsKept c x e) → is_some o ≡ true → c.now < e.first + 24 → is_some (kept_tick o) ≡ true
 kept_stays c x e None h some lt = absurd (cc)
 kept_stays c x e (Some k) h some lt = let old = h.old in rw (lt-ltb k.age 24 (omega arith)) refl
 
 -- a tick that the taker counts, or misses
-taker_waits : (c : Clock) (x : Ends) (e : Exchange) (w : TakerView) → 1 < w.deaf → IsTaker c x e w → IsTaker (beat true c) x e (record w { deaf = w.deaf - 1 })
+taker_waits : (c : Clock) (x : Ends) (e : Exchange) (w : TakerView) → 1 < w.deaf → IsTaker c x e w → IsTaker (clock_after_unit true c) x e (record w { deaf = w.deaf - 1 })
 taker_waits c x e w lt h =
     let d = h.deaf (omega arith) in
     record {
@@ -35,11 +35,11 @@ taker_waits c x e w lt h =
     }
 
 taker_ages : (c : Clock) (x : Ends) (e : Exchange) (w : TakerView) → MayBeat true c → w.deaf ≤ 1 → IsTaker c x e w
-    → IsTaker (beat true c) x e (record { deaf = 0; kept = kept_tick w.kept; requests = held_tick w.requests })
+    → IsTaker (clock_after_unit true c) x e (record { deaf = 0; kept = kept_tick w.kept; requests = held_tick w.requests })
 taker_ages c x e w may le h = record {
-  requests = held_ages w.requests (IsRequests c x e) (IsRequests (beat true c) x e) h.requests (λ o r. r.age)
+  requests = held_ages w.requests (IsRequests c x e) (IsRequests (clock_after_unit true c) x e) h.requests (λ o r. r.age)
       (λ o r lt. record { part = r.part; age = omega arith; soon = elapsed_counted c (e.last + 8) o.age may r.soon });
-  kept = kept_ages w.kept (IsKept c x e) (IsKept (beat true c) x e) h.kept
+  kept = kept_ages w.kept (IsKept c x e) (IsKept (clock_after_unit true c) x e) h.kept
       (λ k r lt. record { identifier = r.identifier; reply = r.reply; age = omega arith; old = let old = r.old in omega arith; soon = elapsed_counted c (e.last + 8) k.age may r.soon });
   still = λ _ some soon. elim (cases_lt 0 w.deaf) [
     | inl was ↦ let d = h.deaf was in let far = d.2 some in absurd (omega arith)
@@ -48,23 +48,23 @@ taker_ages c x e w may le h = record {
   deaf = λ z. absurd (omega (arith, z));
 }
 
-taker_counts : (c : Clock) (x : Ends) (e : Exchange) (w : TakerView) → MayBeat true c → IsTaker c x e w → IsTaker (beat true c) x e (taker_view_tick w)
+taker_counts : (c : Clock) (x : Ends) (e : Exchange) (w : TakerView) → MayBeat true c → IsTaker c x e w → IsTaker (clock_after_unit true c) x e (taker_view_tick w)
 taker_counts c x e w may h = elim (cases_lt 1 w.deaf) [
   | inl more ↦ rw (lt-leb w.deaf 1 more) (taker_waits c x e w more h)
   | inr less ↦ rw (le-leb w.deaf 1 less) (taker_ages c x e w may less h)
 ]
 
-taker_misses : (c : Clock) (x : Ends) (e : Exchange) (w : TakerView) → MayBeat false c → IsTaker c x e w → IsTaker (beat false c) x e w
+taker_misses : (c : Clock) (x : Ends) (e : Exchange) (w : TakerView) → MayBeat false c → IsTaker c x e w → IsTaker (clock_after_unit false c) x e w
 taker_misses c x e w may h = record {
-  requests = some_maps w.requests (IsRequests c x e) (IsRequests (beat false c) x e) h.requests (λ o r. record { part = r.part; age = r.age; soon = elapsed_missed c (e.last + 8) o.age may r.soon });
-  kept = some_maps w.kept (IsKept c x e) (IsKept (beat false c) x e) h.kept
+  requests = some_maps w.requests (IsRequests c x e) (IsRequests (clock_after_unit false c) x e) h.requests (λ o r. record { part = r.part; age = r.age; soon = elapsed_missed c (e.last + 8) o.age may r.soon });
+  kept = some_maps w.kept (IsKept c x e) (IsKept (clock_after_unit false c) x e) h.kept
       (λ k r. record { identifier = r.identifier; reply = r.reply; age = r.age; old = let old = r.old in omega arith; soon = elapsed_missed c (e.last + 8) k.age may r.soon });
   still = λ z some soon. h.still z some (omega arith);
   deaf = λ z. let d = h.deaf z in (d.0, d.1, λ r. let far = d.2 r in omega arith);
 }
 
 pub taker_beats : (counts : Bool) (c : Clock) (x : Ends) (e : Exchange) (w : TakerView) → MayBeat counts c → IsTaker c x e w
-    → IsTaker (beat counts c) x e (taker_at counts w)
+    → IsTaker (clock_after_unit counts c) x e (taker_at counts w)
 taker_beats true c x e w may h = taker_counts c x e w may h
 taker_beats false c x e w may h = taker_misses c x e w may h
 

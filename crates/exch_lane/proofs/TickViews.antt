@@ -5,7 +5,7 @@ use Rattle.std.proofs.lemmas.List.{get_or-set_other, get_or-set_same, length-map
 use Rattle.mctp_reasm.specs.Held.{held_tick}
 use Rattle.pldm_exch.specs.Caller.{CallerState, rest_at}
 use Rattle.pldm_exch.specs.Kept.{kept_tick}
-use Rattle.pldm_exch.specs.Rests.{AreRests, fallen}
+use Rattle.pldm_exch.specs.Rests.{AreRests, rests_after_tick}
 use Rattle.pldm_exch.specs.Ends.{AskerOf, TakerOf}
 use Rattle.pldm_exch.specs.Sides.{taker_tick}
 use Rattle.exch_lane.proofs.Ghosts.{asker_view, taker_view}
@@ -29,16 +29,16 @@ taker_tick_requests false a h = h
 taker_tick_requests true a h = elim (cases_lt 1 a.deaf) [ inl more ↦ rw (lt-leb a.deaf 1 more) h | inr less ↦ rw (le-leb a.deaf 1 less) (length-map a.requests held_tick ∙ h) ]
 
 -- rests
-pub rest_falls : (rests : List ℕ) (t : ℕ) → get_or (fallen rests) t 0 ≡ get_or rests t 0 - 1
+pub rest_falls : (rests : List ℕ) (t : ℕ) → get_or (rests_after_tick rests) t 0 ≡ get_or rests t 0 - 1
 rest_falls [] t = refl
 rest_falls (r ∷ rs) zero = refl
 rest_falls (r ∷ rs) (suc t) = rest_falls rs t
 
-pub rest_anew : (rests : List ℕ) (t : ℕ) → AreRests rests → t < 8 → get_or (slice_set (fallen rests) t 40) t 0 ≡ 40
-rest_anew rests t h lt = let long = length-map rests (λ rest. rest - 1) in get_or-set_same (fallen rests) t 40 0 (omega (arith, h.0, lt, long))
+pub rest_anew : (rests : List ℕ) (t : ℕ) → AreRests rests → t < 8 → get_or (slice_set (rests_after_tick rests) t 40) t 0 ≡ 40
+rest_anew rests t h lt = let long = length-map rests (λ rest. rest - 1) in get_or-set_same (rests_after_tick rests) t 40 0 (omega (arith, h.0, lt, long))
 
-pub rest_of_others : (rests : List ℕ) (tag t : ℕ) → t ≢ tag → get_or (slice_set (fallen rests) tag 40) t 0 ≡ get_or rests t 0 - 1
-rest_of_others rests tag t other = get_or-set_other (fallen rests) tag t 40 0 other ∙ rest_falls rests t
+pub rest_of_others : (rests : List ℕ) (tag t : ℕ) → t ≢ tag → get_or (slice_set (rests_after_tick rests) tag 40) t 0 ≡ get_or rests t 0 - 1
+rest_of_others rests tag t other = get_or-set_other (rests_after_tick rests) tag t 40 0 other ∙ rest_falls rests t
 
 -- the asker: it waits, or it hears and one tag may rest anew
 pub asker_wait_view : (a : AskerOf) (t : ℕ) → 1 < a.deaf → asker_view (record a { deaf = a.deaf - 1 }) t ≡ asker_at true (asker_view a t)

@@ -1,8 +1,8 @@
 -- What a tick makes of a lane, whatever its asker does.
 use Rattle.std.proofs.Common.{◌≡◌, ◌+◌, ◌<◌, ℕ, Bool, List, Option, IfSome, length, refl, sym, subst}
 use Rattle.std.specs.List.{AllByRecursion}
-use Rattle.pldm_exch.specs.Caller.{IsCaller, Open, fresh}
-use Rattle.exch_lane.specs.Clocks.{MayBeat, beat}
+use Rattle.pldm_exch.specs.Caller.{IsCaller, Open, new_caller}
+use Rattle.exch_lane.specs.Clocks.{MayBeat, clock_after_unit}
 use Rattle.exch_lane.specs.Lanes.{LaneOf, Sent, asker_clock, taker_clock}
 use Rattle.pldm_exch.specs.Ends.{AskerOf}
 use Rattle.exch_lane.specs.Steps.{tick_begins}
@@ -22,11 +22,11 @@ pub record IsTicked (w : LaneOf) (asker : Bool) (a : AskerOf) : Type 0 where
   pub peer : a.caller.peer ≡ w.taker_eid
   pub replies : length a.replies ≡ 8
   pub caller : IsCaller a.caller
-  pub deaf : 0 < a.deaf → a.caller ≡ fresh w.asker_eid w.taker_eid
+  pub deaf : 0 < a.deaf → a.caller ≡ new_caller w.asker_eid w.taker_eid
 
 -- the open request after a tick
 abbrev pub IsAskedThen : LaneOf → Bool → AskerOf → Ghost → Open → Type 0
-IsAskedThen w asker a g o = IsOpenRequest w.unit (beat asker (asker_clock w)) w.asker_eid w.taker_eid a.deaf g o
+IsAskedThen w asker a g o = IsOpenRequest w.unit (clock_after_unit asker (asker_clock w)) w.asker_eid w.taker_eid a.deaf g o
 
 pub ticks_body : (w : LaneOf) (g : Ghost) (asker taker : Bool) (a : AskerOf) (exchanges : ℕ → Option Exchange) (packets : List Sent)
     → MayBeat asker (asker_clock w) → MayBeat taker (taker_clock w) → LaneBody w g → IsTicked w asker a
@@ -66,6 +66,6 @@ pub tag_ticks : (w : LaneOf) (g : Ghost) (asker taker : Bool) (a : AskerOf) (pac
     → asker_view a t ≡ asker_at asker (asker_view w.asker t) → TagOf (view_of (ticked_lane w asker taker a packets) g.current t) (g.exchanges t)
 tag_ticks w g asker taker a packets t may allowed h lt view =
     let same : view_of (ticked_lane w asker taker a packets) g.current t ≡ view_ticked (view_of w g.current t) asker taker
-    = made_same (w.now + 1) (beat asker (asker_clock w)).since_miss (beat taker (taker_clock w)).since_miss (ends_of w t) (asker_view a t) (asker_at asker (asker_view w.asker t))
+    = made_same (w.now + 1) (clock_after_unit asker (asker_clock w)).since_miss (clock_after_unit taker (taker_clock w)).since_miss (ends_of w t) (asker_view a t) (asker_at asker (asker_view w.asker t))
     (taker_view (ticked_lane w asker taker a packets).taker t) (taker_at taker (taker_view w.taker t)) (is_at g.current t) view (taker_tick_view taker w.taker t) in
     subst (λ v. TagOf v (g.exchanges t)) (sym same) (view_ticks (g.exchanges t) (view_of w g.current t) asker taker may allowed (h.tags t lt))

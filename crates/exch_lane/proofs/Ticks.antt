@@ -1,12 +1,12 @@
 -- A tick of a lane.
 use Rattle.std.proofs.Common.{◌≡◌, ◌+◌, ◌-◌, ◌%◌, ◌≤◌, ◌==◌, Bool, true, false, Option, Some, None, IfSome, IsSomeAnd, is_some, inl, inr, refl, sym, ap}
 use Rattle.std.proofs.lemmas.Bool.{cases_lt, le-leb, lt-leb}
-use Rattle.pldm_exch.specs.Caller.{IsOpen, Open, sends_at, ticked}
+use Rattle.pldm_exch.specs.Caller.{IsOpen, Open, sends_at, caller_tick_for}
 use Rattle.exch_lane.specs.Cells.{cell_ticks}
 use Rattle.exch_lane.specs.Clocks.{MayBeat}
 use Rattle.exch_lane.specs.Lanes.{LaneOf, asker_clock, taker_clock}
 use Rattle.pldm_exch.specs.Sides.{asker_called, asker_tick}
-use Rattle.exch_lane.specs.Steps.{asker_tick_in, lane_ticks}
+use Rattle.exch_lane.specs.Steps.{asker_tick_in, lane_after_tick}
 use Rattle.exch_lane.proofs.Begins.{tag_low}
 use Rattle.exch_lane.proofs.Below.{Laws}
 use Rattle.exch_lane.proofs.Facts.{bool_cases}
@@ -19,7 +19,7 @@ use Rattle.exch_lane.proofs.Waits.{TicksRow, goes_wait}
 
 -- what the tick of its caller is for the hearing asker
 abbrev pub CallsRow : LaneOf → Ghost → Bool → Option Open → Type 0
-CallsRow w g taker o = TicksRow w g true taker (asker_called (heard_tick w (ticked w.asker.caller o).0) (ticked w.asker.caller o).1)
+CallsRow w g taker o = TicksRow w g true taker (asker_called (heard_tick w (caller_tick_for w.asker.caller o).0) (caller_tick_for w.asker.caller o).1)
 
 due_from : (l : Laws) (w : LaneOf) (g : Ghost) (taker : Bool) (o : Open) (exchange : Option Exchange) → g.exchanges o.tag ≡ exchange
     → IsSomeAnd exchange (IsOpenOf (asker_clock w) (ends_of w o.tag) o) → MayBeat true (asker_clock w) → MayBeat taker (taker_clock w)
@@ -54,5 +54,5 @@ ticks_row l w g true taker may allowed h = elim (cases_lt 1 w.asker.deaf) [
 ]
 
 pub goes_tick : (l : Laws) (w : LaneOf) (g : Ghost) (asker taker : Bool) → MayBeat asker (asker_clock w) → MayBeat taker (taker_clock w)
-    → LaneGood w g → GoesOn (lane_ticks w asker taker) (cell_ticks (asker_tick_in w asker taker) (run_of w g))
+    → LaneGood w g → GoesOn (lane_after_tick w asker taker) (cell_ticks (asker_tick_in w asker taker) (run_of w g))
 goes_tick l w g asker taker may allowed h = ticks_row l w g asker taker may allowed h

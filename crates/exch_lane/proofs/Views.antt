@@ -5,8 +5,8 @@ use Rattle.pldm_base.specs.Limits.{reply_limit}
 use Rattle.mctp_reasm.specs.Pieces.{MessageOf, PacketOf, pieces}
 use Rattle.mctp_reasm.specs.Held.{Held, held_tick}
 use Rattle.pldm_base.specs.Header.{pldm_bytes}
-use Rattle.pldm_exch.specs.Kept.{Kept, kept_tick}
-use Rattle.exch_lane.specs.Clocks.{Clock, beat, elapsed}
+use Rattle.pldm_exch.specs.Kept.{KeptAnswer, kept_tick}
+use Rattle.exch_lane.specs.Clocks.{Clock, clock_after_unit, HasElapsedAtMost}
 
 -- who asks whom, under which tag
 pub record Ends : Type 0 where
@@ -61,7 +61,7 @@ pub record AskerView : Type 0 where
 -- one tag as its taker has it
 pub record TakerView : Type 0 where
   pub deaf : ℕ
-  pub kept : Option Kept
+  pub kept : Option KeptAnswer
   pub requests : Option Held
 
 -- a tick that an end counts: a deaf one only counts down
@@ -109,8 +109,8 @@ abbrev pub view_ticked : TagView → Bool → Bool → TagView
 view_ticked v asker taker =
     record v {
       now = v.now + 1;
-      asker_miss = (beat asker (asker_time v)).since_miss;
-      taker_miss = (beat taker (taker_time v)).since_miss;
+      asker_miss = (clock_after_unit asker (asker_time v)).since_miss;
+      taker_miss = (clock_after_unit taker (taker_time v)).since_miss;
       asker = asker_at asker v.asker;
       taker = taker_at taker v.taker;
     }
@@ -126,21 +126,21 @@ pub record IsPart (u : «Unit») (m : MessageOf) (ps : List PacketOf) : Type 0 w
 pub record IsRequests (c : Clock) (x : Ends) (e : Exchange) (h : Held) : Type 0 where
   pub part : IsPart x.unit (request_of x e) h.packets
   pub age : h.age ≤ 8
-  pub soon : elapsed c (e.last + 8) h.age
+  pub soon : HasElapsedAtMost c (e.last + 8) h.age
 
 -- what is held of the reply
 pub record IsReplies (c : Clock) (x : Ends) (e : Exchange) (h : Held) : Type 0 where
   pub part : IsSomeAnd e.reply (λ r. IsPart x.unit (reply_of x e r) h.packets)
   pub age : h.age ≤ 8
-  pub soon : elapsed c (e.last + 16) h.age
+  pub soon : HasElapsedAtMost c (e.last + 16) h.age
 
 -- a kept answer is that of the exchange
-pub record IsKept (c : Clock) (x : Ends) (e : Exchange) (k : Kept) : Type 0 where
+pub record IsKept (c : Clock) (x : Ends) (e : Exchange) (k : KeptAnswer) : Type 0 where
   pub identifier : k.identifier ≡ e.identifier
   pub reply : IsSomeAnd e.reply (λ r. k.reply ≡ reply_of x e r)
   pub age : k.age ≤ 24
   pub old : e.first + k.age ≤ c.now
-  pub soon : elapsed c (e.last + 8) k.age
+  pub soon : HasElapsedAtMost c (e.last + 8) k.age
 
 -- when the request was sent
 pub record IsSpan (now : ℕ) (e : Exchange) : Type 0 where

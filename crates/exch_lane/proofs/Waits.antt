@@ -3,9 +3,9 @@ use Rattle.std.proofs.Common.{◌≡◌, ◌∙◌, ◌<◌, ◌==◌, ◌||◌,
 use Rattle.std.proofs.lemmas.Bool.{eqb-true}
 use Rattle.std.proofs.lemmas.Bool.Decides.{eqb_tells}
 use Rattle.pldm_exch.specs.Caller.{CallerState, is_quiet, last_tag, rest_at}
-use Rattle.exch_lane.specs.Cells.{Cell, CellRun, cell_rests, cell_ticks, drop_in, hears_quiet, is_empty_cell}
+use Rattle.exch_lane.specs.Cells.{Cell, CellRun, cell_rests, cell_ticks, drop_in, is_asker_quiet, is_empty_cell}
 use Rattle.exch_lane.specs.Clocks.{MayBeat}
-use Rattle.exch_lane.specs.Lanes.{EntryOf, LaneOf, asker_clock, taker_clock}
+use Rattle.exch_lane.specs.Lanes.{LaneEntryOf, LaneOf, asker_clock, taker_clock}
 use Rattle.pldm_exch.specs.Ends.{AskerOf}
 use Rattle.pldm_exch.specs.Sides.{AskerTick}
 use Rattle.exch_lane.specs.Steps.{asker_ticks, tick_begins}
@@ -38,11 +38,11 @@ waiting_body w g asker taker a may allowed h k =
     (packets_later w.unit w.now w.asker_eid w.taker_eid g.exchanges w.packets h.packets) k.asked h.current
 
 -- where it hears and isn't quiet
-busy_quiet : (a : AskerOf) → a.deaf ≡ 0 → hears_quiet a ≡ false → is_quiet a.caller ≡ false
+busy_quiet : (a : AskerOf) → a.deaf ≡ 0 → is_asker_quiet a ≡ false → is_quiet a.caller ≡ false
 busy_quiet a z busy = rw z at busy
 
 busy_good : (w : LaneOf) (g : Ghost) (asker taker : Bool) (a : AskerOf) → LaneBody (ticked_lane w asker taker a w.packets) g → IsWaiting w g asker a
-    → hears_quiet a ≡ false → LaneGood (ticked_lane w asker taker a w.packets) g
+    → is_asker_quiet a ≡ false → LaneGood (ticked_lane w asker taker a w.packets) g
 busy_good w g asker taker a body k busy = record {
   body = body;
   last = λ z. k.last z (busy_quiet a z busy);
@@ -82,24 +82,24 @@ quiet_body w g hears none rest h = record {
 }
 
 -- the cell of a quiet asker is emptied
-abbrev the_run : Cell → List EntryOf → CellRun
+abbrev the_run : Cell → List LaneEntryOf → CellRun
 the_run cell entries = record { cell = cell; entries = entries }
 
 quiet_none : (c : CallerState) → is_quiet c ≡ true → is_none c.asked ≡ true
 quiet_none c quiet = (both (is_none c.asked) (c.answered || (rest_at c (last_tag c) == 0)) quiet).0
 
-rests_runs : (o : Option Exchange) (entries : List EntryOf)
+rests_runs : (o : Option Exchange) (entries : List LaneEntryOf)
     → (if is_empty_cell (cell_from false o) then Some (record { cell = cell_from false o; entries = entries }) else drop_in (record { cell = cell_from false o; entries = entries }) (cell_from false o))
     ≡ Some (the_run Cell.Empty entries)
 rests_runs None entries = refl
 rests_runs (Some e) entries = cell_drops (record { cell = cell_from false (Some e); entries = entries }) e
 
-quiet_runs : (w : LaneOf) (g : Ghost) (a : AskerOf) → hears_quiet a ≡ true → is_some w.asker.caller.asked ≡ false
+quiet_runs : (w : LaneOf) (g : Ghost) (a : AskerOf) → is_asker_quiet a ≡ true → is_some w.asker.caller.asked ≡ false
     → cell_rests a (run_of w g) ≡ Some (the_run Cell.Empty w.entries)
 quiet_runs w g a quiet none = rw (quiet, none) (rests_runs (exchange_at g.exchanges g.current) w.entries)
 
 waits_quiet : (w : LaneOf) (g : Ghost) (asker taker : Bool) (a : AskerOf) → MayBeat asker (asker_clock w) → MayBeat taker (taker_clock w)
-    → LaneBody w g → IsWaiting w g asker a → is_some a.caller.asked ≡ is_some w.asker.caller.asked → hears_quiet a ≡ true
+    → LaneBody w g → IsWaiting w g asker a → is_some a.caller.asked ≡ is_some w.asker.caller.asked → is_asker_quiet a ≡ true
     → TicksRow w g asker taker (AskerTick.Waits a)
 waits_quiet w g asker taker a may allowed h k same quiet =
     let tests = both (a.deaf == 0) (is_quiet a.caller) quiet in
@@ -117,7 +117,7 @@ waits_quiet w g asker taker a may allowed h k same quiet =
     }
 
 waits_busy : (w : LaneOf) (g : Ghost) (asker taker : Bool) (a : AskerOf) → MayBeat asker (asker_clock w) → MayBeat taker (taker_clock w)
-    → LaneBody w g → IsWaiting w g asker a → is_some a.caller.asked ≡ is_some w.asker.caller.asked → hears_quiet a ≡ false
+    → LaneBody w g → IsWaiting w g asker a → is_some a.caller.asked ≡ is_some w.asker.caller.asked → is_asker_quiet a ≡ false
     → TicksRow w g asker taker (AskerTick.Waits a)
 waits_busy w g asker taker a may allowed h k same busy = record {
   ghost = g;
@@ -128,7 +128,7 @@ waits_busy w g asker taker a may allowed h k same busy = record {
 pub goes_wait : (w : LaneOf) (g : Ghost) (asker taker : Bool) (a : AskerOf) → MayBeat asker (asker_clock w) → MayBeat taker (taker_clock w)
     → LaneBody w g → IsWaiting w g asker a → is_some a.caller.asked ≡ is_some w.asker.caller.asked
     → TicksRow w g asker taker (AskerTick.Waits a)
-goes_wait w g asker taker a may allowed h k same = elim (bool_cases (hears_quiet a)) [
+goes_wait w g asker taker a may allowed h k same = elim (bool_cases (is_asker_quiet a)) [
   | inl quiet ↦ waits_quiet w g asker taker a may allowed h k same quiet
   | inr busy ↦ waits_busy w g asker taker a may allowed h k same busy
 ]

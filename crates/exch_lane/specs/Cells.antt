@@ -4,7 +4,7 @@ use Rattle.std.specs.Prelude.{ℕ, ◌==◌, ◌&&◌, Bool, true, false, if◌t
 use Rattle.std.specs.Cmp.Lexicographic.{pointwise}
 use Rattle.std.specs.Option.{option_and_then}
 use Rattle.pldm_exch.specs.Caller.{is_quiet}
-use Rattle.exch_lane.specs.Lanes.{EntryOf, LaneOf, Sent, StepOf, numbered}
+use Rattle.exch_lane.specs.Lanes.{LaneEntryOf, LaneOf, Sent, LaneStepOf, item_numbered}
 use Rattle.pldm_exch.specs.Ends.{AskerOf}
 use Rattle.pldm_exch.specs.Sides.{AskerRow, AskerTick, TakerRow}
 use Rattle.exch_lane.specs.Steps.{asker_row_in, asker_tick_in, lane_after, taker_row_in}
@@ -21,7 +21,7 @@ pub data Cell : Type 0 where
 -- a cell and what happened to it
 pub record CellRun : Type 0 where
   pub cell : Cell
-  pub entries : List EntryOf
+  pub entries : List LaneEntryOf
 
 -- a cell to which nothing happened yet
 abbrev pub no_cell_yet : CellRun
@@ -32,16 +32,16 @@ abbrev pub same_bytes : List ℕ → List ℕ → Bool
 same_bytes = pointwise nat_eq
 
 -- the cell becomes this one, and nothing is noted
-abbrev pub turned : CellRun → Cell → Option CellRun
-turned run cell = Some (record run { cell = cell })
+abbrev pub cell_run_with : CellRun → Cell → Option CellRun
+cell_run_with run cell = Some (record run { cell = cell })
 
 -- the cell becomes this one, and the entry is noted
-abbrev pub turned_by : CellRun → Cell → EntryOf → Option CellRun
-turned_by run cell entry = Some (record { cell = cell; entries = run.entries ++ entry ∷ [] })
+abbrev pub cell_run_with_entry : CellRun → Cell → LaneEntryOf → Option CellRun
+cell_run_with_entry run cell entry = Some (record { cell = cell; entries = run.entries ++ entry ∷ [] })
 
 -- A request is asked, where the cell is empty.
 abbrev pub ask_in : CellRun → (command : ℕ) → (body : List ℕ) → Cell → Option CellRun
-ask_in run command body Cell.Empty = turned_by run (Cell.Asked command body true) (EntryOf.Asked command body)
+ask_in run command body Cell.Empty = cell_run_with_entry run (Cell.Asked command body true) (LaneEntryOf.Asked command body)
 ask_in run command body _ = None
 
 abbrev pub cell_ask : (command : ℕ) → (body : List ℕ) → CellRun → Option CellRun
@@ -51,7 +51,7 @@ cell_ask command body run = ask_in run command body run.cell
 abbrev pub take_in : CellRun → (command : ℕ) → (body reply : List ℕ) → Cell → Option CellRun
 take_in run command body reply (Cell.Asked asked data_of live) =
     if (command == asked) && same_bytes body data_of then
-    turned_by run (Cell.Answered asked data_of reply live) (EntryOf.Taken command body reply)
+    cell_run_with_entry run (Cell.Answered asked data_of reply live) (LaneEntryOf.Taken command body reply)
     else None
 take_in run command body reply _ = None
 
@@ -61,7 +61,7 @@ cell_take command body reply run = take_in run command body reply run.cell
 -- A reply is learnt, where the cell is live and holds this very reply.
 abbrev pub learn_in : CellRun → (reply : List ℕ) → Cell → Option CellRun
 learn_in run reply (Cell.Answered command body answer true) =
-    if same_bytes reply answer then turned_by run Cell.Empty (EntryOf.Learnt reply) else None
+    if same_bytes reply answer then cell_run_with_entry run Cell.Empty (LaneEntryOf.Learnt reply) else None
 learn_in run reply _ = None
 
 abbrev pub cell_learn : (reply : List ℕ) → CellRun → Option CellRun
@@ -69,8 +69,8 @@ cell_learn reply run = learn_in run reply run.cell
 
 -- Its asker waits no longer, where the cell is live.
 abbrev pub close_in : CellRun → Cell → Option CellRun
-close_in run (Cell.Asked command body true) = turned run (Cell.Asked command body false)
-close_in run (Cell.Answered command body reply true) = turned run (Cell.Answered command body reply false)
+close_in run (Cell.Asked command body true) = cell_run_with run (Cell.Asked command body false)
+close_in run (Cell.Answered command body reply true) = cell_run_with run (Cell.Answered command body reply false)
 close_in run _ = None
 
 abbrev pub cell_close : CellRun → Option CellRun
@@ -82,16 +82,16 @@ cell_give_up run = cell_close run
 
 -- A closed cell is emptied: nothing of its request can come any more.
 abbrev pub drop_in : CellRun → Cell → Option CellRun
-drop_in run (Cell.Asked command body false) = turned run Cell.Empty
-drop_in run (Cell.Answered command body reply false) = turned run Cell.Empty
+drop_in run (Cell.Asked command body false) = cell_run_with run Cell.Empty
+drop_in run (Cell.Answered command body reply false) = cell_run_with run Cell.Empty
 drop_in run _ = None
 
 abbrev pub cell_drop : CellRun → Option CellRun
 cell_drop run = drop_in run run.cell
 
 -- the node hears, no request is open, and nothing of the last one can come any more
-abbrev pub hears_quiet : AskerOf → Bool
-hears_quiet a = (a.deaf == 0) && is_quiet a.caller
+abbrev pub is_asker_quiet : AskerOf → Bool
+is_asker_quiet a = (a.deaf == 0) && is_quiet a.caller
 
 -- nothing is in the cell
 abbrev pub is_empty_cell : Cell → Bool
@@ -101,7 +101,7 @@ is_empty_cell _ = false
 -- Where a tick leaves a hearing and quiet asker, a cell that isn't empty is dropped.
 abbrev pub cell_rests : AskerOf → CellRun → Option CellRun
 cell_rests a run =
-    if hears_quiet a then (if is_empty_cell run.cell then Some run else cell_drop run) else Some run
+    if is_asker_quiet a then (if is_empty_cell run.cell then Some run else cell_drop run) else Some run
 
 -- what a packet at the taker is for the cell
 abbrev pub cell_at_taker : (reply : List ℕ) → TakerRow → CellRun → Option CellRun
@@ -117,13 +117,13 @@ cell_at_asker (AskerRow.Ignores replies) run = Some run
 cell_at_asker (AskerRow.Learns replies caller heard) run = cell_learn heard.reply run
 
 -- what a packet at an end is for the cell
-abbrev pub cell_hears : LaneOf → End → (reply : List ℕ) → List ℕ → CellRun → Option CellRun
-cell_hears w ends.Asker reply bytes run = cell_at_asker (asker_row_in w bytes) run
-cell_hears w ends.Taker reply bytes run = cell_at_taker reply (taker_row_in w bytes) run
+abbrev pub cell_after_packet : LaneOf → End → (reply : List ℕ) → List ℕ → CellRun → Option CellRun
+cell_after_packet w ends.Asker reply bytes run = cell_at_asker (asker_row_in w bytes) run
+cell_after_packet w ends.Taker reply bytes run = cell_at_taker reply (taker_row_in w bytes) run
 
 abbrev pub cell_delivers : LaneOf → End → (reply : List ℕ) → Option Sent → CellRun → Option CellRun
 cell_delivers w end reply None run = Some run
-cell_delivers w end reply (Some p) run = cell_hears w end reply p.bytes run
+cell_delivers w end reply (Some p) run = cell_after_packet w end reply p.bytes run
 
 -- what a tick of the asker is for the cell: never both a request given up and a cell dropped
 abbrev pub cell_ticks : AskerTick → CellRun → Option CellRun
@@ -137,15 +137,15 @@ cell_closes_if true run = cell_close run
 cell_closes_if false run = Some run
 
 -- What a step of the lane is for its cell, and None where the cell doesn't allow it.
-abbrev pub cell_along : LaneOf → StepOf → CellRun → Option CellRun
-cell_along w (StepOf.Begin command body) run = cell_ask command body run
-cell_along w StepOf.Abandon run = cell_close run
-cell_along w (StepOf.Deliver number end reply) run = cell_delivers w end reply (numbered w.packets number) run
-cell_along w (StepOf.Tick asker taker) run = cell_ticks (asker_tick_in w asker taker) run
-cell_along w (StepOf.Restart ends.Asker) run = cell_closes_if (is_some w.asker.caller.asked) run
-cell_along w (StepOf.Restart ends.Taker) run = Some run
+abbrev pub cell_along : LaneOf → LaneStepOf → CellRun → Option CellRun
+cell_along w (LaneStepOf.Begin command body) run = cell_ask command body run
+cell_along w LaneStepOf.Abandon run = cell_close run
+cell_along w (LaneStepOf.Deliver number end reply) run = cell_delivers w end reply (item_numbered w.packets number) run
+cell_along w (LaneStepOf.Tick asker taker) run = cell_ticks (asker_tick_in w asker taker) run
+cell_along w (LaneStepOf.Restart ends.Asker) run = cell_closes_if (is_some w.asker.caller.asked) run
+cell_along w (LaneStepOf.Restart ends.Taker) run = Some run
 
 -- The cell along a lane's steps.
-abbrev pub cells_along : LaneOf → List StepOf → Option CellRun → Option CellRun
+abbrev pub cells_along : LaneOf → List LaneStepOf → Option CellRun → Option CellRun
 cells_along w [] run = run
 cells_along w (s ∷ ss) run = cells_along (lane_after w s) ss (option_and_then (cell_along w s) run)

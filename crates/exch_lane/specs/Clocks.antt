@@ -16,8 +16,8 @@ abbrev pub may_beat : Bool → ℕ → Bool
 may_beat counts n = counts || (n == 8)
 
 -- a unit passes: the end counts it, or misses it
-abbrev pub beat : Bool → Clock → Clock
-beat counts c = record { now = c.now + 1; since_miss = since_after counts c.since_miss }
+abbrev pub clock_after_unit : Bool → Clock → Clock
+clock_after_unit counts c = record { now = c.now + 1; since_miss = since_after counts c.since_miss }
 
 -- whether the end may do so
 abbrev pub MayBeat : Bool → Clock → Type 0
@@ -32,40 +32,40 @@ abbrev pub late : ℕ → ℕ
 late ticks = ticks + ticks / 8 + 1
 
 -- at most as many units have passed since a date as can, where the end counted so many ticks since then
-unfoldable pub elapsed : Clock → (date count : ℕ) → Type 0
-elapsed c date count = 8 * c.now + c.since_miss ≤ 8 * date + 9 * count + 8
+unfoldable pub HasElapsedAtMost : Clock → (date count : ℕ) → Type 0
+HasElapsedAtMost c date count = 8 * c.now + c.since_miss ≤ 8 * date + 9 * count + 8
 
 -- a tick that is counted or missed leaves a clock
 abbrev pub ClocksStay : Type 0
-ClocksStay = (counts : Bool) (c : Clock) → IsClock c → MayBeat counts c → IsClock (beat counts c)
+ClocksStay = (counts : Bool) (c : Clock) → IsClock c → MayBeat counts c → IsClock (clock_after_unit counts c)
 
 -- none have at that date
 abbrev pub TimeStarts : Type 0
-TimeStarts = (c : Clock) (date : ℕ) → IsClock c → c.now ≤ date → elapsed c date 0
+TimeStarts = (c : Clock) (date : ℕ) → IsClock c → c.now ≤ date → HasElapsedAtMost c date 0
 
 -- each tick that is counted is one more
 abbrev pub TimeIsCounted : Type 0
-TimeIsCounted = (c : Clock) (date count : ℕ) → MayBeat true c → elapsed c date count → elapsed (beat true c) date (count + 1)
+TimeIsCounted = (c : Clock) (date count : ℕ) → MayBeat true c → HasElapsedAtMost c date count → HasElapsedAtMost (clock_after_unit true c) date (count + 1)
 
 -- a tick that is missed is none
 abbrev pub TimeIsMissed : Type 0
-TimeIsMissed = (c : Clock) (date count : ℕ) → MayBeat false c → elapsed c date count → elapsed (beat false c) date count
+TimeIsMissed = (c : Clock) (date count : ℕ) → MayBeat false c → HasElapsedAtMost c date count → HasElapsedAtMost (clock_after_unit false c) date count
 
 -- where so many ticks were counted, so many units have passed at most
 abbrev pub TimeIsLate : Type 0
-TimeIsLate = (c : Clock) (date count : ℕ) → elapsed c date count → c.now ≤ date + late count
+TimeIsLate = (c : Clock) (date count : ℕ) → HasElapsedAtMost c date count → c.now ≤ date + late count
 
 -- where so many ticks were counted at most, so many units have passed at most
 abbrev pub PassesWithin : (ticks units : ℕ) → Type 0
-PassesWithin ticks units = (c : Clock) (date count : ℕ) → elapsed c date count → count ≤ ticks → c.now ≤ date + units
+PassesWithin ticks units = (c : Clock) (date count : ℕ) → HasElapsedAtMost c date count → count ≤ ticks → c.now ≤ date + units
 
 -- THE LAW
 
 -- A node's ticks between two moments, in order: whether it counted each of them. How many it counted.
-abbrev pub counted : List Bool → ℕ
-counted [] = 0
-counted (true ∷ bs) = counted bs + 1
-counted (false ∷ bs) = counted bs
+abbrev pub counted_ticks : List Bool → ℕ
+counted_ticks [] = 0
+counted_ticks (true ∷ bs) = counted_ticks bs + 1
+counted_ticks (false ∷ bs) = counted_ticks bs
 
 -- each of them was allowed, from so many counted since the last miss on
 abbrev pub AreAllowed : List Bool → ℕ → Type 0
@@ -79,4 +79,4 @@ since_all (b ∷ bs) n = since_all bs (since_after b n)
 
 -- While so many units pass a node counts at most as many ticks, and at least so many that the units are at most `late` of them.
 abbrev pub TicksAreLate : Type 0
-TicksAreLate = (bs : List Bool) (n : ℕ) → n ≤ 8 → AreAllowed bs n → (counted bs ≤ length bs) × (length bs ≤ late (counted bs))
+TicksAreLate = (bs : List Bool) (n : ℕ) → n ≤ 8 → AreAllowed bs n → (counted_ticks bs ≤ length bs) × (length bs ≤ late (counted_ticks bs))

@@ -20,14 +20,14 @@ abbrev pub lives_until : Sent → ℕ
 lives_until p = p.date + 8
 
 -- it may still come
-abbrev pub Lives : (now : ℕ) → Sent → Type 0
-Lives now p = now ≤ lives_until p
+abbrev pub IsAlive : (now : ℕ) → Sent → Type 0
+IsAlive now p = now ≤ lives_until p
 
 -- what happened: a request was asked, a request was taken and answered, a reply was learnt
-pub data EntryOf : Type 0 where
-  Asked : (command : ℕ) → (body : List ℕ) → EntryOf
-  Taken : (command : ℕ) → (body reply : List ℕ) → EntryOf
-  Learnt : (reply : List ℕ) → EntryOf
+pub data LaneEntryOf : Type 0 where
+  Asked : (command : ℕ) → (body : List ℕ) → LaneEntryOf
+  Taken : (command : ℕ) → (body reply : List ℕ) → LaneEntryOf
+  Learnt : (reply : List ℕ) → LaneEntryOf
 
 -- The lane: the network's transmission unit, who asks whom, the time, the ticks of each end since it last missed one, both
 -- ends, every packet ever sent, in order, and all that happened.
@@ -41,32 +41,32 @@ pub record LaneOf : Type 0 where
   pub asker : AskerOf
   pub taker : TakerOf
   pub packets : List Sent
-  pub entries : List EntryOf
+  pub entries : List LaneEntryOf
 
 -- what can happen next; a tick says which ends count it
-pub data StepOf : Type 0 where
-  Begin : (command : ℕ) → (body : List ℕ) → StepOf
-  Abandon : StepOf
-  Deliver : (number : ℕ) → (end : End) → (reply : List ℕ) → StepOf
-  Tick : (asker taker : Bool) → StepOf
-  Restart : (end : End) → StepOf
+pub data LaneStepOf : Type 0 where
+  Begin : (command : ℕ) → (body : List ℕ) → LaneStepOf
+  Abandon : LaneStepOf
+  Deliver : (number : ℕ) → (end : End) → (reply : List ℕ) → LaneStepOf
+  Tick : (asker taker : Bool) → LaneStepOf
+  Restart : (end : End) → LaneStepOf
 
 -- a step as the code has it
-abbrev pub step_of : LaneStep → StepOf
-step_of (steps.Begin command body) = StepOf.Begin command body.items
-step_of steps.Abandon = StepOf.Abandon
-step_of (steps.Deliver number end reply) = StepOf.Deliver number end reply.items
-step_of (steps.Tick asker taker) = StepOf.Tick asker taker
-step_of (steps.Restart end) = StepOf.Restart end
+abbrev pub lane_step_of : LaneStep → LaneStepOf
+lane_step_of (steps.Begin command body) = LaneStepOf.Begin command body.items
+lane_step_of steps.Abandon = LaneStepOf.Abandon
+lane_step_of (steps.Deliver number end reply) = LaneStepOf.Deliver number end reply.items
+lane_step_of (steps.Tick asker taker) = LaneStepOf.Tick asker taker
+lane_step_of (steps.Restart end) = LaneStepOf.Restart end
 
-abbrev pub steps_of : List LaneStep → List StepOf
-steps_of steps = map step_of steps
+abbrev pub lane_steps_of : List LaneStep → List LaneStepOf
+lane_steps_of steps = map lane_step_of steps
 
 -- an entry as the code has it
-abbrev pub entry_of : LaneEntry → EntryOf
-entry_of (entries.Asked command body) = EntryOf.Asked command body.items
-entry_of (entries.Taken command body reply) = EntryOf.Taken command body.items reply.items
-entry_of (entries.Learnt reply) = EntryOf.Learnt reply.items
+abbrev pub lane_entry_of : LaneEntry → LaneEntryOf
+lane_entry_of (entries.Asked command body) = LaneEntryOf.Asked command body.items
+lane_entry_of (entries.Taken command body reply) = LaneEntryOf.Taken command body.items reply.items
+lane_entry_of (entries.Learnt reply) = LaneEntryOf.Learnt reply.items
 
 -- a lane in which nothing happened yet
 abbrev pub lane_new : (u : «Unit») (asker taker : ℕ) → LaneOf
@@ -102,8 +102,8 @@ abbrev pub taker_clock : LaneOf → Clock
 taker_clock w = record { now = w.now; since_miss = w.taker_since_miss }
 
 -- what a list that is counted from 1 has at a number
-abbrev pub numbered : {A : Type 0} → List A → ℕ → Option A
-numbered xs number = if nat_lt 0 number then slice_get xs (number - 1) else None
+abbrev pub item_numbered : {A : Type 0} → List A → ℕ → Option A
+item_numbered xs number = if nat_lt 0 number then slice_get xs (number - 1) else None
 
 -- an end is deaf
 abbrev pub is_deaf_in : LaneOf → End → Bool

@@ -6,16 +6,16 @@ use Rattle.mctp_wire.specs.declared.unit.Unit.{«Unit»}
 use Rattle.mctp_wire.specs.declared.fault.WireFault.{WireFault}
 use Rattle.mctp_wire.specs.declared.layout.Head.{Head}
 use Rattle.std.specs.Option.{option_map}
-use Rattle.pldm_exch.specs.Caller.{asking, is_quiet}
-use Rattle.exch_lane.specs.Lanes.{AreEnds, LaneOf, Lives, Sent, StepOf, lane_new}
+use Rattle.pldm_exch.specs.Caller.{request_of_open, is_quiet}
+use Rattle.exch_lane.specs.Lanes.{AreEnds, LaneOf, IsAlive, Sent, LaneStepOf, lane_new}
 use Rattle.exch_lane.specs.Steps.{MayRun, lane_run}
 use Rattle.exch_lane.specs.Cells.{Cell, CellRun, cells_along, no_cell_yet}
 
 -- the request that a cell's asker waits for
-abbrev pub awaited : Cell → Option (ℕ × List ℕ)
-awaited (Cell.Asked command body true) = Some (command, body)
-awaited (Cell.Answered command body reply true) = Some (command, body)
-awaited cell = None
+abbrev pub awaited_request : Cell → Option (ℕ × List ℕ)
+awaited_request (Cell.Asked command body true) = Some (command, body)
+awaited_request (Cell.Answered command body reply true) = Some (command, body)
+awaited_request cell = None
 
 -- the packet goes between these: a request from the one, or a reply from the other
 abbrev pub is_between : (asker taker : ℕ) → Head → Bool
@@ -31,17 +31,17 @@ in_lane u asker taker bytes = read_between asker taker (wire.packet_of u bytes)
 
 -- a packet that can still come is one of the lane
 abbrev pub IsOfLane : LaneOf → Sent → Type 0
-IsOfLane w s = Lives w.now s → in_lane w.unit w.asker_eid w.taker_eid s.bytes ≡ true
+IsOfLane w s = IsAlive w.now s → in_lane w.unit w.asker_eid w.taker_eid s.bytes ≡ true
 
 -- The cell is the lane's: their histories are the same, and where the asker hears and is quiet the cell is empty.
 pub record IsCellOf (w : LaneOf) (run : CellRun) : Type 0 where
   pub entries : run.entries ≡ w.entries
   pub quiet : w.asker.deaf ≡ 0 → is_quiet w.asker.caller ≡ true → run.cell ≡ Cell.Empty
   pub packets : AllByRecursion (IsOfLane w) w.packets
-  pub waits : awaited run.cell ≡ option_map asking w.asker.caller.asked
+  pub waits : awaited_request run.cell ≡ option_map request_of_open w.asker.caller.asked
 
 -- the cell's run along these steps is never stuck, and its cell is the lane's
-abbrev pub StaysACell : (u : «Unit») (asker taker : ℕ) → List StepOf → Type 0
+abbrev pub StaysACell : (u : «Unit») (asker taker : ℕ) → List LaneStepOf → Type 0
 StaysACell u asker taker steps =
     IsSomeAnd (cells_along (lane_new u asker taker) steps (Some no_cell_yet)) (IsCellOf (lane_run (lane_new u asker taker) steps))
 
@@ -49,17 +49,17 @@ StaysACell u asker taker steps =
 -- late and whoever restarts.
 abbrev pub LaneIsACell : Type 0
 LaneIsACell =
-    (u : «Unit») (asker taker : ℕ) (steps : List StepOf) → AreEnds asker taker → MayRun (lane_new u asker taker) steps
+    (u : «Unit») (asker taker : ℕ) (steps : List LaneStepOf) → AreEnds asker taker → MayRun (lane_new u asker taker) steps
     → StaysACell u asker taker steps
 
 -- these steps lead from a new lane to this one
-pub record LeadsTo (u : «Unit») (asker taker : ℕ) (steps : List StepOf) (w : LaneOf) : Type 0 where
+pub record ReachesLane (u : «Unit») (asker taker : ℕ) (steps : List LaneStepOf) (w : LaneOf) : Type 0 where
   pub ends : AreEnds asker taker
   pub may : MayRun (lane_new u asker taker) steps
   pub is : w ≡ lane_run (lane_new u asker taker) steps
 
 -- Wherever steps led a new lane, its cell goes on with it through these further steps.
-abbrev pub KeepsItsCell : LaneOf → List StepOf → LaneOf → Type 0
+abbrev pub KeepsItsCell : LaneOf → List LaneStepOf → LaneOf → Type 0
 KeepsItsCell old steps new =
-    (u : «Unit») (asker taker : ℕ) (before : List StepOf) → LeadsTo u asker taker before old
+    (u : «Unit») (asker taker : ℕ) (before : List LaneStepOf) → ReachesLane u asker taker before old
     → IsSomeAnd (cells_along (lane_new u asker taker) (before ++ steps) (Some no_cell_yet)) (IsCellOf new)

@@ -25,17 +25,17 @@ asker_ticked (AskerTick.Resends a m) = a
 asker_ticked (AskerTick.GivesUp a) = a
 
 -- what a packet makes the node that answers do: nothing, send a kept answer again, or take a request and answer it
-pub data HeardOf : Type 0 where
-  Nothing : HeardOf
-  Again : (answer : MessageOf) → HeardOf
-  New : (command : ℕ) → (body : List ℕ) → (answer : MessageOf) → HeardOf
+pub data TakerAction : Type 0 where
+  Nothing : TakerAction
+  Again : (answer : MessageOf) → TakerAction
+  New : (command : ℕ) → (body : List ℕ) → (answer : MessageOf) → TakerAction
 
 -- that, by the row
-abbrev pub heard_in : (reply : List ℕ) → TakerRow → HeardOf
-heard_in reply (TakerRow.Silent requests) = HeardOf.Nothing
-heard_in reply (TakerRow.Repeats requests answer) = HeardOf.Again answer
-heard_in reply (TakerRow.TakesUp requests m head body) = HeardOf.New head.command body (reply_message m head reply)
-heard_in reply (TakerRow.Strays requests m) = HeardOf.Nothing
+abbrev pub taker_action_in : (reply : List ℕ) → TakerRow → TakerAction
+taker_action_in reply (TakerRow.Silent requests) = TakerAction.Nothing
+taker_action_in reply (TakerRow.Repeats requests answer) = TakerAction.Again answer
+taker_action_in reply (TakerRow.TakesUp requests m head body) = TakerAction.New head.command body (reply_message m head reply)
+taker_action_in reply (TakerRow.Strays requests m) = TakerAction.Nothing
 
 -- the node that answers, after a packet
 abbrev pub taker_after : TakerOf → (reply : List ℕ) → TakerRow → TakerOf

@@ -1,18 +1,18 @@
 //! A lane.
 
 ghost use Rattle.std.specs.Prelude.{[], ◌&&◌, ◌++◌, ◌==◌, ◌∷◌, ◌≡◌, ◌≤◌, IfErr, None, OnErr, OnOk, is_some, length, map};
-ghost use Rattle.pldm_base.specs.Header.{IsHead, pldm_of};
+ghost use Rattle.pldm_base.specs.Header.{IsPldmHead, pldm_of};
 ghost use Rattle.pldm_base.specs.Limits.{reply_limit};
 ghost use Rattle.pldm_exch.specs.Caller.{is_quiet, may_begin, tick_of, tick_word};
 ghost use Rattle.pldm_exch.specs.Ends.{asker_of, taker_of};
 ghost use Rattle.pldm_exch.specs.Kept.{kept_with};
 ghost use Rattle.pldm_exch.specs.Requests.{body_in, reply_message};
-ghost use Rattle.exch_lane.specs.Journals.{HasRoom, sent_of, with_learnt, with_sent, with_taken};
-ghost use Rattle.exch_lane.specs.Lanes.{AreEnds, EntryOf, StepOf, entry_of, is_deaf_in, lane_new, step_of};
-ghost use Rattle.exch_lane.specs.Nodes.{asker_after, asker_ticked, call_tick_of, heard_in, taker_after};
+ghost use Rattle.exch_lane.specs.Journals.{HasJournalRoom, sent_of, with_learnt, with_sent, with_taken};
+ghost use Rattle.exch_lane.specs.Lanes.{AreEnds, LaneEntryOf, LaneStepOf, lane_entry_of, is_deaf_in, lane_new, lane_step_of};
+ghost use Rattle.exch_lane.specs.Nodes.{asker_after, asker_ticked, call_tick_of, taker_action_in, taker_after};
 ghost use Rattle.mctp_wire.specs.Packet.{IsRead, spelling};
-ghost use Rattle.pldm_exch.specs.Sides.{answering_row, asker_counts, asker_row, asking_row, learnt_in, taker_counts, taker_row};
-ghost use Rattle.exch_lane.specs.Steps.{IsCause, MayTake, abandons, begins, lane_after, lane_ticks, may_step, restarts, sendings};
+ghost use Rattle.pldm_exch.specs.Sides.{answering_row, asker_counts, asker_row, asking_row, reply_in_row, taker_counts, taker_row};
+ghost use Rattle.exch_lane.specs.Steps.{IsCause, MayTake, lane_after_abandon, lane_after_begin, lane_after, lane_after_tick, may_step, lane_after_restart, packets_of_message};
 
 use crate::clock::{UNMISSED, may_beat, since_after};
 use crate::entry::LaneEntry;
@@ -21,7 +21,7 @@ use crate::step::{End, LaneFault, LaneStep};
 use mctp_reasm::Message;
 use mctp_wire::{MAX_PACKETS, Packet, Unit};
 use pldm_base::{HEADER_SIZE, MAX_REPLY, PldmHead, Reply};
-use pldm_exch::{Asker, Brought, CallTick, DEAF, Request, Taker, body_of};
+use pldm_exch::{Asker, CallTick, DEAF, Received, Request, Taker, body_of};
 use std::alloc::Global;
 use std::marker::Model;
 
@@ -48,11 +48,11 @@ impl Model for Lane {
     ghost use Rattle.std.specs.Prelude.{◌≡◌, map};
     ghost use Rattle.exch_lane.specs.Journals.{sent_of};
     ghost use Rattle.pldm_exch.specs.Ends.{asker_of, taker_of};
-    ghost use Rattle.exch_lane.specs.Lanes.{LaneOf, entry_of};
+    ghost use Rattle.exch_lane.specs.Lanes.{LaneOf, lane_entry_of};
 
     ghost Value = { LaneOf };
 
-    ghost view = { λ l. record { unit = l.asker.unit; asker_eid = l.asker.own; taker_eid = l.asker.peer; now = l.journal.time; asker_since_miss = l.asker_since_miss; taker_since_miss = l.taker_since_miss; asker = asker_of l.asker_deaf l.asker; taker = taker_of l.taker_deaf l.taker; packets = map sent_of l.journal.packets.items; entries = map entry_of l.journal.entries.items } };
+    ghost view = { λ l. record { unit = l.asker.unit; asker_eid = l.asker.own; taker_eid = l.asker.peer; now = l.journal.time; asker_since_miss = l.asker_since_miss; taker_since_miss = l.taker_since_miss; asker = asker_of l.asker_deaf l.asker; taker = taker_of l.taker_deaf l.taker; packets = map sent_of l.journal.packets.items; entries = map lane_entry_of l.journal.entries.items } };
 
     ghost invariant = { λ l. (l.taker.unit ≡ l.asker.unit) × (l.taker.own ≡ l.asker.peer) × (l.taker.peer ≡ l.asker.own) };
 }
@@ -91,7 +91,7 @@ impl Lane {
 
     /// All that happened, in order.
     pub fn history(&self) -> &[LaneEntry]
-        ensures { map entry_of result.now ≡ self.now.entries }
+        ensures { map lane_entry_of result.now ≡ self.now.entries }
     {
         self.journal.entries.as_slice()
     }
@@ -130,9 +130,9 @@ impl Lane {
 
     /// Takes one step, or leaves the lane as it is.
     pub(crate) fn step(&mut self, step: &LaneStep) -> Result<(), LaneFault>
-        ensures ok { OnOk result (MayTake self.old (step_of step.now) × (self.new ≡ lane_after self.old (step_of step.now))) }
+        ensures ok { OnOk result (MayTake self.old (lane_step_of step.now) × (self.new ≡ lane_after self.old (lane_step_of step.now))) }
         ensures err { OnErr result (self.new ≡ self.old) }
-        ensures cause { IfErr result (λ e. IsCause self.old (step_of step.now) e) }
+        ensures cause { IfErr result (λ e. IsCause self.old (lane_step_of step.now) e) }
     {
         match step {
             LaneStep::Begin(command, body) => self.begin(*command, body.as_slice()),
@@ -149,9 +149,9 @@ impl Lane {
     /// The asker begins a request.
     #[tactic(auto, using(crate::proofs::LaneRows::rows))]
     fn begin(&mut self, command: u8, body: &[u8]) -> Result<(), LaneFault>
-        ensures ok { OnOk result ((may_step self.old (StepOf.Begin command body.now) ≡ None) × (self.new ≡ begins self.old command body.now)) }
+        ensures ok { OnOk result ((may_step self.old (LaneStepOf.Begin command body.now) ≡ None) × (self.new ≡ lane_after_begin self.old command body.now)) }
         ensures err { OnErr result (self.new ≡ self.old) }
-        ensures cause { IfErr result (λ e. IsCause self.old (StepOf.Begin command body.now) e) }
+        ensures cause { IfErr result (λ e. IsCause self.old (LaneStepOf.Begin command body.now) e) }
     {
         let unit = self.asker.unit();
         if body.len() > reply_limit(unit) || !self.can_begin() {
@@ -168,9 +168,9 @@ impl Lane {
 
     /// The asker gives its open request up.
     fn abandon(&mut self) -> Result<(), LaneFault>
-        ensures ok { OnOk result ((may_step self.old StepOf.Abandon ≡ None) × (self.new ≡ abandons self.old)) }
+        ensures ok { OnOk result ((may_step self.old LaneStepOf.Abandon ≡ None) × (self.new ≡ lane_after_abandon self.old)) }
         ensures err { OnErr result (self.new ≡ self.old) }
-        ensures cause { IfErr result (λ e. IsCause self.old StepOf.Abandon e) }
+        ensures cause { IfErr result (λ e. IsCause self.old LaneStepOf.Abandon e) }
     {
         if !self.asker.is_open() {
             return Err(LaneFault::NotNow);
@@ -181,9 +181,9 @@ impl Lane {
 
     /// A packet comes to an end.
     fn deliver(&mut self, number: usize, end: End, reply: &[u8]) -> Result<(), LaneFault>
-        ensures ok { OnOk result ((may_step self.old (StepOf.Deliver number end reply.now) ≡ None) × (self.new ≡ lane_after self.old (StepOf.Deliver number end reply.now))) }
+        ensures ok { OnOk result ((may_step self.old (LaneStepOf.Deliver number end reply.now) ≡ None) × (self.new ≡ lane_after self.old (LaneStepOf.Deliver number end reply.now))) }
         ensures err { OnErr result (self.new ≡ self.old) }
-        ensures cause { IfErr result (λ e. IsCause self.old (StepOf.Deliver number end reply.now) e) }
+        ensures cause { IfErr result (λ e. IsCause self.old (LaneStepOf.Deliver number end reply.now) e) }
     {
         if reply.len() > reply_limit(self.taker.unit()) {
             return Err(LaneFault::NotNow);
@@ -197,8 +197,13 @@ impl Lane {
         };
         let bytes = packet.bytes.as_slice();
         match end {
-            End::Asker => asker_hears(self.asker_deaf, &mut self.asker, &mut self.journal, bytes),
-            End::Taker => taker_hears(
+            End::Asker => asker_on_packet(
+                self.asker_deaf,
+                &mut self.asker,
+                &mut self.journal,
+                bytes,
+            ),
+            End::Taker => taker_on_packet(
                 self.taker_deaf,
                 &mut self.taker,
                 &mut self.journal,
@@ -212,9 +217,9 @@ impl Lane {
     /// A unit of time passes, and each end counts it or misses it.
     #[tactic(auto, using(crate::proofs::LaneRows::rows))]
     fn tick(&mut self, asker: bool, taker: bool) -> Result<(), LaneFault>
-        ensures ok { OnOk result ((may_step self.old (StepOf.Tick asker taker) ≡ None) × (self.new ≡ lane_ticks self.old asker taker)) }
+        ensures ok { OnOk result ((may_step self.old (LaneStepOf.Tick asker taker) ≡ None) × (self.new ≡ lane_after_tick self.old asker taker)) }
         ensures err { OnErr result (self.new ≡ self.old) }
-        ensures cause { IfErr result (λ e. IsCause self.old (StepOf.Tick asker taker) e) }
+        ensures cause { IfErr result (λ e. IsCause self.old (LaneStepOf.Tick asker taker) e) }
     {
         if !may_beat(asker, self.asker_since_miss) || !may_beat(taker, self.taker_since_miss) {
             return Err(LaneFault::NotNow);
@@ -243,7 +248,7 @@ impl Lane {
 
     /// An end starts anew.
     fn restart(&mut self, end: End)
-        ensures { self.new ≡ restarts self.old end }
+        ensures { self.new ≡ lane_after_restart self.old end }
     {
         match end {
             End::Asker => {
@@ -259,12 +264,12 @@ impl Lane {
 }
 
 /// The asker hears the bytes of a packet; where it is deaf it drops it.
-fn asker_hears(deaf: u8, asker: &mut Asker, journal: &mut Journal, bytes: &[u8])
-    requires room { HasRoom journal.old }
+fn asker_on_packet(deaf: u8, asker: &mut Asker, journal: &mut Journal, bytes: &[u8])
+    requires room { HasJournalRoom journal.old }
     ensures asker { asker_of deaf asker.new ≡ asker_after (asker_of deaf asker.old) (asker_row asker.old.unit asker.old.own asker.old.peer (asker_of deaf asker.old) bytes.now) }
     ensures between { (asker.new.unit ≡ asker.old.unit) × (asker.new.own ≡ asker.old.own) × (asker.new.peer ≡ asker.old.peer) }
     ensures packets { journal.new.packets ≡ journal.old.packets }
-    ensures entries { map entry_of journal.new.entries.items ≡ with_learnt (map entry_of journal.old.entries.items) (learnt_in (asker_row asker.old.unit asker.old.own asker.old.peer (asker_of deaf asker.old) bytes.now)) }
+    ensures entries { map lane_entry_of journal.new.entries.items ≡ with_learnt (map lane_entry_of journal.old.entries.items) (reply_in_row (asker_row asker.old.unit asker.old.own asker.old.peer (asker_of deaf asker.old) bytes.now)) }
     ensures time { journal.new.time ≡ journal.old.time }
 {
     if deaf > 0 {
@@ -280,27 +285,27 @@ fn asker_hears(deaf: u8, asker: &mut Asker, journal: &mut Journal, bytes: &[u8])
 #[tactic(auto, using(crate::proofs::LaneRows::rows))]
 fn asker_learns(asker: &mut Asker, journal: &mut Journal, packet: &Packet<'_>)
     requires read { IsRead packet.now }
-    requires room { HasRoom journal.old }
+    requires room { HasJournalRoom journal.old }
     ensures asker { asker_of 0 asker.new ≡ asker_after (asker_of 0 asker.old) (asking_row asker.old (spelling packet.now)) }
     ensures between { (asker.new.unit ≡ asker.old.unit) × (asker.new.own ≡ asker.old.own) × (asker.new.peer ≡ asker.old.peer) }
     ensures packets { journal.new.packets ≡ journal.old.packets }
-    ensures entries { map entry_of journal.new.entries.items ≡ with_learnt (map entry_of journal.old.entries.items) (learnt_in (asking_row asker.old (spelling packet.now))) }
+    ensures entries { map lane_entry_of journal.new.entries.items ≡ with_learnt (map lane_entry_of journal.old.entries.items) (reply_in_row (asking_row asker.old (spelling packet.now))) }
     ensures time { journal.new.time ≡ journal.old.time }
 {
     let mut message = Message::blank();
-    if let Some(_) = asker.hear(packet, &mut message) {
+    if let Some(_) = asker.on_reply(packet, &mut message) {
         journal.note(LaneEntry::Learnt(data_of(body_of(&message))));
     }
 }
 
 /// The taker hears the bytes of a packet, and answers a new request by `reply`; where it is deaf it drops the packet.
-fn taker_hears(deaf: u8, taker: &mut Taker, journal: &mut Journal, bytes: &[u8], reply: &[u8])
-    requires room { HasRoom journal.old }
+fn taker_on_packet(deaf: u8, taker: &mut Taker, journal: &mut Journal, bytes: &[u8], reply: &[u8])
+    requires room { HasJournalRoom journal.old }
     requires reply { length reply.now ≤ reply_limit taker.old.unit }
     ensures taker { taker_of deaf taker.new ≡ taker_after (taker_of deaf taker.old) reply.now (taker_row taker.old.unit taker.old.own taker.old.peer (taker_of deaf taker.old) bytes.now) }
     ensures between { (taker.new.unit ≡ taker.old.unit) × (taker.new.own ≡ taker.old.own) × (taker.new.peer ≡ taker.old.peer) }
-    ensures packets { map sent_of journal.new.packets.items ≡ with_sent taker.old.unit journal.old.time (map sent_of journal.old.packets.items) (heard_in reply.now (taker_row taker.old.unit taker.old.own taker.old.peer (taker_of deaf taker.old) bytes.now)) }
-    ensures entries { map entry_of journal.new.entries.items ≡ with_taken reply.now (map entry_of journal.old.entries.items) (heard_in reply.now (taker_row taker.old.unit taker.old.own taker.old.peer (taker_of deaf taker.old) bytes.now)) }
+    ensures packets { map sent_of journal.new.packets.items ≡ with_sent taker.old.unit journal.old.time (map sent_of journal.old.packets.items) (taker_action_in reply.now (taker_row taker.old.unit taker.old.own taker.old.peer (taker_of deaf taker.old) bytes.now)) }
+    ensures entries { map lane_entry_of journal.new.entries.items ≡ with_taken reply.now (map lane_entry_of journal.old.entries.items) (taker_action_in reply.now (taker_row taker.old.unit taker.old.own taker.old.peer (taker_of deaf taker.old) bytes.now)) }
     ensures time { journal.new.time ≡ journal.old.time }
 {
     if deaf > 0 {
@@ -316,19 +321,19 @@ fn taker_hears(deaf: u8, taker: &mut Taker, journal: &mut Journal, bytes: &[u8],
 #[tactic(auto, using(crate::proofs::LaneRows::rows))]
 fn taker_answers(taker: &mut Taker, journal: &mut Journal, packet: &Packet<'_>, reply: &[u8])
     requires read { IsRead packet.now }
-    requires room { HasRoom journal.old }
+    requires room { HasJournalRoom journal.old }
     requires reply { length reply.now ≤ reply_limit taker.old.unit }
     ensures taker { taker_of 0 taker.new ≡ taker_after (taker_of 0 taker.old) reply.now (answering_row taker.old (spelling packet.now)) }
     ensures between { (taker.new.unit ≡ taker.old.unit) × (taker.new.own ≡ taker.old.own) × (taker.new.peer ≡ taker.old.peer) }
-    ensures packets { map sent_of journal.new.packets.items ≡ with_sent taker.old.unit journal.old.time (map sent_of journal.old.packets.items) (heard_in reply.now (answering_row taker.old (spelling packet.now))) }
-    ensures entries { map entry_of journal.new.entries.items ≡ with_taken reply.now (map entry_of journal.old.entries.items) (heard_in reply.now (answering_row taker.old (spelling packet.now))) }
+    ensures packets { map sent_of journal.new.packets.items ≡ with_sent taker.old.unit journal.old.time (map sent_of journal.old.packets.items) (taker_action_in reply.now (answering_row taker.old (spelling packet.now))) }
+    ensures entries { map lane_entry_of journal.new.entries.items ≡ with_taken reply.now (map lane_entry_of journal.old.entries.items) (taker_action_in reply.now (answering_row taker.old (spelling packet.now))) }
     ensures time { journal.new.time ≡ journal.old.time }
 {
     let mut message = Message::blank();
-    match taker.hear(packet, &mut message) {
-        Brought::Nothing | Brought::Strays => {}
-        Brought::Again => journal.send(taker.unit(), &message),
-        Brought::New(head) => taker_takes(taker, journal, &message, head, reply),
+    match taker.on_request(packet, &mut message) {
+        Received::Nothing | Received::Strays => {}
+        Received::Again => journal.send(taker.unit(), &message),
+        Received::New(head) => taker_takes(taker, journal, &message, head, reply),
     }
 }
 
@@ -340,12 +345,12 @@ fn taker_takes(
     head: PldmHead,
     reply: &[u8],
 )
-    requires room { HasRoom journal.old }
-    requires head { IsHead head }
+    requires room { HasJournalRoom journal.old }
+    requires head { IsPldmHead head }
     requires reply { length reply.now ≤ reply_limit taker.old.unit }
     ensures taker { taker.new ≡ record taker.old { kept = kept_with taker.old.kept (reply_message message.now head reply.now) } }
-    ensures packets { map sent_of journal.new.packets.items ≡ map sent_of journal.old.packets.items ++ sendings taker.old.unit journal.old.time (reply_message message.now head reply.now) }
-    ensures entries { map entry_of journal.new.entries.items ≡ map entry_of journal.old.entries.items ++ EntryOf.Taken head.command (body_in (pldm_of message.now.bytes)) reply.now ∷ [] }
+    ensures packets { map sent_of journal.new.packets.items ≡ map sent_of journal.old.packets.items ++ packets_of_message taker.old.unit journal.old.time (reply_message message.now head reply.now) }
+    ensures entries { map lane_entry_of journal.new.entries.items ≡ map lane_entry_of journal.old.entries.items ++ LaneEntryOf.Taken head.command (body_in (pldm_of message.now.bytes)) reply.now ∷ [] }
     ensures time { journal.new.time ≡ journal.old.time }
 {
     let answer = taker.answer(&Request::new(message, head), reply);

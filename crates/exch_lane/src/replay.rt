@@ -1,7 +1,7 @@
 //! Steps of a lane, one after another.
 
 ghost use Rattle.std.specs.Prelude.{◌≡◌, ◌<◌, IfErr, IsSomeAnd, OnOk, length, slice_get, take};
-ghost use Rattle.exch_lane.specs.Lanes.{step_of, steps_of};
+ghost use Rattle.exch_lane.specs.Lanes.{lane_step_of, lane_steps_of};
 ghost use Rattle.exch_lane.specs.Laws.{KeepsItsCell};
 ghost use Rattle.exch_lane.specs.Steps.{IsCause, MayRun, lane_run};
 
@@ -15,12 +15,12 @@ use crate::step::{LaneFault, LaneStep};
 /// # Errors
 /// The number of steps that were taken, and why the next one wasn't. The lane is that after those steps.
 pub fn lane_replay(lane: &mut Lane, steps: &[LaneStep]) -> Result<(), (usize, LaneFault)>
-    ensures ok { OnOk result (MayRun lane.old (steps_of steps.now) × (lane.new ≡ lane_run lane.old (steps_of steps.now))) }
-    ensures stopped { IfErr result (λ e. (e.0 < length steps.now) × MayRun lane.old (steps_of (take e.0 steps.now))
-        × (lane.new ≡ lane_run lane.old (steps_of (take e.0 steps.now)))
-        × IsSomeAnd (slice_get steps.now e.0) (λ s. IsCause lane.new (step_of s) e.1)) }
-    ensures cell { OnOk result (KeepsItsCell lane.old (steps_of steps.now) lane.new) }
-    ensures cell_so_far { IfErr result (λ e. KeepsItsCell lane.old (steps_of (take e.0 steps.now)) lane.new) }
+    ensures ok { OnOk result (MayRun lane.old (lane_steps_of steps.now) × (lane.new ≡ lane_run lane.old (lane_steps_of steps.now))) }
+    ensures stopped { IfErr result (λ e. (e.0 < length steps.now) × MayRun lane.old (lane_steps_of (take e.0 steps.now))
+        × (lane.new ≡ lane_run lane.old (lane_steps_of (take e.0 steps.now)))
+        × IsSomeAnd (slice_get steps.now e.0) (λ s. IsCause lane.new (lane_step_of s) e.1)) }
+    ensures cell { OnOk result (KeepsItsCell lane.old (lane_steps_of steps.now) lane.new) }
+    ensures cell_so_far { IfErr result (λ e. KeepsItsCell lane.old (lane_steps_of (take e.0 steps.now)) lane.new) }
 {
     lane_is_a_cell();
     for (number, step) in steps.iter().enumerate() {

@@ -2,15 +2,15 @@
 use Rattle.std.proofs.Common.{◌≡◌, Bool, true, refl}
 use Rattle.fwup_wire.specs.Answers.{answers_command}
 use Rattle.fwup_wire.specs.Commands.{command_code}
-use Rattle.fwup_wire.specs.Values.{CommandOf, EntryOf, OfferOf, RequestOf}
+use Rattle.fwup_wire.specs.Values.{CommandOf, TableEntryOf, OfferOf, UpdateRequestOf}
 use Rattle.fd_core.specs.Commands.{CancelRow, OfferRow, RequestRow, ReturnRow, SwitchRow, TableRow, cancel_by, cancel_row, device_answer, offer_by, offer_row, request_by, request_row, return_by, return_row, switch_by, switch_row, table_by, table_row}
 use Rattle.fd_core.specs.States.{DeviceState}
 
-requests : (v : DeviceState) (r : RequestOf) (row : RequestRow) → answers_command 0x10 (request_by v r row).answer ≡ true
+requests : (v : DeviceState) (r : UpdateRequestOf) (row : RequestRow) → answers_command 0x10 (request_by v r row).answer ≡ true
 requests v r (RequestRow.RefuseRequest code) = refl
 requests v r RequestRow.BeginUpdate = refl
 
-entries : (v : DeviceState) (e : EntryOf) (row : TableRow) → answers_command 0x13 (table_by v e row).answer ≡ true
+entries : (v : DeviceState) (e : TableEntryOf) (row : TableRow) → answers_command 0x13 (table_by v e row).answer ≡ true
 entries v e (TableRow.RefuseEntry code) = refl
 entries v e (TableRow.AddEntry u code) = refl
 

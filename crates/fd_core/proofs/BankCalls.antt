@@ -2,15 +2,15 @@
 use Rattle.std.proofs.Common.{◌≡◌, ◌==◌, ◌∙◌, ap, refl, sym, nat_lt, not, Bool, true, false, ℕ, List, length, Option, Some, is_some, if◌then◌else◌}
 use Rattle.pldm_base.specs.Codes.{error, invalid_data}
 use Rattle.fwup_wire.specs.Answers.{answer_bytes}
-use Rattle.fwup_wire.specs.Values.{AnswerOf, CommandOf, EntryOf, OfferOf, RequestOf}
+use Rattle.fwup_wire.specs.Values.{AnswerOf, CommandOf, TableEntryOf, OfferOf, UpdateRequestOf}
 use Rattle.fd_core.specs.BankCalls.{AnswersDependOnCalls, CommandsDependOnCalls, DifferIf, VerdictsDependOnCalls, answer_calls_bank, answer_calls_bank_in, begins_stage, command_calls_bank, puts_piece, verdict_calls_bank, verdict_calls_bank_in}
 use Rattle.fd_core.specs.Codes.{activation_not_required, incomplete_update, longest_image, no_restriction}
-use Rattle.fd_core.specs.Commands.{OfferRow, RequestRow, SwitchRow, TableRow, bytes_work, cancel_by, cancel_row, device_answer, device_take, download_progress, has_applied, is_odd_request, is_switch, lacks, offer_by, offer_restriction, offer_row, offer_under, request_by, request_row, restriction, return_by, return_row, switch_by, switch_row, table_by, table_row}
+use Rattle.fd_core.specs.Commands.{OfferRow, RequestRow, SwitchRow, TableRow, bytes_work, cancel_by, cancel_row, device_answer, device_take, download_progress, has_applied, is_odd_request, is_switch, lacks_listed, offer_by, offer_restriction, offer_row, offer_under, request_by, request_row, restriction, return_by, return_row, switch_by, switch_row, table_by, table_row}
 use Rattle.fd_core.specs.Images.{RowOf}
 use Rattle.fd_core.specs.States.{DeviceState, Phase, UpdateOf, WorkOf}
 use Rattle.fd_core.specs.Steps.{device_verdict, judged_or, verdict_at}
-use Rattle.fd_core.specs.Wishes.{LearnRow, applied_row, apply_by, asked_length, device_learn, download_by, download_row, has_failed, is_failure, learn_at, piece_row, report_row, verified_row, verify_by}
-use Rattle.fd_core.specs.declared.parts.Component.{Component}
+use Rattle.fd_core.specs.Wishes.{DeviceLearnRow, applied_row, apply_by, asked_length, device_learn, download_by, download_row, has_failed, is_failure, learn_at, piece_row, report_row, verified_row, verify_by}
+use Rattle.fd_core.specs.declared.parts.BankComponent.{BankComponent}
 use Rattle.fd_core.specs.declared.states.Progress.{Progress}
 use Rattle.fd_core.specs.declared.states.Progress.TheVariants as progress
 use Rattle.fd_core.specs.declared.states.Verdict.{Verdict}
@@ -47,10 +47,10 @@ offers v o rows p quiet = refl
 abbrev SwitchesDiffer : DeviceState → SwitchRow → SwitchRow → Type 0
 SwitchesDiffer v failing working = DifferIf (is_switch working) (switch_by v failing) (switch_by v working)
 
-switches : (v : DeviceState) (cs : List Component) (rows : List RowOf) (p : Phase) → SwitchesDiffer v (switch_row cs rows p false) (switch_row cs rows p true)
+switches : (v : DeviceState) (cs : List BankComponent) (rows : List RowOf) (p : Phase) → SwitchesDiffer v (switch_row cs rows p false) (switch_row cs rows p true)
 switches v cs rows Phase.Idle = refl
 switches v cs rows (Phase.Ready u) =
-    both (SwitchesDiffer v) (lacks rows u.table) (SwitchRow.RefuseSwitch incomplete_update) _ (SwitchRow.RefuseSwitch incomplete_update) _ refl
+    both (SwitchesDiffer v) (lacks_listed rows u.table) (SwitchRow.RefuseSwitch incomplete_update) _ (SwitchRow.RefuseSwitch incomplete_update) _ refl
     (both (SwitchesDiffer v) (not (has_applied rows cs)) (SwitchRow.RefuseSwitch activation_not_required) (SwitchRow.RefuseSwitch error) (SwitchRow.RefuseSwitch activation_not_required) SwitchRow.Switch refl
     (λ e. absurd (let same : (switch_by v (SwitchRow.RefuseSwitch error)).answer ≡ (switch_by v SwitchRow.Switch).answer = ap (λ t. t.answer) e in cc)))
 switches v cs rows p = refl
@@ -62,16 +62,16 @@ commands_depend v c quiet = refl
 
 -- ANSWERS
 
-abbrev PiecesDiffer : DeviceState → UpdateOf → WorkOf → LearnRow → LearnRow → Type 0
+abbrev PiecesDiffer : DeviceState → UpdateOf → WorkOf → DeviceLearnRow → DeviceLearnRow → Type 0
 PiecesDiffer v u w failing working = DifferIf (puts_piece working) (download_by v u w failing) (download_by v u w working)
 
-piece_differs : (v : DeviceState) (u : UpdateOf) (w : WorkOf) (bytes : List ℕ) → PiecesDiffer v u w LearnRow.PutFails (LearnRow.PutPiece bytes)
+piece_differs : (v : DeviceState) (u : UpdateOf) (w : WorkOf) (bytes : List ℕ) → PiecesDiffer v u w DeviceLearnRow.PutFails (DeviceLearnRow.PutPiece bytes)
 piece_differs v u w bytes e = absurd (
-    let stirred : (download_by v u w LearnRow.PutFails).stirs ≡ (download_by v u w (LearnRow.PutPiece bytes)).stirs = ap (λ l. l.stirs) e in cc)
+    let stirred : (download_by v u w DeviceLearnRow.PutFails).stirs ≡ (download_by v u w (DeviceLearnRow.PutPiece bytes)).stirs = ap (λ l. l.stirs) e in cc)
 
 pieces : (v : DeviceState) (u : UpdateOf) (w : WorkOf) (n : ℕ) (a : Option AnswerOf) → PiecesDiffer v u w (piece_row n a false) (piece_row n a true)
 pieces v u w n (Some (AnswerOf.RequestFirmwareData bytes)) =
-    both (PiecesDiffer v u w) (length bytes == n) LearnRow.PutFails LearnRow.Stay (LearnRow.PutPiece bytes) LearnRow.Stay (piece_differs v u w bytes) refl
+    both (PiecesDiffer v u w) (length bytes == n) DeviceLearnRow.PutFails DeviceLearnRow.Stay (DeviceLearnRow.PutPiece bytes) DeviceLearnRow.Stay (piece_differs v u w bytes) refl
 pieces v u w n a = refl
 
 -- the row of a report never puts
@@ -126,13 +126,13 @@ judges_alike v verdict works e = same_if (device_verdict v verdict) (verdict_cal
 abbrev reply_works : AnswerOf → Bool
 reply_works a = bytes_work (answer_bytes a)
 
-requests_work : (v : DeviceState) (r : RequestOf) (p : Phase) (quiet : Bool) → reply_works (request_by v r (request_row p r quiet)).answer ≡ true
+requests_work : (v : DeviceState) (r : UpdateRequestOf) (p : Phase) (quiet : Bool) → reply_works (request_by v r (request_row p r quiet)).answer ≡ true
 requests_work v r Phase.Idle false = refl
 requests_work v r Phase.Idle true =
     either (λ row. reply_works (request_by v r row).answer ≡ true) (is_odd_request r) (RequestRow.RefuseRequest invalid_data) RequestRow.BeginUpdate refl refl
 requests_work v r p quiet = refl
 
-entries_work : (v : DeviceState) (e : EntryOf) (rows : List RowOf) (p : Phase) → reply_works (table_by v e (table_row rows p e)).answer ≡ true
+entries_work : (v : DeviceState) (e : TableEntryOf) (rows : List RowOf) (p : Phase) → reply_works (table_by v e (table_row rows p e)).answer ≡ true
 entries_work v e rows Phase.Idle = refl
 entries_work v e rows (Phase.Learn u) =
     either (λ row. reply_works (table_by v e row).answer ≡ true) _ (TableRow.RefuseEntry invalid_data) (TableRow.AddEntry u (restriction rows e.key e.version.stamp)) refl refl
@@ -170,10 +170,10 @@ offer_fails v o rows p quiet works = λ e. absurd (cc)
 abbrev SwitchFails : DeviceState → SwitchRow → SwitchRow → Type 0
 SwitchFails v row working = reply_works (switch_by v row).answer ≡ false → is_switch working ≡ true
 
-switch_fails : (v : DeviceState) (cs : List Component) (rows : List RowOf) (p : Phase) (works : Bool) → SwitchFails v (switch_row cs rows p works) (switch_row cs rows p true)
+switch_fails : (v : DeviceState) (cs : List BankComponent) (rows : List RowOf) (p : Phase) (works : Bool) → SwitchFails v (switch_row cs rows p works) (switch_row cs rows p true)
 switch_fails v cs rows Phase.Idle works = λ e. absurd (cc)
 switch_fails v cs rows (Phase.Ready u) works =
-    both (SwitchFails v) (lacks rows u.table) (SwitchRow.RefuseSwitch incomplete_update) _ (SwitchRow.RefuseSwitch incomplete_update) _ (λ e. absurd (cc))
+    both (SwitchFails v) (lacks_listed rows u.table) (SwitchRow.RefuseSwitch incomplete_update) _ (SwitchRow.RefuseSwitch incomplete_update) _ (λ e. absurd (cc))
     (both (SwitchFails v) (not (has_applied rows cs)) (SwitchRow.RefuseSwitch activation_not_required) (if works then SwitchRow.Switch else SwitchRow.RefuseSwitch error) (SwitchRow.RefuseSwitch activation_not_required) SwitchRow.Switch
     (λ e. absurd (cc)) (λ e. refl))
 switch_fails v cs rows p works = λ e. absurd (cc)
@@ -195,8 +195,8 @@ take_called v c quiet works e = absurd (cc)
 pieces_fail : (v : DeviceState) (u : UpdateOf) (w : WorkOf) (n : ℕ) (a : Option AnswerOf) (works : Bool)
     → has_failed (download_by v u w (piece_row n a works)).after.phase ≡ true → has_failed v.phase ≡ false → puts_piece (piece_row n a true) ≡ true
 pieces_fail v u w n (Some (AnswerOf.RequestFirmwareData bytes)) works =
-    both (λ (row other : LearnRow). has_failed (download_by v u w row).after.phase ≡ true → has_failed v.phase ≡ false → puts_piece other ≡ true)
-    (length bytes == n) (if works then LearnRow.PutPiece bytes else LearnRow.PutFails) LearnRow.Stay (LearnRow.PutPiece bytes) LearnRow.Stay
+    both (λ (row other : DeviceLearnRow). has_failed (download_by v u w row).after.phase ≡ true → has_failed v.phase ≡ false → puts_piece other ≡ true)
+    (length bytes == n) (if works then DeviceLearnRow.PutPiece bytes else DeviceLearnRow.PutFails) DeviceLearnRow.Stay (DeviceLearnRow.PutPiece bytes) DeviceLearnRow.Stay
     (λ e f. refl) (λ e f. absurd (cc))
 pieces_fail v u w n a works = λ e f. absurd (cc)
 

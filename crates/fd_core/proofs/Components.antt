@@ -3,15 +3,15 @@ use Rattle.std.proofs.Common.{◌≡◌, ◌==◌, is_some, nat_lt, List, Bool, 
 use Rattle.fd_core.specs.Banks.{has_key}
 use Rattle.pldm_base.specs.Codes.{invalid_data}
 use Rattle.fd_core.specs.Codes.{longest_image, not_supported}
-use Rattle.fd_core.specs.Commands.{CancelRow, OfferRow, RequestRow, ReturnRow, SwitchRow, TableRow, cancel_by, cancel_row, device_after, in_table, listed, offer_by, offer_row, offer_rule, offer_under, request_by, request_row, return_by, return_row, switch_by, switch_row, table_by, table_row, with_entry}
-use Rattle.fd_core.specs.Images.{RowOf, dropped, key_of, row_of}
+use Rattle.fd_core.specs.Commands.{CancelRow, OfferRow, RequestRow, ReturnRow, SwitchRow, TableRow, cancel_by, cancel_row, device_after, in_table, device_with_table, offer_by, offer_row, offer_rule, offer_under, request_by, request_row, return_by, return_row, switch_by, switch_row, table_by, table_row, with_entry}
+use Rattle.fd_core.specs.Images.{RowOf, rows_after_drop, key_of, row_of}
 use Rattle.fd_core.specs.States.{DeviceState, Phase, UpdateOf, WorkOf}
 use Rattle.fd_core.specs.Steps.{device_restart, device_timeout, judged_or, verdict_after, verdict_at}
-use Rattle.fd_core.specs.Wishes.{LearnRow, apply_by, asked_length, device_learn, download_by, download_row, learn_at, report_row, applied_row, verified_row, verify_by}
+use Rattle.fd_core.specs.Wishes.{DeviceLearnRow, apply_by, asked_length, device_learn, download_by, download_row, learn_at, report_row, applied_row, verified_row, verify_by}
 use Rattle.fd_core.specs.declared.states.Progress.TheVariants as progress
 use Rattle.fd_core.specs.declared.states.Verdict.{Verdict}
 use Rattle.fd_core.specs.declared.states.Verdict.TheVariants as verdicts
-use Rattle.fwup_wire.specs.Values.{AnswerOf, CommandOf, EntryOf, OfferOf, RequestOf}
+use Rattle.fwup_wire.specs.Values.{AnswerOf, CommandOf, TableEntryOf, OfferOf, UpdateRequestOf}
 use Rattle.fd_core.proofs.Rows.{has_row, keys_dropped, keys_sealed, keys_switched}
 use Rattle.fd_core.specs.Components.{HasComponents, IsOneOf}
 
@@ -19,7 +19,7 @@ use Rattle.fd_core.specs.Components.{HasComponents, IsOneOf}
 with_keys : (v w : DeviceState) → map key_of w.rows ≡ map key_of v.rows → w.components ≡ v.components → IsOneOf (map key_of v.rows) w.phase → HasComponents v → HasComponents w
 with_keys v w keys components known h = record { keys = rw (keys, components) h.keys; apart = rw keys h.apart; known = rw keys known }
 
-reset_components : (v w : DeviceState) → w.rows ≡ dropped v.rows → w.components ≡ v.components → IsOneOf (map key_of v.rows) w.phase → HasComponents v → HasComponents w
+reset_components : (v w : DeviceState) → w.rows ≡ rows_after_drop v.rows → w.components ≡ v.components → IsOneOf (map key_of v.rows) w.phase → HasComponents v → HasComponents w
 reset_components v w rows components known h = with_keys v w (ap (map key_of) rows ∙ keys_dropped v.rows) components known h
 
 -- an offer that is taken up is of a component that is there
@@ -50,15 +50,15 @@ pub timeout_components : (v : DeviceState) → HasComponents v → HasComponents
 timeout_components v h = reset_components v (device_timeout v) refl refl tt h
 
 -- a command
-requested : (v : DeviceState) (r : RequestOf) (row : RequestRow) → HasComponents v → HasComponents (request_by v r row).after
+requested : (v : DeviceState) (r : UpdateRequestOf) (row : RequestRow) → HasComponents v → HasComponents (request_by v r row).after
 requested v r (RequestRow.RefuseRequest code) h = h
 requested v r RequestRow.BeginUpdate h = reset_components v (request_by v r RequestRow.BeginUpdate).after refl refl tt h
 
-listed_or : (v : DeviceState) (u : UpdateOf) (b : Bool) → length u.table == u.components ≡ b → HasComponents v → HasComponents (listed v u)
+listed_or : (v : DeviceState) (u : UpdateOf) (b : Bool) → length u.table == u.components ≡ b → HasComponents v → HasComponents (device_with_table v u)
 listed_or v u true e h = rw e (with_keys v _ refl refl tt h)
 listed_or v u false e h = rw e (with_keys v _ refl refl tt h)
 
-entered : (v : DeviceState) (e : EntryOf) (row : TableRow) → HasComponents v → HasComponents (table_by v e row).after
+entered : (v : DeviceState) (e : TableEntryOf) (row : TableRow) → HasComponents v → HasComponents (table_by v e row).after
 entered v e (TableRow.RefuseEntry code) h = h
 entered v e (TableRow.AddEntry u code) h = listed_or v (with_entry u e.key code) _ refl h
 
@@ -90,21 +90,21 @@ take_components v CommandOf.CancelUpdate quiet works h = cancelled v (cancel_row
 take_components v c quiet works h = h
 
 -- an answer
-downloaded : (v : DeviceState) (u : UpdateOf) (w : WorkOf) (row : LearnRow) → has_key (map key_of v.rows) w.key ≡ true → HasComponents v → HasComponents (download_by v u w row).after
-downloaded v u w LearnRow.Stay known h = h
-downloaded v u w (LearnRow.PutPiece bytes) known h = with_keys v (download_by v u w (LearnRow.PutPiece bytes)).after refl refl known h
-downloaded v u w LearnRow.PutFails known h = with_keys v (download_by v u w LearnRow.PutFails).after refl refl known h
-downloaded v u w LearnRow.NextState known h = with_keys v (download_by v u w LearnRow.NextState).after refl refl known h
-downloaded v u w LearnRow.Reported known h = with_keys v (download_by v u w LearnRow.Reported).after refl refl known h
+downloaded : (v : DeviceState) (u : UpdateOf) (w : WorkOf) (row : DeviceLearnRow) → has_key (map key_of v.rows) w.key ≡ true → HasComponents v → HasComponents (download_by v u w row).after
+downloaded v u w DeviceLearnRow.Stay known h = h
+downloaded v u w (DeviceLearnRow.PutPiece bytes) known h = with_keys v (download_by v u w (DeviceLearnRow.PutPiece bytes)).after refl refl known h
+downloaded v u w DeviceLearnRow.PutFails known h = with_keys v (download_by v u w DeviceLearnRow.PutFails).after refl refl known h
+downloaded v u w DeviceLearnRow.NextState known h = with_keys v (download_by v u w DeviceLearnRow.NextState).after refl refl known h
+downloaded v u w DeviceLearnRow.Reported known h = with_keys v (download_by v u w DeviceLearnRow.Reported).after refl refl known h
 
-verified : (v : DeviceState) (u : UpdateOf) (w : WorkOf) (row : LearnRow) → has_key (map key_of v.rows) w.key ≡ true → HasComponents v → HasComponents (verify_by v u w row).after
-verified v u w LearnRow.NextState known h = with_keys v (verify_by v u w LearnRow.NextState).after refl refl known h
-verified v u w LearnRow.Reported known h = with_keys v (verify_by v u w LearnRow.Reported).after refl refl known h
+verified : (v : DeviceState) (u : UpdateOf) (w : WorkOf) (row : DeviceLearnRow) → has_key (map key_of v.rows) w.key ≡ true → HasComponents v → HasComponents (verify_by v u w row).after
+verified v u w DeviceLearnRow.NextState known h = with_keys v (verify_by v u w DeviceLearnRow.NextState).after refl refl known h
+verified v u w DeviceLearnRow.Reported known h = with_keys v (verify_by v u w DeviceLearnRow.Reported).after refl refl known h
 verified v u w row known h = h
 
-applied : (v : DeviceState) (u : UpdateOf) (w : WorkOf) (row : LearnRow) → has_key (map key_of v.rows) w.key ≡ true → HasComponents v → HasComponents (apply_by v u w row).after
-applied v u w LearnRow.NextState known h = with_keys v (apply_by v u w LearnRow.NextState).after refl refl tt h
-applied v u w LearnRow.Reported known h = with_keys v (apply_by v u w LearnRow.Reported).after refl refl known h
+applied : (v : DeviceState) (u : UpdateOf) (w : WorkOf) (row : DeviceLearnRow) → has_key (map key_of v.rows) w.key ≡ true → HasComponents v → HasComponents (apply_by v u w row).after
+applied v u w DeviceLearnRow.NextState known h = with_keys v (apply_by v u w DeviceLearnRow.NextState).after refl refl tt h
+applied v u w DeviceLearnRow.Reported known h = with_keys v (apply_by v u w DeviceLearnRow.Reported).after refl refl known h
 applied v u w row known h = h
 
 learnt_at : (v : DeviceState) (p : Phase) (a : Option AnswerOf) (works : Bool) → IsOneOf (map key_of v.rows) p → HasComponents v → HasComponents (learn_at v p a works).after

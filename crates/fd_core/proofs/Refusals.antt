@@ -1,19 +1,19 @@
 -- A command that is answered by a refusal is taken as one, row by row.
 use Rattle.std.proofs.Common.{◌≡◌, Bool, ap, refl, true}
-use Rattle.fwup_wire.specs.Values.{CommandOf, EntryOf, OfferOf, RequestOf}
-use Rattle.fd_core.specs.Commands.{CancelRow, OfferRow, RequestRow, ReturnRow, SwitchRow, TableRow, Taken, cancel_by, cancel_row, device_take, offer_by, offer_row, request_by, request_row, return_by, return_row, switch_by, switch_row, table_by, table_row, told}
-use Rattle.fd_core.specs.Laws.{RefusalsActivateNothing, RefusalsKeepTheDevice, RefusalsStirNothing, refuses}
-use Rattle.fd_core.specs.States.{DeviceState, rested}
+use Rattle.fwup_wire.specs.Values.{CommandOf, TableEntryOf, OfferOf, UpdateRequestOf}
+use Rattle.fd_core.specs.Commands.{CancelRow, OfferRow, RequestRow, ReturnRow, SwitchRow, TableRow, CommandEffect, cancel_by, cancel_row, device_take, offer_by, offer_row, request_by, request_row, return_by, return_row, switch_by, switch_row, table_by, table_row, effect_of_answer}
+use Rattle.fd_core.specs.Laws.{RefusalsActivateNothing, RefusalsKeepTheDevice, RefusalsKeepDeviceIdle, is_refusal}
+use Rattle.fd_core.specs.States.{DeviceState, idle_count_if}
 
 -- what refuses does nothing else
-abbrev IsRefusal : DeviceState → Taken → Type 0
-IsRefusal v t = refuses t.answer ≡ true → t ≡ told v t.answer
+abbrev IsRefusal : DeviceState → CommandEffect → Type 0
+IsRefusal v t = is_refusal t.answer ≡ true → t ≡ effect_of_answer v t.answer
 
-requests : (v : DeviceState) (r : RequestOf) (row : RequestRow) → IsRefusal v (request_by v r row)
+requests : (v : DeviceState) (r : UpdateRequestOf) (row : RequestRow) → IsRefusal v (request_by v r row)
 requests v r (RequestRow.RefuseRequest code) e = refl
 requests v r RequestRow.BeginUpdate e = absurd (cc)
 
-entries : (v : DeviceState) (e : EntryOf) (row : TableRow) → IsRefusal v (table_by v e row)
+entries : (v : DeviceState) (e : TableEntryOf) (row : TableRow) → IsRefusal v (table_by v e row)
 entries v e (TableRow.RefuseEntry code) same = refl
 entries v e (TableRow.AddEntry u code) same = absurd (cc)
 
@@ -49,5 +49,5 @@ refusals_keep v c quiet works e = ap (λ t. t.after) (refusals v c quiet works e
 pub refusals_activate : RefusalsActivateNothing
 refusals_activate v c quiet works e = ap (λ t. t.activated) (refusals v c quiet works e)
 
-pub refusals_stir : RefusalsStirNothing
-refusals_stir idle v c quiet works e = ap (λ t. rested idle t.stirs) (refusals v c quiet works e)
+pub refusals_stir : RefusalsKeepDeviceIdle
+refusals_stir idle v c quiet works e = ap (λ t. idle_count_if idle t.stirs) (refusals v c quiet works e)

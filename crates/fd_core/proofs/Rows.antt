@@ -3,20 +3,20 @@ use Rattle.std.proofs.Common.{[], ◌++◌, ◌==◌, ◌||◌, ◌∷◌, ◌�
 use Rattle.std.proofs.lemmas.Bool.{and_parts, eqb-true, ne_eqb, or_from, or_parts}
 use Rattle.std.proofs.lemmas.Bool.Decides.{eqb_tells}
 use Rattle.std.proofs.lemmas.List.{map-append}
-use Rattle.fd_core.specs.Banks.{AreApart, has_key}
-use Rattle.fd_core.specs.Images.{ImageOf, RowOf, dropped, key_of, row_of, same_key, sealed, sealed_if, switched, turned_to}
+use Rattle.fd_core.specs.Banks.{HaveKeysOnce, has_key}
+use Rattle.fd_core.specs.Images.{ImageOf, RowOf, rows_after_drop, key_of, row_of, same_key, rows_after_seal, sealed_if, rows_after_switch, row_after_switch_to}
 use Rattle.fwup_wire.specs.declared.values.Key.{Key}
 
 -- no call of a bank changes its components
-pub keys_dropped : (rows : List RowOf) → map key_of (dropped rows) ≡ map key_of rows
+pub keys_dropped : (rows : List RowOf) → map key_of (rows_after_drop rows) ≡ map key_of rows
 keys_dropped [] = refl
 keys_dropped (row ∷ rows) = ap (λ ks. row.key ∷ ks) (keys_dropped rows)
 
-key_turned : (row : RowOf) (a : Option ImageOf) → key_of (turned_to row a) ≡ key_of row
+key_turned : (row : RowOf) (a : Option ImageOf) → key_of (row_after_switch_to row a) ≡ key_of row
 key_turned row None = refl
 key_turned row (Some image) = refl
 
-pub keys_switched : (rows : List RowOf) → map key_of (switched rows) ≡ map key_of rows
+pub keys_switched : (rows : List RowOf) → map key_of (rows_after_switch rows) ≡ map key_of rows
 keys_switched [] = refl
 keys_switched (row ∷ rows) = rw (key_turned row row.applied, keys_switched rows) refl
 
@@ -24,7 +24,7 @@ key_sealed : (b : Bool) (row : RowOf) (image : ImageOf) → key_of (sealed_if b 
 key_sealed true row image = refl
 key_sealed false row image = refl
 
-pub keys_sealed : (rows : List RowOf) (key : Key) (image : ImageOf) → map key_of (sealed rows key image) ≡ map key_of rows
+pub keys_sealed : (rows : List RowOf) (key : Key) (image : ImageOf) → map key_of (rows_after_seal rows key image) ≡ map key_of rows
 keys_sealed [] key image = refl
 keys_sealed (row ∷ rows) key image = rw (key_sealed (same_key row.key key) row image, keys_sealed rows key image) refl
 
@@ -65,18 +65,18 @@ absent_more (x ∷ ks) k new e other =
     let parts = or_parts (same_key x k) (has_key ks k) e in
     or_from (same_key x k) (has_key (ks ++ new ∷ []) k) parts.0 (absent_more ks k new parts.1 other)
 
-apart_keys : (ks : List Key) (new : Key) → AreApart ks → has_key ks new ≡ false → AreApart (ks ++ new ∷ [])
+apart_keys : (ks : List Key) (new : Key) → HaveKeysOnce ks → has_key ks new ≡ false → HaveKeysOnce (ks ++ new ∷ [])
 apart_keys [] new apart e = (refl, tt)
 apart_keys (k ∷ ks) new apart e =
     let parts = or_parts (same_key k new) (has_key ks new) e in
     (absent_more ks k new apart.0 parts.0, apart_keys ks new apart.1 parts.1)
 
-pub apart_more : (rows : List RowOf) (row : RowOf) → AreApart (map key_of rows) → has_key (map key_of rows) row.key ≡ false
-    → AreApart (map key_of (rows ++ row ∷ []))
+pub apart_more : (rows : List RowOf) (row : RowOf) → HaveKeysOnce (map key_of rows) → has_key (map key_of rows) row.key ≡ false
+    → HaveKeysOnce (map key_of (rows ++ row ∷ []))
 apart_more rows row apart e = rw (map-append key_of rows (row ∷ [])) (apart_keys (map key_of rows) row.key apart e)
 
 -- only the components of the key change, and there is one
-pub absent_sealed : (rows : List RowOf) (key : Key) (image : ImageOf) → has_key (map key_of rows) key ≡ false → sealed rows key image ≡ rows
+pub absent_sealed : (rows : List RowOf) (key : Key) (image : ImageOf) → has_key (map key_of rows) key ≡ false → rows_after_seal rows key image ≡ rows
 absent_sealed [] key image e = refl
 absent_sealed (row ∷ rows) key image e =
     let parts = or_parts (same_key row.key key) (has_key (map key_of rows) key) e in

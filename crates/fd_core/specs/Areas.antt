@@ -12,7 +12,7 @@ pub record AreaOf : Type 0 where
   pub bytes : List ℕ
 
 -- a component: its areas, the number of the one that runs, and that of the one that was applied
-pub record PlaceOf : Type 0 where
+pub record ComponentAreasOf : Type 0 where
   pub key : Key
   pub areas : List AreaOf
   pub active : ℕ
@@ -49,61 +49,61 @@ abbrev pub image_at : List AreaOf → ℕ → ImageOf
 image_at areas n = image_by (area_at areas n)
 
 -- what a component stands for, and which areas it uses
-abbrev pub row_by : PlaceOf → RowOf
+abbrev pub row_by : ComponentAreasOf → RowOf
 row_by p = record { key = p.key; active = image_at p.areas p.active; applied = option_map (image_at p.areas) p.applied }
 
-abbrev pub numbers_by : PlaceOf → NumbersOf
+abbrev pub numbers_by : ComponentAreasOf → NumbersOf
 numbers_by p = record { key = p.key; active = p.active; applied = p.applied }
 
 -- the area that is written
-abbrev pub spare_of : PlaceOf → ℕ
+abbrev pub spare_of : ComponentAreasOf → ℕ
 spare_of p = spare p.active p.applied
 
-abbrev pub written : PlaceOf → AreaOf
-written p = area_at p.areas (spare_of p)
+abbrev pub written_area : ComponentAreasOf → AreaOf
+written_area p = area_at p.areas (spare_of p)
 
-abbrev pub with_written : PlaceOf → AreaOf → PlaceOf
+abbrev pub with_written : ComponentAreasOf → AreaOf → ComponentAreasOf
 with_written p a = record p { areas = set p.areas (spare_of p) a }
 
 -- what the calls of a bank make of a component
-abbrev pub rewritten : (AreaOf → AreaOf) → PlaceOf → PlaceOf
-rewritten change p = with_written p (change (written p))
+abbrev pub place_after_write : (AreaOf → AreaOf) → ComponentAreasOf → ComponentAreasOf
+place_after_write change p = with_written p (change (written_area p))
 
-abbrev pub fresh : ℕ → LabelOf → AreaOf → AreaOf
-fresh size label a = record { label = label; size = size; bytes = [] }
+abbrev pub new_area : ℕ → LabelOf → AreaOf → AreaOf
+new_area size label a = record { label = label; size = size; bytes = [] }
 
-abbrev pub longer : List ℕ → AreaOf → AreaOf
-longer piece a = record a { bytes = a.bytes ++ piece }
+abbrev pub area_with_bytes : List ℕ → AreaOf → AreaOf
+area_with_bytes piece a = record a { bytes = a.bytes ++ piece }
 
-abbrev pub begun : ℕ → LabelOf → PlaceOf → PlaceOf
-begun size label = rewritten (fresh size label)
+abbrev pub place_after_begin : ℕ → LabelOf → ComponentAreasOf → ComponentAreasOf
+place_after_begin size label = place_after_write (new_area size label)
 
-abbrev pub appended : List ℕ → PlaceOf → PlaceOf
-appended piece = rewritten (longer piece)
+abbrev pub place_after_put : List ℕ → ComponentAreasOf → ComponentAreasOf
+place_after_put piece = place_after_write (area_with_bytes piece)
 
-abbrev pub applied_spare : PlaceOf → PlaceOf
+abbrev pub applied_spare : ComponentAreasOf → ComponentAreasOf
 applied_spare p = record p { applied = Some (spare_of p) }
 
-abbrev pub activated_to : PlaceOf → Option ℕ → PlaceOf
+abbrev pub activated_to : ComponentAreasOf → Option ℕ → ComponentAreasOf
 activated_to p None = p
 activated_to p (Some n) = record p { active = n; applied = None }
 
-abbrev pub activated : PlaceOf → PlaceOf
-activated p = activated_to p p.applied
+abbrev pub place_after_switch : ComponentAreasOf → ComponentAreasOf
+place_after_switch p = activated_to p p.applied
 
-abbrev pub forgotten : PlaceOf → PlaceOf
-forgotten p = record p { applied = None }
+abbrev pub place_after_drop : ComponentAreasOf → ComponentAreasOf
+place_after_drop p = record p { applied = None }
 
 -- a change of one component
-abbrev pub changed_if : Bool → (PlaceOf → PlaceOf) → PlaceOf → PlaceOf
+abbrev pub changed_if : Bool → (ComponentAreasOf → ComponentAreasOf) → ComponentAreasOf → ComponentAreasOf
 changed_if true f p = f p
 changed_if false f p = p
 
-abbrev pub changed : (PlaceOf → PlaceOf) → Key → List PlaceOf → List PlaceOf
-changed f key places = map (λ p. changed_if (same_key p.key key) f p) places
+abbrev pub places_with : (ComponentAreasOf → ComponentAreasOf) → Key → List ComponentAreasOf → List ComponentAreasOf
+places_with f key places = map (λ p. changed_if (same_key p.key key) f p) places
 
 -- the component of a key, if it is there
-abbrev pub place_for : List PlaceOf → Key → Option PlaceOf
+abbrev pub place_for : List ComponentAreasOf → Key → Option ComponentAreasOf
 place_for [] key = None
 place_for (p ∷ places) key = if same_key p.key key then Some p else place_for places key
 
@@ -111,10 +111,10 @@ place_for (p ∷ places) key = if same_key p.key key then Some p else place_for 
 abbrev pub stage_of : Key → AreaOf → StageOf
 stage_of key a = record { key = key; size = a.size; label = a.label; bytes = a.bytes }
 
-abbrev pub stage_by : Key → PlaceOf → StageOf
-stage_by key p = stage_of key (written p)
+abbrev pub stage_by : Key → ComponentAreasOf → StageOf
+stage_by key p = stage_of key (written_area p)
 
-abbrev pub stage_in : List PlaceOf → Option Key → Option StageOf
+abbrev pub stage_in : List ComponentAreasOf → Option Key → Option StageOf
 stage_in places None = None
 stage_in places (Some key) = option_map (stage_by key) (place_for places key)
 
@@ -155,12 +155,12 @@ pub record BankOf : Type 0 where
   pub faults : ℕ
   pub areas : List NumbersOf
 
-abbrev pub bank_by : List PlaceOf → Option Key → ℕ → BankOf
+abbrev pub bank_by : List ComponentAreasOf → Option Key → ℕ → BankOf
 bank_by places staged faults =
     record { rows = map row_by places; stage = stage_in places staged; faults = faults; areas = map numbers_by places }
 
 -- a place that stands where there is none
-abbrev pub no_place : PlaceOf
+abbrev pub no_place : ComponentAreasOf
 no_place = record { key = record { classification = 0; identifier = 0 }; areas = []; active = 0; applied = None }
 
 -- what never changes: the component, and how many areas it has
@@ -168,7 +168,7 @@ pub record ShapeOf : Type 0 where
   pub key : Key
   pub areas : ℕ
 
-abbrev pub shape_of : PlaceOf → ShapeOf
+abbrev pub shape_of : ComponentAreasOf → ShapeOf
 shape_of p = record { key = p.key; areas = length p.areas }
 
 -- no key stands twice, and each component has three areas

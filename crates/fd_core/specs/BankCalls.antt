@@ -5,7 +5,7 @@ use Rattle.std.specs.Prelude.{◌≡◌, ◌≢◌, Bool, Option, false, length,
 use Rattle.fd_core.specs.Commands.{OfferRow, device_take, may_activate, offer_row}
 use Rattle.fd_core.specs.States.{DeviceState, Phase}
 use Rattle.fd_core.specs.Steps.{device_verdict}
-use Rattle.fd_core.specs.Wishes.{LearnRow, asked_length, download_row, learn_at}
+use Rattle.fd_core.specs.Wishes.{DeviceLearnRow, asked_length, download_row, learn_at}
 use Rattle.fd_core.specs.declared.states.Progress.TheVariants as progress
 use Rattle.fd_core.specs.declared.states.Verdict.{Verdict}
 use Rattle.fd_core.specs.declared.states.Verdict.TheVariants as verdicts
@@ -23,8 +23,8 @@ command_calls_bank v (CommandOf.ActivateFirmware self_contained) quiet = may_act
 command_calls_bank v c quiet = false
 
 -- the row of an answer that has the bytes that were asked for puts them
-abbrev pub puts_piece : LearnRow → Bool
-puts_piece (LearnRow.PutPiece bytes) = true
+abbrev pub puts_piece : DeviceLearnRow → Bool
+puts_piece (DeviceLearnRow.PutPiece bytes) = true
 puts_piece row = false
 
 -- whether learning an answer calls the bank: only in DOWNLOAD

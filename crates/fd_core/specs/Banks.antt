@@ -8,10 +8,10 @@ has_key [] key = false
 has_key (k ∷ ks) key = same_key k key || has_key ks key
 
 -- no key stands twice
-abbrev pub AreApart : List Key → Type 0
-AreApart [] = Unit {0}
-AreApart (k ∷ ks) = (has_key ks k ≡ false) × AreApart ks
+abbrev pub HaveKeysOnce : List Key → Type 0
+HaveKeysOnce [] = Unit {0}
+HaveKeysOnce (k ∷ ks) = (has_key ks k ≡ false) × HaveKeysOnce ks
 
 -- a call failed: the count of failures rose by one, or stays at its last value
-abbrev pub Rose : ℕ → ℕ → Type 0
-Rose old new = (new ≡ old + 1) ⊎ ((old ≡ 2 ^ 64 - 1) × (new ≡ old))
+abbrev pub CountsFailure : ℕ → ℕ → Type 0
+CountsFailure old new = (new ≡ old + 1) ⊎ ((old ≡ 2 ^ 64 - 1) × (new ≡ old))

@@ -38,8 +38,8 @@ abbrev pub not_supported : ℕ
 not_supported = 6
 
 -- results of TransferComplete, VerifyComplete and ApplyComplete
-abbrev pub succeeded : ℕ
-succeeded = 0
+abbrev pub result_success : ℕ
+result_success = 0
 
 abbrev pub transfer_failed : ℕ
 transfer_failed = 0x70

@@ -5,9 +5,9 @@ use Rattle.std.specs.Prelude.{[], ◌&&◌, ◌≡◌, ◌+◌, ◌++◌, ◌==�
 use Rattle.mctp_wire.specs.declared.unit.Unit.TheVariants.{U64}
 use Rattle.pldm_base.specs.Limits.{reply_limit}
 use Rattle.fd_core.specs.Codes.{activation_not_required, already_in_update_mode, application_failed, can_be_updated, cannot_be_updated, incomplete_update, invalid_state_for_command, longest_image, most_components, no_restriction, no_stamp, not_in_update_mode, not_supported, progress_unsupported, stamp_identical, stamp_lower, transfer_failed, verification_failed}
-use Rattle.fd_core.specs.Images.{Put, RowOf, applied_of, active_of, dropped, label_of, puts, row_of, same_key, switched, version_at}
-use Rattle.fd_core.specs.States.{DeviceState, DeviceOf, Phase, UpdateOf, WorkOf, moved, reset, rested, state_of}
-use Rattle.fd_core.specs.declared.parts.Component.{Component}
+use Rattle.fd_core.specs.Images.{KeyedImage, RowOf, applied_of, active_of, rows_after_drop, label_of, applied_keyed_images, row_of, same_key, rows_after_switch, version_at}
+use Rattle.fd_core.specs.States.{DeviceState, DeviceOf, Phase, UpdateOf, WorkOf, device_in_phase, device_after_reset, idle_count_if, state_of}
+use Rattle.fd_core.specs.declared.parts.BankComponent.{BankComponent}
 use Rattle.fd_core.specs.declared.parts.Listed.{Listed}
 use Rattle.fd_core.specs.declared.states.Progress.{Progress}
 use Rattle.fd_core.specs.declared.states.Progress.TheVariants as progress
@@ -17,7 +17,7 @@ use Rattle.fd_core.specs.declared.states.State.{State}
 use Rattle.fd_core.specs.declared.states.State.TheVariants as states
 use Rattle.fwup_wire.specs.Answers.{answer_bytes}
 use Rattle.fwup_wire.specs.Fields.{flag_byte}
-use Rattle.fwup_wire.specs.Values.{AnswerOf, CommandOf, EntryOf, OfferOf, ParametersOf, RequestOf}
+use Rattle.fwup_wire.specs.Values.{AnswerOf, CommandOf, TableEntryOf, OfferOf, ParametersOf, UpdateRequestOf}
 use Rattle.fwup_wire.specs.declared.answer.OfferResponse.{OfferResponse}
 use Rattle.fwup_wire.specs.declared.answer.Status.{Status}
 use Rattle.fwup_wire.specs.declared.answer.TableResponse.{TableResponse}
@@ -29,22 +29,22 @@ use Rattle.pldm_base.specs.Codes.{error, invalid_data, not_ready, unsupported_co
 
 -- What a command does: the device after it, the answer, the images that it activates, and whether the count of ticks
 -- without a change begins anew.
-pub record Taken : Type 0 where
+pub record CommandEffect : Type 0 where
   pub after : DeviceState
   pub answer : AnswerOf
-  pub activated : List Put
+  pub activated : List KeyedImage
   pub stirs : Bool
 
 -- the device stays as it is, and refuses or tells something
-abbrev pub told : DeviceState → AnswerOf → Taken
-told v a = record { after = v; answer = a; activated = []; stirs = false }
+abbrev pub effect_of_answer : DeviceState → AnswerOf → CommandEffect
+effect_of_answer v a = record { after = v; answer = a; activated = []; stirs = false }
 
-abbrev pub refused : DeviceState → ℕ → Taken
-refused v code = told v (AnswerOf.Refused code)
+abbrev pub refused : DeviceState → ℕ → CommandEffect
+refused v code = effect_of_answer v (AnswerOf.Refused code)
 
 -- the device changes, and activates nothing
-abbrev pub done : DeviceState → AnswerOf → Taken
-done v a = record { after = v; answer = a; activated = []; stirs = true }
+abbrev pub effect_of_success : DeviceState → AnswerOf → CommandEffect
+effect_of_success v a = record { after = v; answer = a; activated = []; stirs = true }
 
 -- RequestUpdate
 
@@ -53,23 +53,23 @@ pub data RequestRow : Type 0 where
   BeginUpdate : RequestRow
 
 -- whether no update is like this: too few bytes at once, no component or too many
-abbrev pub is_odd_request : RequestOf → Bool
+abbrev pub is_odd_request : UpdateRequestOf → Bool
 is_odd_request r = nat_lt r.transfer_size MIN_TRANSFER || ((r.components == 0) || nat_lt most_components r.components)
 
-abbrev pub request_row : Phase → RequestOf → Bool → RequestRow
+abbrev pub request_row : Phase → UpdateRequestOf → Bool → RequestRow
 request_row Phase.Idle r false = RequestRow.RefuseRequest not_ready
 request_row Phase.Idle r true = if is_odd_request r then RequestRow.RefuseRequest invalid_data else RequestRow.BeginUpdate
 request_row p r quiet = RequestRow.RefuseRequest already_in_update_mode
 
-abbrev pub update_begun : RequestOf → UpdateOf
+abbrev pub update_begun : UpdateRequestOf → UpdateOf
 update_begun r = record { transfer_size = r.transfer_size; components = r.components; table = [] }
 
-abbrev pub request_by : DeviceState → RequestOf → RequestRow → Taken
+abbrev pub request_by : DeviceState → UpdateRequestOf → RequestRow → CommandEffect
 request_by v r (RequestRow.RefuseRequest code) = refused v code
 request_by v r RequestRow.BeginUpdate =
-    done (moved (record v { rows = dropped v.rows }) (Phase.Learn (update_begun r))) AnswerOf.RequestUpdate
+    effect_of_success (device_in_phase (record v { rows = rows_after_drop v.rows }) (Phase.Learn (update_begun r))) AnswerOf.RequestUpdate
 
-abbrev pub request_take : DeviceState → RequestOf → Bool → Taken
+abbrev pub request_take : DeviceState → UpdateRequestOf → Bool → CommandEffect
 request_take v r quiet = request_by v r (request_row v.phase r quiet)
 
 -- PassComponentTable
@@ -109,7 +109,7 @@ flag_at before count =
 abbrev pub is_flag : TransferFlag → TransferFlag → Bool
 is_flag a b = flag_byte a == flag_byte b
 
-abbrev pub table_row : List RowOf → Phase → EntryOf → TableRow
+abbrev pub table_row : List RowOf → Phase → TableEntryOf → TableRow
 table_row rows Phase.Idle e = TableRow.RefuseEntry not_in_update_mode
 table_row rows (Phase.Learn u) e =
     if not (is_flag e.flag (flag_at (length u.table) u.components)) || in_table u.table e.key
@@ -121,19 +121,19 @@ abbrev pub with_entry : UpdateOf → Key → ℕ → UpdateOf
 with_entry u key code = record u { table = u.table ++ record { key = key; code = code } ∷ [] }
 
 -- a device that knows of one more component, and is in READY XFER once it knows of all
-abbrev pub listed : DeviceState → UpdateOf → DeviceState
-listed v u = if length u.table == u.components then moved v (Phase.Ready u) else record v { phase = Phase.Learn u }
+abbrev pub device_with_table : DeviceState → UpdateOf → DeviceState
+device_with_table v u = if length u.table == u.components then device_in_phase v (Phase.Ready u) else record v { phase = Phase.Learn u }
 
 -- whether something stands against a component, and what
 abbrev pub table_response : ℕ → TableResponse
 table_response code = record { response = if code == no_restriction then can_be_updated else cannot_be_updated; code = code }
 
-abbrev pub table_by : DeviceState → EntryOf → TableRow → Taken
+abbrev pub table_by : DeviceState → TableEntryOf → TableRow → CommandEffect
 table_by v e (TableRow.RefuseEntry code) = refused v code
 table_by v e (TableRow.AddEntry u code) =
-    done (listed v (with_entry u e.key code)) (AnswerOf.PassComponentTable (table_response code))
+    effect_of_success (device_with_table v (with_entry u e.key code)) (AnswerOf.PassComponentTable (table_response code))
 
-abbrev pub table_take : DeviceState → EntryOf → Taken
+abbrev pub table_take : DeviceState → TableEntryOf → CommandEffect
 table_take v e = table_by v e (table_row v.rows v.phase e)
 
 -- UpdateComponent
@@ -178,14 +178,14 @@ declined code = record { compatibility = cannot_be_updated; code = code; force =
 abbrev pub taken_up : Bool → OfferResponse
 taken_up force = record { compatibility = can_be_updated; code = no_restriction; force = force; time = 0 }
 
-abbrev pub offer_by : DeviceState → OfferOf → OfferRow → Taken
+abbrev pub offer_by : DeviceState → OfferOf → OfferRow → CommandEffect
 offer_by v o (OfferRow.RefuseOffer code) = refused v code
-offer_by v o (OfferRow.DeclineOffer code) = told v (AnswerOf.UpdateComponent (declined code))
+offer_by v o (OfferRow.DeclineOffer code) = effect_of_answer v (AnswerOf.UpdateComponent (declined code))
 offer_by v o (OfferRow.BeginWork u) =
-    done (moved (record v { stage = [] }) (Phase.Download u (work_begun o) (download_progress 0 o.size)))
+    effect_of_success (device_in_phase (record v { stage = [] }) (Phase.Download u (work_begun o) (download_progress 0 o.size)))
     (AnswerOf.UpdateComponent (taken_up o.force))
 
-abbrev pub offer_take : DeviceState → OfferOf → Bool → Bool → Taken
+abbrev pub offer_take : DeviceState → OfferOf → Bool → Bool → CommandEffect
 offer_take v o quiet works = offer_by v o (offer_row v.rows v.phase o quiet works)
 
 -- CancelUpdateComponent
@@ -201,12 +201,12 @@ return_row (Phase.Verify u w p) = ReturnRow.ReturnReady u
 return_row (Phase.Apply u w p) = ReturnRow.ReturnReady u
 return_row p = ReturnRow.RefuseReturn invalid_state_for_command
 
-abbrev pub return_by : DeviceState → ReturnRow → Taken
+abbrev pub return_by : DeviceState → ReturnRow → CommandEffect
 return_by v (ReturnRow.RefuseReturn code) = refused v code
 return_by v (ReturnRow.ReturnReady u) =
-    done (moved (record v { stage = [] }) (Phase.Ready u)) AnswerOf.CancelUpdateComponent
+    effect_of_success (device_in_phase (record v { stage = [] }) (Phase.Ready u)) AnswerOf.CancelUpdateComponent
 
-abbrev pub return_take : DeviceState → Taken
+abbrev pub return_take : DeviceState → CommandEffect
 return_take v = return_by v (return_row v.phase)
 
 -- ActivateFirmware
@@ -219,35 +219,35 @@ abbrev pub is_applied : List RowOf → Key → Bool
 is_applied rows key = is_some (applied_of (row_of rows key))
 
 -- whether a component of the table that nothing stands against isn't applied
-abbrev pub lacks : List RowOf → List Listed → Bool
-lacks rows [] = false
-lacks rows (e ∷ es) = ((e.code == no_restriction) && not (is_applied rows e.key)) || lacks rows es
+abbrev pub lacks_listed : List RowOf → List Listed → Bool
+lacks_listed rows [] = false
+lacks_listed rows (e ∷ es) = ((e.code == no_restriction) && not (is_applied rows e.key)) || lacks_listed rows es
 
 -- whether one of the device's components is applied
-abbrev pub has_applied : List RowOf → List Component → Bool
+abbrev pub has_applied : List RowOf → List BankComponent → Bool
 has_applied rows [] = false
 has_applied rows (c ∷ cs) = is_applied rows c.key || has_applied rows cs
 
-abbrev pub switch_row : List Component → List RowOf → Phase → Bool → SwitchRow
+abbrev pub switch_row : List BankComponent → List RowOf → Phase → Bool → SwitchRow
 switch_row components rows Phase.Idle works = SwitchRow.RefuseSwitch not_in_update_mode
 switch_row components rows (Phase.Ready u) works =
-    if lacks rows u.table then SwitchRow.RefuseSwitch incomplete_update
+    if lacks_listed rows u.table then SwitchRow.RefuseSwitch incomplete_update
     else if not (has_applied rows components) then SwitchRow.RefuseSwitch activation_not_required
     else if works then SwitchRow.Switch
     else SwitchRow.RefuseSwitch error
 switch_row components rows p works = SwitchRow.RefuseSwitch invalid_state_for_command
 
-abbrev pub switch_by : DeviceState → SwitchRow → Taken
+abbrev pub switch_by : DeviceState → SwitchRow → CommandEffect
 switch_by v (SwitchRow.RefuseSwitch code) = refused v code
 switch_by v SwitchRow.Switch =
     record {
-      after = moved (record v { rows = switched v.rows; stage = [] }) Phase.Activated;
+      after = device_in_phase (record v { rows = rows_after_switch v.rows; stage = [] }) Phase.Activated;
       answer = AnswerOf.ActivateFirmware 0;
-      activated = puts v.rows;
+      activated = applied_keyed_images v.rows;
       stirs = true;
     }
 
-abbrev pub switch_take : DeviceState → Bool → Taken
+abbrev pub switch_take : DeviceState → Bool → CommandEffect
 switch_take v works = switch_by v (switch_row v.components v.rows v.phase works)
 
 -- whether ActivateFirmware activates now, where the bank's call works
@@ -269,16 +269,16 @@ cancel_row Phase.Idle = CancelRow.RefuseCancel not_in_update_mode
 cancel_row Phase.Activated = CancelRow.RefuseCancel invalid_state_for_command
 cancel_row p = CancelRow.Reset
 
-abbrev pub cancel_by : DeviceState → CancelRow → Taken
+abbrev pub cancel_by : DeviceState → CancelRow → CommandEffect
 cancel_by v (CancelRow.RefuseCancel code) = refused v code
-cancel_by v CancelRow.Reset = done (reset v reasons.Cancelled) AnswerOf.CancelUpdate
+cancel_by v CancelRow.Reset = effect_of_success (device_after_reset v reasons.Cancelled) AnswerOf.CancelUpdate
 
-abbrev pub cancel_take : DeviceState → Taken
+abbrev pub cancel_take : DeviceState → CommandEffect
 cancel_take v = cancel_by v (cancel_row v.phase)
 
 -- GetFirmwareParameters: the device's components in configured order, and what runs and is applied of each
 
-abbrev pub parameters_by : List RowOf → Component → ParametersOf
+abbrev pub parameters_by : List RowOf → BankComponent → ParametersOf
 parameters_by rows c =
     record {
       key = c.key;
@@ -287,7 +287,7 @@ parameters_by rows c =
       pending = version_at (applied_of (row_of rows c.key));
     }
 
-abbrev pub all_parameters : List RowOf → List Component → List ParametersOf
+abbrev pub all_parameters : List RowOf → List BankComponent → List ParametersOf
 all_parameters rows components = map (parameters_by rows) components
 
 -- GetStatus
@@ -353,11 +353,11 @@ status_of v =
     }
 
 -- The device takes a command. Those that a device asks itself it doesn't know.
-abbrev pub device_take : DeviceState → CommandOf → Bool → Bool → Taken
-device_take v CommandOf.QueryDeviceIdentifiers quiet works = told v (AnswerOf.QueryDeviceIdentifiers v.descriptors)
+abbrev pub device_take : DeviceState → CommandOf → Bool → Bool → CommandEffect
+device_take v CommandOf.QueryDeviceIdentifiers quiet works = effect_of_answer v (AnswerOf.QueryDeviceIdentifiers v.descriptors)
 device_take v CommandOf.GetFirmwareParameters quiet works =
-    told v (AnswerOf.GetFirmwareParameters (all_parameters v.rows v.components))
-device_take v CommandOf.GetStatus quiet works = told v (AnswerOf.GetStatus (status_of v))
+    effect_of_answer v (AnswerOf.GetFirmwareParameters (all_parameters v.rows v.components))
+device_take v CommandOf.GetStatus quiet works = effect_of_answer v (AnswerOf.GetStatus (status_of v))
 device_take v (CommandOf.RequestUpdate r) quiet works = request_take v r quiet
 device_take v (CommandOf.PassComponentTable e) quiet works = table_take v e
 device_take v (CommandOf.UpdateComponent o) quiet works = offer_take v o quiet works
@@ -373,20 +373,20 @@ device_after v c quiet works = (device_take v c quiet works).after
 abbrev pub device_answer : DeviceState → CommandOf → Bool → Bool → AnswerOf
 device_answer v c quiet works = (device_take v c quiet works).answer
 
-abbrev pub activated_by : DeviceState → CommandOf → Bool → Bool → List Put
+abbrev pub activated_by : DeviceState → CommandOf → Bool → Bool → List KeyedImage
 activated_by v c quiet works = (device_take v c quiet works).activated
 
 -- the ticks without a change after it
 abbrev pub idle_after : ℕ → DeviceState → CommandOf → Bool → Bool → ℕ
-idle_after idle v c quiet works = rested idle (device_take v c quiet works).stirs
+idle_after idle v c quiet works = idle_count_if idle (device_take v c quiet works).stirs
 
 -- an answer that fits a message at the smallest unit, and so at each
 abbrev pub IsShort : AnswerOf → Type 0
 IsShort a = length (answer_bytes a) ≤ reply_limit U64
 
 -- a device after what was done, and its answer
-abbrev pub IsTaken : DeviceOf → DeviceOf → AnswerOf → Taken → Type 0
-IsTaken old new answer t = (answer ≡ t.answer) × (new.device ≡ t.after) × (new.idle ≡ rested old.idle t.stirs)
+abbrev pub IsTaken : DeviceOf → DeviceOf → AnswerOf → CommandEffect → Type 0
+IsTaken old new answer t = (answer ≡ t.answer) × (new.device ≡ t.after) × (new.idle ≡ idle_count_if old.idle t.stirs)
 
 -- whether the bank's call worked, read off an answer: only a failing one gives this code
 abbrev pub answer_works : AnswerOf → Bool

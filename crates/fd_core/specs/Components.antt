@@ -1,6 +1,6 @@
 -- Which components a device and its bank have: nothing that happens to a device changes them.
 use Rattle.std.specs.Prelude.{◌≡◌, Bool, List, Option, map, true}
-use Rattle.fd_core.specs.Banks.{AreApart, has_key}
+use Rattle.fd_core.specs.Banks.{HaveKeysOnce, has_key}
 use Rattle.fd_core.specs.Commands.{device_after}
 use Rattle.fd_core.specs.Images.{key_of}
 use Rattle.fd_core.specs.States.{DeviceState, Phase}
@@ -20,7 +20,7 @@ IsOneOf keys p = Unit {0}
 -- The bank has the device's components, in the same order; no key stands twice; and what is being updated is one of them.
 pub record HasComponents (v : DeviceState) : Type 0 where
   pub keys : map key_of v.rows ≡ map (λ c. c.key) v.components
-  pub apart : AreApart (map key_of v.rows)
+  pub apart : HaveKeysOnce (map key_of v.rows)
   pub known : IsOneOf (map key_of v.rows) v.phase
 
 abbrev pub CommandsKeepComponents : Type 0

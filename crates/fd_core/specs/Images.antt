@@ -28,7 +28,7 @@ pub record StageOf : Type 0 where
   pub bytes : List ℕ
 
 -- an image that was applied or activated, by the component that it is of
-pub record Put : Type 0 where
+pub record KeyedImage : Type 0 where
   pub key : Key
   pub bytes : List ℕ
 
@@ -53,30 +53,30 @@ applied_of None = None
 applied_of (Some row) = row.applied
 
 -- nothing is applied
-abbrev pub unapplied : RowOf → RowOf
-unapplied row = record row { applied = None }
+abbrev pub row_without_applied : RowOf → RowOf
+row_without_applied row = record row { applied = None }
 
-abbrev pub dropped : List RowOf → List RowOf
-dropped rows = map unapplied rows
+abbrev pub rows_after_drop : List RowOf → List RowOf
+rows_after_drop rows = map row_without_applied rows
 
 -- the image is applied for its key
 abbrev pub sealed_if : Bool → RowOf → ImageOf → RowOf
 sealed_if true row image = record row { applied = Some image }
 sealed_if false row image = row
 
-abbrev pub sealed : List RowOf → Key → ImageOf → List RowOf
-sealed rows key image = map (λ row. sealed_if (same_key row.key key) row image) rows
+abbrev pub rows_after_seal : List RowOf → Key → ImageOf → List RowOf
+rows_after_seal rows key image = map (λ row. sealed_if (same_key row.key key) row image) rows
 
 -- what is applied runs, and nothing is applied
-abbrev pub turned_to : RowOf → Option ImageOf → RowOf
-turned_to row None = row
-turned_to row (Some image) = record { key = row.key; active = image; applied = None }
+abbrev pub row_after_switch_to : RowOf → Option ImageOf → RowOf
+row_after_switch_to row None = row
+row_after_switch_to row (Some image) = record { key = row.key; active = image; applied = None }
 
-abbrev pub turned : RowOf → RowOf
-turned row = turned_to row row.applied
+abbrev pub row_after_switch : RowOf → RowOf
+row_after_switch row = row_after_switch_to row row.applied
 
-abbrev pub switched : List RowOf → List RowOf
-switched rows = map turned rows
+abbrev pub rows_after_switch : List RowOf → List RowOf
+rows_after_switch rows = map row_after_switch rows
 
 -- the bytes of a stage, none where there is no stage
 abbrev pub staged_bytes : Option StageOf → List ℕ
@@ -95,7 +95,7 @@ image_in s = record { label = s.label; bytes = s.bytes }
 -- the components with the image of a stage applied
 abbrev pub sealed_by : List RowOf → Option StageOf → List RowOf
 sealed_by rows None = rows
-sealed_by rows (Some s) = sealed rows s.key (image_in s)
+sealed_by rows (Some s) = rows_after_seal rows s.key (image_in s)
 
 -- what is kept of a version: the text's first bytes
 abbrev pub label_of : VersionOf → LabelOf
@@ -111,19 +111,19 @@ version_at None = record { stamp = 0; text = record { text_type = 0; bytes = [] 
 version_at (Some image) = version_by image.label
 
 -- whether one key stands before another
-abbrev pub rises : Key → Key → Bool
-rises a b = if a.classification == b.classification then nat_lt a.identifier b.identifier else nat_lt a.classification b.classification
+abbrev pub is_key_before : Key → Key → Bool
+is_key_before a b = if a.classification == b.classification then nat_lt a.identifier b.identifier else nat_lt a.classification b.classification
 
 -- an image among others, by rising key
-abbrev pub put_among : Put → List Put → List Put
-put_among p [] = p ∷ []
-put_among p (q ∷ ps) = if rises q.key p.key then q ∷ put_among p ps else p ∷ q ∷ ps
+abbrev pub images_with : KeyedImage → List KeyedImage → List KeyedImage
+images_with p [] = p ∷ []
+images_with p (q ∷ ps) = if is_key_before q.key p.key then q ∷ images_with p ps else p ∷ q ∷ ps
 
-abbrev pub put_applied : Key → Option ImageOf → List Put → List Put
-put_applied key None ps = ps
-put_applied key (Some image) ps = put_among (record { key = key; bytes = image.bytes }) ps
+abbrev pub images_with_applied : Key → Option ImageOf → List KeyedImage → List KeyedImage
+images_with_applied key None ps = ps
+images_with_applied key (Some image) ps = images_with (record { key = key; bytes = image.bytes }) ps
 
 -- the images that are applied, by rising key
-abbrev pub puts : List RowOf → List Put
-puts [] = []
-puts (row ∷ rows) = put_applied row.key row.applied (puts rows)
+abbrev pub applied_keyed_images : List RowOf → List KeyedImage
+applied_keyed_images [] = []
+applied_keyed_images (row ∷ rows) = images_with_applied row.key row.applied (applied_keyed_images rows)

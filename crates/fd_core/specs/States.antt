@@ -1,8 +1,8 @@
 -- What a device stands for (DSP0267 1.0, "Firmware device state machine").
 use Rattle.std.specs.Prelude.{[], ◌≡◌, Bool, List, Option, None, Some, if◌then◌else◌, ℕ}
 use Rattle.mctp_wire.specs.declared.unit.Unit.{«Unit»}
-use Rattle.fd_core.specs.Images.{LabelOf, RowOf, dropped}
-use Rattle.fd_core.specs.declared.parts.Component.{Component}
+use Rattle.fd_core.specs.Images.{LabelOf, RowOf, rows_after_drop}
+use Rattle.fd_core.specs.declared.parts.BankComponent.{BankComponent}
 use Rattle.fd_core.specs.declared.parts.Listed.{Listed}
 use Rattle.fd_core.specs.declared.states.Progress.{Progress}
 use Rattle.fd_core.specs.declared.states.Progress.TheVariants as progress
@@ -10,7 +10,7 @@ use Rattle.fd_core.specs.declared.states.Reason.{Reason}
 use Rattle.fd_core.specs.declared.states.Reason.TheVariants as reasons
 use Rattle.fd_core.specs.declared.states.State.{State}
 use Rattle.fd_core.specs.declared.states.State.TheVariants as states
-use Rattle.fwup_wire.specs.Values.{DescriptorOf}
+use Rattle.fwup_wire.specs.Values.{DeviceDescriptorOf}
 use Rattle.fwup_wire.specs.declared.values.Key.{Key}
 
 -- what stands from LEARN COMPONENTS to APPLY: what RequestUpdate said, and the components passed so far
@@ -39,8 +39,8 @@ pub data Phase : Type 0 where
 -- A device: its network's transmission unit, what it is configured with, its images, the bytes of the image that is being written, and where it is.
 pub record DeviceState : Type 0 where
   pub unit : «Unit»
-  pub descriptors : List DescriptorOf
-  pub components : List Component
+  pub descriptors : List DeviceDescriptorOf
+  pub components : List BankComponent
   pub rows : List RowOf
   pub stage : List ℕ
   pub phase : Phase
@@ -84,19 +84,19 @@ IsWhole (Phase.Apply u w progress.InProgress) have = have ≡ w.size
 IsWhole p have = Prim.Unit {0}
 
 -- a device in another state
-abbrev pub moved : DeviceState → Phase → DeviceState
-moved v p = record v { phase = p; previous = state_of v.phase }
+abbrev pub device_in_phase : DeviceState → Phase → DeviceState
+device_in_phase v p = record v { phase = p; previous = state_of v.phase }
 
 -- a device that is idle again: what was applied is dropped
-abbrev pub reset : DeviceState → Reason → DeviceState
-reset v why = record (moved v Phase.Idle) { reason = why; rows = dropped v.rows; stage = [] }
+abbrev pub device_after_reset : DeviceState → Reason → DeviceState
+device_after_reset v why = record (device_in_phase v Phase.Idle) { reason = why; rows = rows_after_drop v.rows; stage = [] }
 
 -- the count of ticks after something that sets it to 0, or doesn't
-abbrev pub rested : ℕ → Bool → ℕ
-rested idle stirs = if stirs then 0 else idle
+abbrev pub idle_count_if : ℕ → Bool → ℕ
+idle_count_if idle stirs = if stirs then 0 else idle
 
 -- a device as it is configured
-abbrev pub new_device : «Unit» → List DescriptorOf → List Component → List RowOf → DeviceState
+abbrev pub new_device : «Unit» → List DeviceDescriptorOf → List BankComponent → List RowOf → DeviceState
 new_device unit descriptors components rows =
     record {
       unit = unit;

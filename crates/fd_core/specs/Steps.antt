@@ -1,8 +1,8 @@
 -- What else happens to a device: verdicts on an image, ticks and restarts.
 use Rattle.std.specs.Prelude.{[], ◌+◌, ◌∷◌, Bool, List, None, Option, Some, false, if◌then◌else◌, nat_lt, true, ℕ}
 use Rattle.fd_core.specs.Codes.{patience}
-use Rattle.fd_core.specs.Images.{ImageOf, Put, sealed}
-use Rattle.fd_core.specs.States.{DeviceState, Phase, UpdateOf, WorkOf, reset}
+use Rattle.fd_core.specs.Images.{ImageOf, KeyedImage, rows_after_seal}
+use Rattle.fd_core.specs.States.{DeviceState, Phase, UpdateOf, WorkOf, device_after_reset}
 use Rattle.fd_core.specs.declared.states.Progress.TheVariants as progress
 use Rattle.fd_core.specs.declared.states.Reason.{Reason}
 use Rattle.fd_core.specs.declared.states.Reason.TheVariants as reasons
@@ -11,52 +11,52 @@ use Rattle.fd_core.specs.declared.states.Verdict.{Verdict}
 use Rattle.fd_core.specs.declared.states.Verdict.TheVariants as verdicts
 
 -- What a verdict does: the device after it, and the image that it applies.
-pub record Judged : Type 0 where
+pub record VerdictEffect : Type 0 where
   pub after : DeviceState
-  pub applied : List Put
+  pub applied : List KeyedImage
 
-abbrev pub judged : DeviceState → Phase → Option Judged
-judged v p = Some (record { after = record v { phase = p }; applied = [] })
+abbrev pub verdict_effect : DeviceState → Phase → Option VerdictEffect
+verdict_effect v p = Some (record { after = record v { phase = p }; applied = [] })
 
 -- the image that was written, under the label that it was offered with
 abbrev pub written_image : DeviceState → WorkOf → ImageOf
 written_image v w = record { label = w.label; bytes = v.stage }
 
-abbrev pub apply_judged : DeviceState → UpdateOf → WorkOf → Bool → Judged
+abbrev pub apply_judged : DeviceState → UpdateOf → WorkOf → Bool → VerdictEffect
 apply_judged v u w true =
     record {
-      after = record v { rows = sealed v.rows w.key (written_image v w); stage = []; phase = Phase.Apply u w progress.Succeeded };
+      after = record v { rows = rows_after_seal v.rows w.key (written_image v w); stage = []; phase = Phase.Apply u w progress.Succeeded };
       applied = record { key = w.key; bytes = v.stage } ∷ [];
     }
 apply_judged v u w false = record { after = record v { phase = Phase.Apply u w (progress.Failed false) }; applied = [] }
 
 -- A verdict counts in its state while that is in progress, and nowhere else.
-abbrev pub verdict_at : DeviceState → Phase → Verdict → Bool → Option Judged
-verdict_at v (Phase.Verify u w progress.InProgress) verdicts.VerifyOk works = judged v (Phase.Verify u w progress.Succeeded)
+abbrev pub verdict_at : DeviceState → Phase → Verdict → Bool → Option VerdictEffect
+verdict_at v (Phase.Verify u w progress.InProgress) verdicts.VerifyOk works = verdict_effect v (Phase.Verify u w progress.Succeeded)
 verdict_at v (Phase.Verify u w progress.InProgress) verdicts.VerifyFail works =
-    judged v (Phase.Verify u w (progress.Failed false))
+    verdict_effect v (Phase.Verify u w (progress.Failed false))
 verdict_at v (Phase.Apply u w progress.InProgress) verdicts.ApplyOk works = Some (apply_judged v u w works)
 verdict_at v (Phase.Apply u w progress.InProgress) verdicts.ApplyFail works =
-    judged v (Phase.Apply u w (progress.Failed false))
+    verdict_effect v (Phase.Apply u w (progress.Failed false))
 verdict_at v p verdict works = None
 
-abbrev pub device_verdict : DeviceState → Verdict → Bool → Option Judged
+abbrev pub device_verdict : DeviceState → Verdict → Bool → Option VerdictEffect
 device_verdict v verdict works = verdict_at v v.phase verdict works
 
 -- the device after it, which is the same where the verdict doesn't count, and what it applies
-abbrev pub judged_or : DeviceState → Option Judged → DeviceState
+abbrev pub judged_or : DeviceState → Option VerdictEffect → DeviceState
 judged_or v None = v
 judged_or v (Some j) = j.after
 
 abbrev pub verdict_after : DeviceState → Verdict → Bool → DeviceState
 verdict_after v verdict works = judged_or v (device_verdict v verdict works)
 
-abbrev pub puts_of : Option Judged → List Put
-puts_of None = []
-puts_of (Some j) = j.applied
+abbrev pub images_of_verdict : Option VerdictEffect → List KeyedImage
+images_of_verdict None = []
+images_of_verdict (Some j) = j.applied
 
-abbrev pub applied_by : DeviceState → Verdict → Bool → List Put
-applied_by v verdict works = puts_of (device_verdict v verdict works)
+abbrev pub applied_by : DeviceState → Verdict → Bool → List KeyedImage
+applied_by v verdict works = images_of_verdict (device_verdict v verdict works)
 
 -- why a device that waited too long is idle again; after an activation the next tick leads there
 abbrev pub timeout_reason : Phase → Reason
@@ -69,7 +69,7 @@ timeout_reason (Phase.Apply u w p) = reasons.TimeOutInApply
 timeout_reason Phase.Activated = reasons.Activation
 
 abbrev pub device_timeout : DeviceState → DeviceState
-device_timeout v = reset v (timeout_reason v.phase)
+device_timeout v = device_after_reset v (timeout_reason v.phase)
 
 -- whether a tick may change the device: it isn't idle
 abbrev pub times_out : Phase → Bool
@@ -87,4 +87,4 @@ device_tick v idle = tick_at v.phase v idle
 
 -- what a restart leaves: the images that run
 abbrev pub device_restart : DeviceState → DeviceState
-device_restart v = record (reset v reasons.Initialization) { previous = states.Idle }
+device_restart v = record (device_after_reset v reasons.Initialization) { previous = states.Idle }

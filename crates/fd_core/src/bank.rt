@@ -1,9 +1,9 @@
 //! Where a device keeps its images.
 
 ghost use Rattle.std.specs.Prelude.{◌≡◌, ◌+◌, ◌≤◌, [], List, None, ℕ, length, Option, Some, IsSome, IsSomeAnd, OnOk, OnErr, is_some, option_map};
-ghost use Rattle.fd_core.specs.Banks.{Rose};
+ghost use Rattle.fd_core.specs.Banks.{CountsFailure};
 ghost use Rattle.fd_core.specs.Codes.{longest_image};
-ghost use Rattle.fd_core.specs.Images.{RowOf, StageOf, active_of, applied_of, dropped, row_of, sealed_by, staged_with, switched};
+ghost use Rattle.fd_core.specs.Images.{RowOf, StageOf, active_of, applied_of, rows_after_drop, row_of, sealed_by, staged_with, rows_after_switch};
 
 use crate::labels::Label;
 use fwup_wire::Key;
@@ -51,7 +51,7 @@ pub trait Bank {
         ensures ok { OnOk result (stage self.new ≡ Some (record { key = key; size = size; label = label.now; bytes = [] })) }
         ensures kept { OnErr result (stage self.new ≡ stage self.old) }
         ensures worked { OnOk result (faults self.new ≡ faults self.old) }
-        ensures failed { OnErr result (Rose (faults self.old) (faults self.new)) };
+        ensures failed { OnErr result (CountsFailure (faults self.old) (faults self.new)) };
 
     /// Appends to the stage.
     fn put(&mut self, piece: &[u8]) -> Result<(), BankFault>
@@ -60,7 +60,7 @@ pub trait Bank {
         ensures ok { OnOk result (stage self.new ≡ staged_with (stage self.old) piece.now) }
         ensures kept { OnErr result (stage self.new ≡ stage self.old) }
         ensures worked { OnOk result (faults self.new ≡ faults self.old) }
-        ensures failed { OnErr result (Rose (faults self.old) (faults self.new)) };
+        ensures failed { OnErr result (CountsFailure (faults self.old) (faults self.new)) };
 
     /// The full stage becomes the image that is applied for its component.
     fn seal(&mut self) -> Result<(), BankFault>
@@ -68,18 +68,18 @@ pub trait Bank {
         ensures ok { OnOk result ((rows self.new ≡ sealed_by (rows self.old) (stage self.old)) × (stage self.new ≡ None)) }
         ensures kept { OnErr result ((rows self.new ≡ rows self.old) × (stage self.new ≡ stage self.old)) }
         ensures worked { OnOk result (faults self.new ≡ faults self.old) }
-        ensures failed { OnErr result (Rose (faults self.old) (faults self.new)) };
+        ensures failed { OnErr result (CountsFailure (faults self.old) (faults self.new)) };
 
     /// All applied images run, and nothing is applied or staged: wholly or not at all.
     fn switch(&mut self) -> Result<(), BankFault>
-        ensures ok { OnOk result ((rows self.new ≡ switched (rows self.old)) × (stage self.new ≡ None)) }
+        ensures ok { OnOk result ((rows self.new ≡ rows_after_switch (rows self.old)) × (stage self.new ≡ None)) }
         ensures kept { OnErr result ((rows self.new ≡ rows self.old) × (stage self.new ≡ stage self.old)) }
         ensures worked { OnOk result (faults self.new ≡ faults self.old) }
-        ensures failed { OnErr result (Rose (faults self.old) (faults self.new)) };
+        ensures failed { OnErr result (CountsFailure (faults self.old) (faults self.new)) };
 
     /// Nothing is applied or staged.
     fn drop_pending(&mut self)
-        ensures rows { rows self.new ≡ dropped (rows self.old) }
+        ensures rows { rows self.new ≡ rows_after_drop (rows self.old) }
         ensures stage { stage self.new ≡ None }
         ensures faults { faults self.new ≡ faults self.old };
 

@@ -1,9 +1,9 @@
 //! A device over a bank.
 
 ghost use Rattle.std.specs.Prelude.{◌≡◌, ◌≢◌, ◌<◌, ◌≤◌, OnErr, OnOk, Some, is_ok, is_some, map, not, length, true, false};
-ghost use Rattle.fd_core.specs.Banks.{Rose};
+ghost use Rattle.fd_core.specs.Banks.{CountsFailure};
 ghost use Rattle.fd_core.specs.Commands.{bytes_work, device_after, device_answer, idle_after};
-ghost use Rattle.fd_core.specs.States.{DeviceOf, IsWhole, new_device, progress_of, reset, rested, staged_of, state_of};
+ghost use Rattle.fd_core.specs.States.{DeviceOf, IsWhole, new_device, progress_of, device_after_reset, idle_count_if, staged_of, state_of};
 ghost use Rattle.fd_core.specs.Steps.{device_restart, device_tick, device_verdict, verdict_after};
 ghost use Rattle.fd_core.specs.Wishes.{has_failed};
 ghost use Rattle.fd_core.specs.declared.states.Verdict.TheVariants.{ApplyOk};
@@ -16,7 +16,7 @@ ghost use Rattle.fd_core.specs.Images.{key_of};
 
 use crate::bank::Bank;
 use crate::labels::Label;
-use crate::parts::{Component, Course, MAX_COMPONENTS, NO_KEY, Update, Work};
+use crate::parts::{BankComponent, Course, MAX_COMPONENTS, NO_KEY, Update, Work};
 use crate::states::{NotNow, Progress, Reason, State, Verdict};
 use arrayvec::ArrayVec;
 use fwup_wire::{Answer, Command, DescriptorList, Key, write_answer};
@@ -46,7 +46,7 @@ pub struct Device<B: Bank> {
     /// What identifies the device; it never changes.
     descriptors: DescriptorList,
     /// The components that it has; they never change.
-    components: ArrayVec<Component, MAX_COMPONENTS>,
+    components: ArrayVec<BankComponent, MAX_COMPONENTS>,
     /// Where their images are kept. Its stage counts in DOWNLOAD, VERIFY and APPLY.
     bank: B,
     /// The state, how the device came there, and the ticks without a change.
@@ -88,7 +88,7 @@ impl<B: Bank> Device<B> {
     pub fn new(
         unit: Unit,
         descriptors: DescriptorList,
-        components: ArrayVec<Component, MAX_COMPONENTS>,
+        components: ArrayVec<BankComponent, MAX_COMPONENTS>,
         bank: B,
     ) -> Device<B>
         requires { map key_of (B.rows bank) ≡ map (λ c. c.key) components.items }
@@ -160,7 +160,7 @@ impl<B: Bank> Device<B> {
     }
 
     /// The keys of the device's components, in configured order, each with its index.
-    pub fn keys(&self) -> &[Component]
+    pub fn keys(&self) -> &[BankComponent]
         ensures keys { result.now ≡ self.now.device.components }
         ensures few { length result.now ≤ 3 }
     {
@@ -180,7 +180,7 @@ impl<B: Bank> Device<B> {
         ensures after { self.new.device ≡ device_after self.old.device (command_of command.now) quiet (bytes_work result.items) }
         ensures idle { self.new.idle ≡ idle_after self.old.idle self.old.device (command_of command.now) quiet (bytes_work result.items) }
         ensures worked { bytes_work result.items ≡ true → self.new.faults ≡ self.old.faults }
-        ensures failed { bytes_work result.items ≡ false → Rose self.old.faults self.new.faults }
+        ensures failed { bytes_work result.items ≡ false → CountsFailure self.old.faults self.new.faults }
     {
         match command {
             Command::QueryDeviceIdentifiers => {
@@ -212,10 +212,10 @@ impl<B: Bank> Device<B> {
     pub fn verdict(&mut self, verdict: Verdict) -> Result<(), NotNow>
         ensures counts { is_ok result ≡ is_some (device_verdict self.old.device verdict (not (has_failed self.new.device.phase))) }
         ensures after { self.new.device ≡ verdict_after self.old.device verdict (not (has_failed self.new.device.phase)) }
-        ensures idle { self.new.idle ≡ rested self.old.idle (is_ok result) }
+        ensures idle { self.new.idle ≡ idle_count_if self.old.idle (is_ok result) }
         ensures other { verdict ≢ ApplyOk → self.new.faults ≡ self.old.faults }
         ensures worked { has_failed self.new.device.phase ≡ false → self.new.faults ≡ self.old.faults }
-        ensures failed { OnOk result (verdict ≡ ApplyOk → has_failed self.new.device.phase ≡ true → Rose self.old.faults self.new.faults) }
+        ensures failed { OnOk result (verdict ≡ ApplyOk → has_failed self.new.device.phase ≡ true → CountsFailure self.old.faults self.new.faults) }
         ensures kept { OnErr result (self.new ≡ self.old) }
     {
         match (self.course.state, self.course.progress, verdict) {
@@ -274,7 +274,7 @@ impl<B: Bank> Device<B> {
 
     /// Ends the update: what is applied is dropped, and the device is idle.
     fn end(&mut self, reason: Reason)
-        ensures device { self.new.device ≡ reset self.old.device reason }
+        ensures device { self.new.device ≡ device_after_reset self.old.device reason }
         ensures idle { self.new.idle ≡ 0 }
         ensures faults { self.new.faults ≡ self.old.faults }
     {

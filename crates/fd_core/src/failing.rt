@@ -1,7 +1,7 @@
 //! A bank that fails once, for tests of what a failure leads to.
 
 ghost use Rattle.std.specs.Prelude.{◌≡◌, ◌-◌, ◌==◌, Err, false, not, true};
-ghost use Rattle.fd_core.specs.Banks.{Rose};
+ghost use Rattle.fd_core.specs.Banks.{CountsFailure};
 
 use crate::bank::{Bank, BankFault};
 use crate::labels::Label;
@@ -45,7 +45,7 @@ impl FailBank {
         ensures bank { self.new.bank ≡ self.old.bank }
         ensures left { self.new.left ≡ self.old.left - 1 }
         ensures worked { result ≡ true → self.new.faults ≡ self.old.faults }
-        ensures failed { result ≡ false → Rose self.old.faults self.new.faults }
+        ensures failed { result ≡ false → CountsFailure self.old.faults self.new.faults }
     {
         let works = self.left != 1;
         self.left = self.left.saturating_sub(1);
@@ -60,7 +60,7 @@ impl FailBank {
         ensures result { result ≡ Err fault }
         ensures bank { self.new.bank ≡ self.old.bank }
         ensures left { self.new.left ≡ self.old.left }
-        ensures failed { Rose self.old.faults self.new.faults }
+        ensures failed { CountsFailure self.old.faults self.new.faults }
     {
         self.faults = self.faults.saturating_add(1);
         Err(fault)

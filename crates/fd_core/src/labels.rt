@@ -6,7 +6,7 @@ ghost use Rattle.fwup_wire.specs.Lent.{version_of};
 
 use arrayvec::ArrayVec;
 use fwup_wire::code::text_type;
-use fwup_wire::{Text, Version};
+use fwup_wire::{TypedText, Version};
 use std::marker::Model;
 
 /// The most bytes of a version text that are kept, so that the parameters of all components fit one answer.
@@ -86,7 +86,7 @@ impl Label {
     {
         Version {
             stamp: self.stamp,
-            text: Text {
+            text: TypedText {
                 text_type: self.text_type,
                 bytes: self.text.as_slice(),
             },

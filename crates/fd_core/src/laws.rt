@@ -2,17 +2,17 @@
 
 ghost use Rattle.std.specs.Prelude.{◌≡◌, List, map};
 ghost use Rattle.fd_core.specs.BankCalls.{AnswersDependOnCalls, CommandsDependOnCalls, VerdictsDependOnCalls};
-ghost use Rattle.fd_core.specs.Images.{ImageOf, RowOf, dropped, key_of, sealed, switched};
+ghost use Rattle.fd_core.specs.Images.{ImageOf, RowOf, rows_after_drop, key_of, rows_after_seal, rows_after_switch};
 ghost use Rattle.fd_core.specs.Components.{AnswersKeepComponents, CommandsKeepComponents, RestartsKeepComponents, TimeOutsKeepComponents, VerdictsKeepComponents};
-ghost use Rattle.fd_core.specs.Laws.{RefusalsActivateNothing, RefusalsKeepTheDevice, RefusalsStirNothing};
+ghost use Rattle.fd_core.specs.Laws.{RefusalsActivateNothing, RefusalsKeepTheDevice, RefusalsKeepDeviceIdle};
 ghost use Rattle.fwup_wire.specs.declared.values.Key.{Key};
 
 /// The components of a bank never change: what drops, seals and switches images keeps their keys and their order.
 #[tactic(auto, using(crate::proofs::Rows::keys_dropped, crate::proofs::Rows::keys_sealed, crate::proofs::Rows::keys_switched))]
 pub fn components_stay()
-    ensures dropped { (rows : List RowOf) → map key_of (dropped rows) ≡ map key_of rows }
-    ensures sealed { (rows : List RowOf) (key : Key) (image : ImageOf) → map key_of (sealed rows key image) ≡ map key_of rows }
-    ensures switched { (rows : List RowOf) → map key_of (switched rows) ≡ map key_of rows }
+    ensures dropped { (rows : List RowOf) → map key_of (rows_after_drop rows) ≡ map key_of rows }
+    ensures sealed { (rows : List RowOf) (key : Key) (image : ImageOf) → map key_of (rows_after_seal rows key image) ≡ map key_of rows }
+    ensures switched { (rows : List RowOf) → map key_of (rows_after_switch rows) ≡ map key_of rows }
 {}
 
 /// Nothing that happens to a device changes which components it and its bank have. What it updates is one of them.
@@ -29,7 +29,7 @@ pub fn devices_keep_components()
 pub fn refusals_change_nothing()
     ensures kept { RefusalsKeepTheDevice }
     ensures activated { RefusalsActivateNothing }
-    ensures idle { RefusalsStirNothing }
+    ensures idle { RefusalsKeepDeviceIdle }
 {}
 
 /// What a device does depends on whether its bank works exactly where it calls the bank: at a command, at an answer, and

@@ -19,5 +19,5 @@ pub use laws::{
     bank_calls_decide, components_stay, devices_keep_components, refusals_change_nothing,
 };
 pub use memory::MemBank;
-pub use parts::{Component, MAX_COMPONENTS, MAX_IMAGE};
+pub use parts::{BankComponent, MAX_COMPONENTS, MAX_IMAGE};
 pub use states::{NotNow, Progress, Reason, State, Verdict};

@@ -1,10 +1,10 @@
 //! A bank that keeps its images in memory.
 
 ghost use Rattle.std.specs.Prelude.{◌≡◌, ◌+◌, ◌<◌, ◌≤◌, ◌++◌, ◌∷◌, [], IfErr, IfSome, IsOk, IsSome, IsSomeAnd, None, OnErr, OnOk, Some, false, get_or, length, map, option_map, true};
-ghost use Rattle.fd_core.specs.Areas.{AreShaped, BankOf, activated, appended, applied_spare, begun, changed, forgotten, no_place, numbers_dropped, numbers_for, numbers_sealed, numbers_switched, place_for, shape_of, written};
-ghost use Rattle.fd_core.specs.Banks.{Rose, has_key};
+ghost use Rattle.fd_core.specs.Areas.{AreShaped, BankOf, place_after_switch, place_after_put, applied_spare, place_after_begin, places_with, place_after_drop, no_place, numbers_dropped, numbers_for, numbers_sealed, numbers_switched, place_for, shape_of, written_area};
+ghost use Rattle.fd_core.specs.Banks.{CountsFailure, has_key};
 ghost use Rattle.fd_core.specs.Codes.{longest_image};
-ghost use Rattle.fd_core.specs.Images.{dropped, key_of, row_of, same_key, sealed_by, staged_with, switched};
+ghost use Rattle.fd_core.specs.Images.{rows_after_drop, key_of, row_of, same_key, sealed_by, staged_with, rows_after_switch};
 
 use crate::bank::{Bank, BankFault};
 use crate::labels::Label;
@@ -122,7 +122,7 @@ impl Bank for MemBank {
         requires size { size ≤ longest_image }
         ensures ok { OnOk result (self.new ≡ record self.old { stage = Some (record { key = key; size = size; label = label.now; bytes = [] }) }) }
         ensures kept { OnErr result (self.new ≡ record self.old { faults = self.new.faults }) }
-        ensures failed { OnErr result (Rose self.old.faults self.new.faults) }
+        ensures failed { OnErr result (CountsFailure self.old.faults self.new.faults) }
         ensures cause { IfErr result (λ e. e ≡ BankFault.Memory) }
     {
         let Ok(()) = begin_at(self.places.as_mut_slice(), key, size, label) else {
@@ -160,7 +160,7 @@ impl Bank for MemBank {
 
     fn switch(&mut self) -> Result<(), BankFault>
         ensures ok { IsOk result }
-        ensures bank { self.new ≡ record self.old { rows = switched self.old.rows; stage = None; areas = numbers_switched self.old.areas } }
+        ensures bank { self.new ≡ record self.old { rows = rows_after_switch self.old.rows; stage = None; areas = numbers_switched self.old.areas } }
     {
         activate_all(self.places.as_mut_slice());
         self.staged = None;
@@ -168,7 +168,7 @@ impl Bank for MemBank {
     }
 
     fn drop_pending(&mut self)
-        ensures bank { self.new ≡ record self.old { rows = dropped self.old.rows; stage = None; areas = numbers_dropped self.old.areas } }
+        ensures bank { self.new ≡ record self.old { rows = rows_after_drop self.old.rows; stage = None; areas = numbers_dropped self.old.areas } }
     {
         forget_all(self.places.as_mut_slice());
         self.staged = None;
@@ -209,7 +209,7 @@ fn position(places: &[Place], key: Key) -> Option<usize>
 fn begin_at(places: &mut [Place], key: Key, size: u32, label: &Label) -> Result<(), AllocError>
     requires shaped { AreShaped (map shape_of places.old) }
     requires known { IsSome (place_for places.old key) }
-    ensures ok { OnOk result (places.new ≡ changed (begun size label.now) key places.old) }
+    ensures ok { OnOk result (places.new ≡ places_with (place_after_begin size label.now) key places.old) }
     ensures kept { OnErr result (places.new ≡ places.old) }
 {
     let Some(i) = position(places, key) else {
@@ -226,8 +226,8 @@ fn begin_at(places: &mut [Place], key: Key, size: u32, label: &Label) -> Result<
 #[tactic(auto, using(crate::proofs::Places::found_here))]
 fn append_at(places: &mut [Place], key: Key, piece: &[u8])
     requires shaped { AreShaped (map shape_of places.old) }
-    requires room { IsSomeAnd (place_for places.old key) (λ p. length (written p).bytes + length piece.now ≤ (written p).size) }
-    ensures { places.new ≡ changed (appended piece.now) key places.old }
+    requires room { IsSomeAnd (place_for places.old key) (λ p. length (written_area p).bytes + length piece.now ≤ (written_area p).size) }
+    ensures { places.new ≡ places_with (place_after_put piece.now) key places.old }
 {
     let Some(i) = position(places, key) else {
         return;
@@ -240,7 +240,7 @@ fn append_at(places: &mut [Place], key: Key, piece: &[u8])
 fn apply_at(places: &mut [Place], key: Key)
     requires shaped { AreShaped (map shape_of places.old) }
     requires known { IsSome (place_for places.old key) }
-    ensures { places.new ≡ changed applied_spare key places.old }
+    ensures { places.new ≡ places_with applied_spare key places.old }
 {
     let Some(i) = position(places, key) else {
         return;
@@ -251,7 +251,7 @@ fn apply_at(places: &mut [Place], key: Key)
 
 /// What runs next runs, of each component.
 fn activate_all(places: &mut [Place])
-    ensures { places.new ≡ map activated places.old }
+    ensures { places.new ≡ map place_after_switch places.old }
 {
     for place in places.iter_mut() {
         place.activate();
@@ -260,7 +260,7 @@ fn activate_all(places: &mut [Place])
 
 /// Nothing runs next, of each component.
 fn forget_all(places: &mut [Place])
-    ensures { places.new ≡ map forgotten places.old }
+    ensures { places.new ≡ map place_after_drop places.old }
 {
     for place in places.iter_mut() {
         place.forget();

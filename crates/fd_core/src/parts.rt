@@ -25,7 +25,7 @@ pub const NO_KEY: Key = Key {
 
 /// A component as it is configured.
 #[derive(Clone, Copy, PartialEq, Eq)]
-pub struct Component {
+pub struct BankComponent {
     /// The component.
     pub key: Key,
     /// Which of several components of its classification in the device.
@@ -39,10 +39,10 @@ pub struct Listed {
     pub code: u8,
 }
 
-impl Default for Component {
+impl Default for BankComponent {
     /// The component of key 0, 0: `ArrayVec` fills its unused places with it.
     fn default() -> Self {
-        Component {
+        BankComponent {
             key: NO_KEY,
             index: 0,
         }

@@ -2,7 +2,7 @@
 use Rattle.std.proofs.Common.{◌≡◌, ◌≤◌, ◌+◌, ◌&&◌, ℕ, List, [], ◌∷◌, Bool, true, false, if◌then◌else◌, nat_lt, Option, Some, None, refl}
 use Rattle.std.specs.Prelude.{IsSomeAnd}
 use Rattle.std.proofs.lemmas.Bool.{ltb-false}
-use Rattle.exch_lane.specs.Lanes.{Sent, numbered}
+use Rattle.exch_lane.specs.Lanes.{Sent, item_numbered}
 use Rattle.fw_steps.specs.Headline.{Run, is_device, is_node, may_step, packet_fault, where_known}
 use Rattle.fw_steps.specs.Worlds.{WorldOf, packets_of}
 use Rattle.fw_steps.specs.declared.step.Step.{Step}
@@ -24,7 +24,7 @@ living_by true now p e = living_at now p e
 living_by false now p e = absurd (cc)
 
 names_living : (w : WorldOf) (s : Step) → may_step w s ≡ None → NamesLiving w s
-names_living w (steps.Deliver device number node) may = living_by (is_device w device && is_node w node) w.now (numbered (packets_of w device) number) may
+names_living w (steps.Deliver device number node) may = living_by (is_device w device && is_node w node) w.now (item_numbered (packets_of w device) number) may
 names_living w (steps.Tick missed) may = tt
 names_living w (steps.Start device number) may = tt
 names_living w (steps.Cancel device) may = tt

@@ -4,7 +4,7 @@ use Rattle.std.specs.Prelude.{IsSomeAnd, is_some}
 use Rattle.std.proofs.lemmas.Bool.{eq-eqb}
 use Rattle.std.proofs.lemmas.Bool.Decides.{nat_tests}
 use Rattle.std.proofs.Math.Bool.{or-true}
-use Rattle.exch_lane.specs.Lanes.{Sent, numbered}
+use Rattle.exch_lane.specs.Lanes.{Sent, item_numbered}
 use Rattle.fw_steps.specs.Headline.{is_device, is_node, may_step, packet_fault, where_known}
 use Rattle.fw_steps.specs.Worlds.{SiteOf, WorldOf, packets_at, packets_of, site_for}
 use Rattle.fw_steps.specs.declared.step.Step.TheVariants as steps
@@ -32,4 +32,4 @@ pub may_deliver : (w : WorldOf) (device number node : ℕ) (bytes : List ℕ) �
 may_deliver w device number node bytes h at =
     let there : is_device w device ≡ true = site_there w.now bytes (site_for w.sites device) number h.0 in
     let known : (is_device w device && is_node w node) ≡ true = ap (λ b. b && is_node w node) there ∙ node_there w device node there at in
-    ap (λ b. where_known b (packet_fault w.now (numbered (packets_of w device) number))) known ∙ living_fault w.now bytes (numbered (packets_of w device) number) h.0
+    ap (λ b. where_known b (packet_fault w.now (item_numbered (packets_of w device) number))) known ∙ living_fault w.now bytes (item_numbered (packets_of w device) number) h.0

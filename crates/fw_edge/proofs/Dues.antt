@@ -5,10 +5,10 @@ use Rattle.std.proofs.lemmas.Bool.{ne_eqb}
 use Rattle.std.proofs.lemmas.List.{take_all}
 use Rattle.std.proofs.lemmas.Option.{slice_get-map}
 use Rattle.fd_core.specs.declared.states.Verdict.{Verdict}
-use Rattle.fw_node.specs.Agents.{activates, half_at, half_for, place_of as half_place, ready_for, ready_in}
+use Rattle.fw_node.specs.Agents.{half_after_activate, half_at, half_for, place_of as half_place, ready_for, ready_in}
 use Rattle.fw_node.specs.Halves.{HalfOf}
 use Rattle.ua_core.specs.Session.{SessionOf, TimedOf}
-use Rattle.fw_steps.specs.Headline.{AreDifferent, Leads, Run}
+use Rattle.fw_steps.specs.Headline.{AreDifferent, StepsTo, Run}
 use Rattle.fw_steps.specs.Worlds.{SiteOf, WorldOf, activates_on, eids_of, place_of, site_for}
 use Rattle.fw_steps.specs.declared.step.Step.{Step}
 use Rattle.fw_steps.specs.declared.step.Step.TheVariants as steps
@@ -18,7 +18,7 @@ use Rattle.fw_steps.proofs.LinksAreLanes.Posting.{site_put}
 use Rattle.fw_steps.proofs.LinksAreLanes.Projection.{becomes_put, judged_site, judges_put}
 use Rattle.fw_steps.proofs.Reaching.{run_eids}
 use Rattle.fw_edge.specs.Drives.{DrivesCounted, ticks_in}
-use Rattle.fw_edge.specs.Outcomes.{StepRefused, StepsStopped}
+use Rattle.fw_edge.specs.Outcomes.{StepErr, StepsErr}
 use Rattle.fw_edge.specs.Turns.{TakesAll, TakesIf, TakesSome, activation_for, all_due, awaited_in, due_at, verdict_for}
 use Rattle.fw_edge.specs.declared.driving.EdgeFault.{EdgeFault}
 use Rattle.fw_edge.proofs.Going.{drives_same, run_append}
@@ -26,22 +26,22 @@ use Rattle.fw_edge.proofs.Rising.{map_length}
 
 -- A step that is due for one device leaves what is due for another.
 pub record ForOne (due : WorldOf → ℕ → Option Step) : Type 0 where
-  pub apart : (w v : WorldOf) (own other : ℕ) (s : Step) → due w own ≡ Some s → Leads w s v → own ≢ other → due v other ≡ due w other
+  pub apart : (w v : WorldOf) (own other : ℕ) (s : Step) → due w own ≡ Some s → StepsTo w s v → own ≢ other → due v other ≡ due w other
 
 -- a verdict does
-judged_keeps : (w v : WorldOf) (own other : ℕ) (verdict : Verdict) → Leads w (steps.Verdict own verdict) v → own ≢ other → site_for v.sites other ≡ site_for w.sites other
+judged_keeps : (w v : WorldOf) (own other : ℕ) (verdict : Verdict) → StepsTo w (steps.Verdict own verdict) v → own ≢ other → site_for v.sites other ≡ site_for w.sites other
 judged_keeps w v own other verdict l differ =
     ap (λ x. site_for x.sites other) l.after
     ∙ ap (λ xs. site_for xs other) (judges_put l.works l.faults w verdict (place_of w.sites own) (site_for w.sites own))
     ∙ site_put (judged_site l.works l.faults verdict) (λ x. refl) w.sites own other
     ∙ ap (λ b. if b then option_map (judged_site l.works l.faults verdict) (site_for w.sites other) else site_for w.sites other) (ne_eqb own other differ)
 
-verdict_apart : (w v : WorldOf) (own other : ℕ) (s : Step) (awaited : Option Verdict) → option_map (λ x. steps.Verdict own x) awaited ≡ Some s → Leads w s v → own ≢ other
+verdict_apart : (w v : WorldOf) (own other : ℕ) (s : Step) (awaited : Option Verdict) → option_map (λ x. steps.Verdict own x) awaited ≡ Some s → StepsTo w s v → own ≢ other
     → verdict_for v other ≡ verdict_for w other
 verdict_apart w v own other s None is l differ = absurd (cc)
 verdict_apart w v own other s (Some verdict) is l differ =
     let same : steps.Verdict own verdict ≡ s = cc in
-    ap (λ x. option_map (λ r. steps.Verdict other r) (awaited_in x)) (judged_keeps w v own other verdict (subst (λ x. Leads w x v) (sym same) l) differ)
+    ap (λ x. option_map (λ r. steps.Verdict other r) (awaited_in x)) (judged_keeps w v own other verdict (subst (λ x. StepsTo w x v) (sym same) l) differ)
 
 pub verdicts_for_one : ForOne verdict_for
 verdicts_for_one = record { apart = λ w v own other s is l differ. verdict_apart w v own other s (awaited_in (site_for w.sites own)) is l differ }
@@ -50,17 +50,17 @@ verdicts_for_one = record { apart = λ w v own other s is l differ. verdict_apar
 activated_keeps : (w : WorldOf) (own other : ℕ) (session : Option SessionOf) → own ≢ other → half_for (activates_on w own session).agent other ≡ half_for w.agent other
 activated_keeps w own other None differ = refl
 activated_keeps w own other (Some s) differ =
-    let call : HalfOf TimedOf → HalfOf TimedOf = λ h. activates w.packages h s in
+    let call : HalfOf TimedOf → HalfOf TimedOf = λ h. half_after_activate w.packages h s in
     ap (λ hs. half_at hs (half_place hs other)) (becomes_put w.agent w.now call (half_place w.agent.halves own) (half_for w.agent own))
     ∙ half_put call (λ h. refl) w.agent.halves own other
     ∙ ap (λ b. if b then option_map call (half_for w.agent other) else half_for w.agent other) (ne_eqb own other differ)
 
-activation_apart : (w v : WorldOf) (own other : ℕ) (s : Step) (session : Option SessionOf) → (if is_some session then Some (steps.Activate own) else None) ≡ Some s → Leads w s v → own ≢ other
+activation_apart : (w v : WorldOf) (own other : ℕ) (s : Step) (session : Option SessionOf) → (if is_some session then Some (steps.Activate own) else None) ≡ Some s → StepsTo w s v → own ≢ other
     → activation_for v other ≡ activation_for w other
 activation_apart w v own other s None is l differ = absurd (cc)
 activation_apart w v own other s (Some x) is l differ =
     let same : steps.Activate own ≡ s = cc in
-    let led : Leads w (steps.Activate own) v = subst (λ y. Leads w y v) (sym same) l in
+    let led : StepsTo w (steps.Activate own) v = subst (λ y. StepsTo w y v) (sym same) l in
     ap (λ h. if is_some (ready_in h) then Some (steps.Activate other) else None)
     (ap (λ y. half_for y.agent other) led.after ∙ activated_keeps w own other (ready_for w.agent own) differ)
 
@@ -192,7 +192,7 @@ due_some due n w u v before mid after h there same unlisted =
 
 -- The step that is due at a place isn't taken.
 pub due_stops : (due : WorldOf → ℕ → Option Step) (n : ℕ) (e : EdgeFault) (w u v : WorldOf) (before mid after : List Step) → Due due n w before u mid → DrivesCounted w before u mid 0 0
-    → is_some (due_at due u (slice_get u.sites n)) ≡ true → StepRefused e u mid v after → StepsStopped e (all_due due w (eids_of w.sites)) w before v after
+    → is_some (due_at due u (slice_get u.sites n)) ≡ true → StepErr e u mid v after → StepsErr e (all_due due w (eids_of w.sites)) w before v after
 due_stops due n e w u v before mid after h goes there refused = record {
   drives = drives_same w u v before mid after goes.drives refused.same refused.unlisted;
   no_tick = ap ticks_in refused.unlisted ∙ goes.ticks_rise ∙ none (ticks_in before);

@@ -1,7 +1,7 @@
 -- Links of which one failed, or none.
 use Rattle.std.proofs.Common.{◌≡◌, ◌<◌, ◌+◌, ◌∙◌, ℕ, zero, suc, List, [], ◌∷◌, drop, get_or, inl, inr, length, map, slice_set, ap, subst, arith}
 use Rattle.std.proofs.Math.Seq.{map-set_same}
-use Rattle.fw_edge.specs.Ledgers.{AreToldOf, IsToldOf, StopsAt}
+use Rattle.fw_edge.specs.Ledgers.{ReportsFaultOfLinks, ReportsLinkFault, StopsAt}
 use Rattle.fw_edge.specs.declared.driving.EdgeFault.{EdgeFault}
 
 -- one is replaced by another that counts the same
@@ -20,13 +20,13 @@ behind_next i xs os y lt within e = let next : suc i ≡ i + 1 = omega arith in 
 
 -- where those before a place count as they did, and the call of the one there ended so
 pub stops_put : {A : Type 0} (e : EdgeFault) (f : A → ℕ) (i : ℕ) (xs os : List A) (d y : A) → i < length xs → i < length os → map f xs ≡ map f os → drop i xs ≡ drop i os
-    → IsToldOf e (f (get_or xs i d)) (f y) → StopsAt e f os (slice_set xs i y)
+    → ReportsLinkFault e (f (get_or xs i d)) (f y) → StopsAt e f os (slice_set xs i y)
 stops_put e f i [] os d y lt within kept behind told = absurd (omega arith)
 stops_put e f i (x ∷ xs) [] d y lt within kept behind told = absurd (omega arith)
 stops_put e f zero (x ∷ xs) (o ∷ os) d y lt within kept behind told =
     let same : x ≡ o = cc in
     let rest : xs ≡ os = cc in
-    inl (subst (λ z. IsToldOf e (f z) (f y)) same told, rest)
+    inl (subst (λ z. ReportsLinkFault e (f z) (f y)) same told, rest)
 stops_put e f (suc i) (x ∷ xs) (o ∷ os) d y lt within kept behind told =
     let first : f x ≡ f o = cc in
     let rest : map f xs ≡ map f os = cc in
@@ -36,7 +36,7 @@ stops_put e f (suc i) (x ∷ xs) (o ∷ os) d y lt within kept behind told =
 both_same : (m n : ℕ) (ms ns : List ℕ) → n ≡ m → ns ≡ ms → n ∷ ns ≡ m ∷ ms
 both_same m n ms ns e h = cc
 
-pub told_at : {A : Type 0} (e : EdgeFault) (f : A → ℕ) (os ns : List A) → StopsAt e f os ns → AreToldOf e (map f os) (map f ns)
+pub told_at : {A : Type 0} (e : EdgeFault) (f : A → ℕ) (os ns : List A) → StopsAt e f os ns → ReportsFaultOfLinks e (map f os) (map f ns)
 told_at e f [] ns h = absurd h
 told_at e f (o ∷ os) [] h = absurd h
 told_at e f (o ∷ os) (n ∷ ns) (inl h) = (λ is. inl (h.0.0 is, ap (map f) h.1), λ other. both_same (f o) (f n) (map f os) (map f ns) (h.0.1 other) (ap (map f) h.1))

@@ -2,7 +2,7 @@
 use Rattle.std.proofs.Common.{◌≡◌, ◌+◌, ◌++◌, ◌∙◌, ℕ, List, [], ◌∷◌, true, append_assoc, append-nil, refl, sym, ap, subst, arith}
 use Rattle.std.proofs.lemmas.List.Folds.{list_all-append}
 use Rattle.std.proofs.lemmas.List.Sums.{sum_by-append}
-use Rattle.fw_steps.specs.Headline.{Leads, Run}
+use Rattle.fw_steps.specs.Headline.{StepsTo, Run}
 use Rattle.fw_steps.specs.Worlds.{WorldOf}
 use Rattle.fw_steps.specs.declared.step.Step.{Step}
 use Rattle.fw_edge.specs.Drives.{AreDriven, Drives, DrivesCounted, deliver_in, delivers_in, is_driven, tick_in, ticks_in}
@@ -28,10 +28,10 @@ pub drives_same : (w u v : WorldOf) (before mid after : List Step) → Drives w 
 drives_same w u v before mid after h e l = subst (λ x. Drives w before x after) (sym e) (subst (Drives w before u) (sym l) h)
 
 -- a step is taken
-pub drives_step : (w v : WorldOf) (s : Step) (before after : List Step) → is_driven s ≡ true → Leads w s v → after ≡ before ++ s ∷ [] → Drives w before v after
+pub drives_step : (w v : WorldOf) (s : Step) (before after : List Step) → is_driven s ≡ true → StepsTo w s v → after ≡ before ++ s ∷ [] → Drives w before v after
 drives_step w v s before after d h e = record { steps = s ∷ []; appended = e; run = (v, h, refl); driven = rw d refl }
 
-pub goes_step : (w v : WorldOf) (s : Step) (before after : List Step) → is_driven s ≡ true → Leads w s v → after ≡ before ++ s ∷ [] → DrivesCounted w before v after (tick_in s) (deliver_in s)
+pub goes_step : (w v : WorldOf) (s : Step) (before after : List Step) → is_driven s ≡ true → StepsTo w s v → after ≡ before ++ s ∷ [] → DrivesCounted w before v after (tick_in s) (deliver_in s)
 goes_step w v s before after d h e = record {
   drives = drives_step w v s before after d h e;
   ticks_rise = ap ticks_in e ∙ sum_by-append tick_in before (s ∷ []) ∙ ap (λ n. ticks_in before + n) (omega arith);

@@ -3,7 +3,7 @@ use Rattle.std.proofs.Common.{◌≡◌, ◌≤◌, ◌<◌, ◌+◌, ◌-◌, �
 use Rattle.std.specs.Prelude.{IsSomeAnd}
 use Rattle.std.proofs.lemmas.Bool.{lt-ltb}
 use Rattle.std.proofs.lemmas.Bool.Decides.{eqb_tells}
-use Rattle.exch_lane.specs.Lanes.{Sent, numbered}
+use Rattle.exch_lane.specs.Lanes.{Sent, item_numbered}
 use Rattle.fw_steps.specs.Dead.{AreDead}
 use Rattle.fw_edge.specs.Hearing.{IsLastLiving, IsLiving, LivesWith}
 
@@ -13,7 +13,7 @@ pub record LivesNoneBehind (now : ℕ) (packets : List Sent) (bytes : List ℕ) 
   pub none : (other : ℕ) → IsLiving now packets bytes other → other ≤ number
 
 -- a number from 1 on
-numbered_pos : {A : Type 0} (xs : List A) (n : ℕ) → 0 < n → numbered xs n ≡ slice_get xs (n - 1)
+numbered_pos : {A : Type 0} (xs : List A) (n : ℕ) → 0 < n → item_numbered xs n ≡ slice_get xs (n - 1)
 numbered_pos xs n lt = ap (λ b. if b then slice_get xs (n - 1) else None) (lt-ltb 0 n lt)
 
 living_at : (now : ℕ) (bytes : List ℕ) (packets : List Sent) (n : ℕ) → 0 < n → IsLiving now packets bytes n → IsSomeAnd (slice_get packets (n - 1)) (LivesWith now bytes)

@@ -3,9 +3,9 @@ use Rattle.std.proofs.Common.{◌≡◌, ◌≢◌, ◌≤◌, ◌+◌, ◌-◌,
 use Rattle.fw_steps.specs.Worlds.{WorldOf, eids_of}
 use Rattle.fw_steps.specs.declared.step.Step.{Step}
 use Rattle.fw_edge.specs.Drives.{DrivesCounted, delivers_in, ticks_in}
-use Rattle.fw_edge.specs.Ledgers.{AreToldOf, packet_counts}
-use Rattle.fw_edge.specs.Outcomes.{LinksDriven, LinksExchanged, LinksRead, LinksRefused, LinksWrote, PartStopped, RoundStopped}
-use Rattle.fw_edge.specs.Links.{EndsOf, LinksOf, links_at}
+use Rattle.fw_edge.specs.Ledgers.{ReportsFaultOfLinks, packet_counts}
+use Rattle.fw_edge.specs.Outcomes.{LinksDriveOk, LinksExchangeOk, LinksReadOk, LinksWriteErr, LinksWriteOk, PartErr, RoundErr}
+use Rattle.fw_edge.specs.Links.{LinkBytes, LinksOf, links_at}
 use Rattle.fw_edge.specs.Turns.{RoundStops, StopsTurn}
 use Rattle.fw_edge.specs.declared.driving.EdgeFault.{EdgeFault}
 use Rattle.fw_edge.specs.declared.driving.EdgeFault.TheVariants as faults
@@ -19,8 +19,8 @@ frame_is_no_step : (e : EdgeFault) → e ≡ faults.Frame → e ≢ faults.Step
 frame_is_no_step e is other = absurd (cc)
 
 -- a packet isn't taken
-pub stopped_refused : {A : Type 0} (t : A → Tally) (taken gave : A → EndsOf) (e : EdgeFault) (w : WorldOf) (ss : List Step) (written : List ℕ) (olds news : List A) → LinksRefused t e olds news
-    → PartStopped t taken gave (RoundStops e (eids_of w.sites)) e w ss written olds w ss news
+pub stopped_refused : {A : Type 0} (t : A → Tally) (taken gave : A → LinkBytes) (e : EdgeFault) (w : WorldOf) (ss : List Step) (written : List ℕ) (olds news : List A) → LinksWriteErr t e olds news
+    → PartErr t taken gave (RoundStops e (eids_of w.sites)) e w ss written olds w ss news
 stopped_refused t taken gave e w ss written olds news h = record {
   drives = drives_none w ss;
   no_tick = refl;
@@ -30,35 +30,35 @@ stopped_refused t taken gave e w ss written olds news h = record {
 }
 
 -- an end gives no answer, behind the writing
-pub stopped_reading : {A : Type 0} (t : A → Tally) (taken gave : A → EndsOf) (e : EdgeFault) (w v : WorldOf) (before after : List Step) (written : List ℕ) (olds mids news : List A)
-    → map (λ l. (t l).failures) mids ≡ map (λ l. (t l).failures) olds → RoundStopped t e w before mids v after news
-    → PartStopped t taken gave (RoundStops e (eids_of w.sites)) e w before written olds v after news
+pub stopped_reading : {A : Type 0} (t : A → Tally) (taken gave : A → LinkBytes) (e : EdgeFault) (w v : WorldOf) (before after : List Step) (written : List ℕ) (olds mids news : List A)
+    → map (λ l. (t l).failures) mids ≡ map (λ l. (t l).failures) olds → RoundErr t e w before mids v after news
+    → PartErr t taken gave (RoundStops e (eids_of w.sites)) e w before written olds v after news
 stopped_reading t taken gave e w v before after written olds mids news kept h = record {
   drives = h.drives;
   no_tick = h.no_tick;
   stops_so = inr h.some;
   fault = h.fault;
-  failed = subst (λ os. AreToldOf e os (map (λ l. (t l).failures) news)) kept (told_at e (λ l. (t l).failures) mids news h.failed);
+  failed = subst (λ os. ReportsFaultOfLinks e os (map (λ l. (t l).failures) news)) kept (told_at e (λ l. (t l).failures) mids news h.failed);
 }
 
 -- a part stops behind another
-pub stopped_later : {A : Type 0} (t : A → Tally) (taken gave : A → EndsOf) (later stops : WorldOf → List Step → LinksOf → WorldOf → List Step → Type 0) (e : EdgeFault) (w u v : WorldOf)
+pub stopped_later : {A : Type 0} (t : A → Tally) (taken gave : A → LinkBytes) (later stops : WorldOf → List Step → LinksOf → WorldOf → List Step → Type 0) (e : EdgeFault) (w u v : WorldOf)
     (before mid after : List Step) (ws us : List ℕ) (olds mids news : List A) (delivers : ℕ) → DrivesCounted w before u mid 0 delivers
-    → map (λ l. (t l).failures) mids ≡ map (λ l. (t l).failures) olds → PartStopped t taken gave later e u mid us mids v after news
-    → stops w before (links_at ws (map taken olds) (map gave olds)) v after → PartStopped t taken gave stops e w before ws olds v after news
+    → map (λ l. (t l).failures) mids ≡ map (λ l. (t l).failures) olds → PartErr t taken gave later e u mid us mids v after news
+    → stops w before (links_at ws (map taken olds) (map gave olds)) v after → PartErr t taken gave stops e w before ws olds v after news
 stopped_later t taken gave later stops e w u v before mid after ws us olds mids news delivers g kept h so = record {
   drives = goes_off w u v before mid after 0 delivers g h.drives;
   no_tick = h.no_tick ∙ g.ticks_rise ∙ none (ticks_in before);
   stops_so = so;
   fault = h.fault;
-  failed = subst (λ os. AreToldOf e os (map (λ l. (t l).failures) news)) kept h.failed;
+  failed = subst (λ os. ReportsFaultOfLinks e os (map (λ l. (t l).failures) news)) kept h.failed;
 }
   where
     none : (k : ℕ) → k + 0 ≡ k
     none k = omega arith
 
 -- nothing is exchanged
-pub exchanged_none : {A : Type 0} (t : A → Tally) (ws : List ℕ) (links : List A) (given : ℕ) → given ≡ 0 → length ws ≡ length links → LinksExchanged t 0 given ws ws links links
+pub exchanged_none : {A : Type 0} (t : A → Tally) (ws : List ℕ) (links : List A) (given : ℕ) → given ≡ 0 → length ws ≡ length links → LinksExchangeOk t 0 given ws ws links links
 exchanged_none t ws links given none same = record {
   kept = refl;
   asked = rose_none (map (λ l. (t l).asked) links);
@@ -67,8 +67,8 @@ exchanged_none t ws links given none same = record {
 }
 
 -- more is
-pub exchanged_on : {A : Type 0} (t : A → Tally) (k j n m all : ℕ) (ws us vs : List ℕ) (olds mids news : List A) → all ≡ n + m → LinksExchanged t k n ws us olds mids
-    → LinksExchanged t j m us vs mids news → LinksExchanged t (k + j) all ws vs olds news
+pub exchanged_on : {A : Type 0} (t : A → Tally) (k j n m all : ℕ) (ws us vs : List ℕ) (olds mids news : List A) → all ≡ n + m → LinksExchangeOk t k n ws us olds mids
+    → LinksExchangeOk t j m us vs mids news → LinksExchangeOk t (k + j) all ws vs olds news
 exchanged_on t k j n m all ws us vs olds mids news sum h g = record {
   kept = g.kept ∙ h.kept;
   asked = rose_on k j (map (λ l. (t l).asked) olds) (map (λ l. (t l).asked) mids) (map (λ l. (t l).asked) news) h.asked g.asked;
@@ -77,7 +77,7 @@ exchanged_on t k j n m all ws us vs olds mids news sum h g = record {
 }
 
 -- links were asked so often too
-pub exchanged_less : {A : Type 0} (t : A → Tally) (k j n : ℕ) (ws us : List ℕ) (olds news : List A) → k ≤ j → LinksExchanged t j n ws us olds news → LinksExchanged t k n ws us olds news
+pub exchanged_less : {A : Type 0} (t : A → Tally) (k j n : ℕ) (ws us : List ℕ) (olds news : List A) → k ≤ j → LinksExchangeOk t j n ws us olds news → LinksExchangeOk t k n ws us olds news
 exchanged_less t k j n ws us olds news le h = record {
   kept = h.kept;
   asked = rose_less k j (map (λ l. (t l).asked) olds) (map (λ l. (t l).asked) news) le h.asked;
@@ -86,7 +86,7 @@ exchanged_less t k j n ws us olds news le h = record {
 }
 
 -- links take packets, and then are asked
-pub exchanged_read : {A : Type 0} (t : A → Tally) (k n : ℕ) (ws us : List ℕ) (olds mids news : List A) → LinksWrote t ws us olds mids → LinksRead t k n mids news → LinksExchanged t k n ws us olds news
+pub exchanged_read : {A : Type 0} (t : A → Tally) (k n : ℕ) (ws us : List ℕ) (olds mids news : List A) → LinksWriteOk t ws us olds mids → LinksReadOk t k n mids news → LinksExchangeOk t k n ws us olds news
 exchanged_read t k n ws us olds mids news h g = record {
   kept = g.kept ∙ h.kept;
   asked = rose_from k (map (λ l. (t l).asked) olds) (map (λ l. (t l).asked) mids) (map (λ l. (t l).asked) news) h.asked g.asked;
@@ -95,8 +95,8 @@ exchanged_read t k n ws us olds mids news h g = record {
 }
 
 -- or were asked, and then take packets
-pub exchanged_wrote : {A : Type 0} (t : A → Tally) (k n : ℕ) (ws us vs : List ℕ) (olds mids news : List A) → LinksExchanged t k n ws us olds mids → LinksWrote t us vs mids news
-    → LinksExchanged t k n ws vs olds news
+pub exchanged_wrote : {A : Type 0} (t : A → Tally) (k n : ℕ) (ws us vs : List ℕ) (olds mids news : List A) → LinksExchangeOk t k n ws us olds mids → LinksWriteOk t us vs mids news
+    → LinksExchangeOk t k n ws vs olds news
 exchanged_wrote t k n ws us vs olds mids news h g = record {
   kept = g.kept ∙ h.kept;
   asked = rose_to k (map (λ l. (t l).asked) olds) (map (λ l. (t l).asked) mids) (map (λ l. (t l).asked) news) g.asked h.asked;
@@ -105,22 +105,22 @@ exchanged_wrote t k n ws us vs olds mids news h g = record {
 }
 
 -- memory is no link's fault, and not the clock's
-pub told_kept : (e : EdgeFault) (os ns : List ℕ) → e ≡ faults.Memory → ns ≡ os → AreToldOf e os ns
+pub told_kept : (e : EdgeFault) (os ns : List ℕ) → e ≡ faults.Memory → ns ≡ os → ReportsFaultOfLinks e os ns
 told_kept e os ns is same = (λ other. absurd (cc), λ other. same)
 
 pub stops_on : (e : EdgeFault) (w v : WorldOf) (before after : List Step) → e ≡ faults.Memory → w.now ≢ 2 ^ 32 - 1 → StopsTurn e w before v after
 stops_on e w v before after is on = (λ other. absurd (cc), λ other. on)
 
 -- behind turns in which no link failed
-pub told_behind : (e : EdgeFault) (os ms ns : List ℕ) → ms ≡ os → AreToldOf e ms ns → AreToldOf e os ns
-told_behind e os ms ns same h = subst (λ xs. AreToldOf e xs ns) same h
+pub told_behind : (e : EdgeFault) (os ms ns : List ℕ) → ms ≡ os → ReportsFaultOfLinks e ms ns → ReportsFaultOfLinks e os ns
+told_behind e os ms ns same h = subst (λ xs. ReportsFaultOfLinks e xs ns) same h
 
 -- the clock stands at its end where that is told
 pub clock_at : (e : EdgeFault) (w v : WorldOf) (before after : List Step) → StopsTurn e w before v after → e ≡ faults.Step → v.now ≡ 2 ^ 32 - 1
 clock_at e w v before after h is = let stands = h.0 is in subst (λ x. x.now ≡ 2 ^ 32 - 1) (sym stands.1) stands.0
 
 -- no turn
-pub driven_none : {A : Type 0} (t : A → Tally) (w : WorldOf) (ss : List Step) (ws : List ℕ) (links : List A) → ws ≡ packet_counts w.sites → length ws ≡ length links → LinksDriven t 0 w ss links w ss links 0
+pub driven_none : {A : Type 0} (t : A → Tally) (w : WorldOf) (ss : List Step) (ws : List ℕ) (links : List A) → ws ≡ packet_counts w.sites → length ws ≡ length links → LinksDriveOk t 0 w ss links w ss links 0
 driven_none t w ss ws links all same = record {
   kept = refl;
   asked = rose_none (map (λ l. (t l).asked) links);
@@ -130,8 +130,8 @@ driven_none t w ss ws links all same = record {
 
 -- a turn more
 pub driven_on : {A : Type 0} (t : A → Tally) (turns : ℕ) (w u v : WorldOf) (before mid after : List Step) (ws us : List ℕ) (olds mids news : List A) (known more foreign : ℕ)
-    → ws ≡ packet_counts u.sites → us ≡ packet_counts v.sites → delivers_in after ≡ delivers_in mid + known → LinksDriven t turns w before olds u mid mids foreign
-    → LinksExchanged t 2 (known + more) ws us mids news → LinksDriven t (turns + 1) w before olds v after news (foreign + more)
+    → ws ≡ packet_counts u.sites → us ≡ packet_counts v.sites → delivers_in after ≡ delivers_in mid + known → LinksDriveOk t turns w before olds u mid mids foreign
+    → LinksExchangeOk t 2 (known + more) ws us mids news → LinksDriveOk t (turns + 1) w before olds v after news (foreign + more)
 driven_on t turns w u v before mid after ws us olds mids news known more foreign start end rise h g = record {
   kept = g.kept ∙ h.kept;
   asked =

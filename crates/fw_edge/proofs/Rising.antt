@@ -1,18 +1,18 @@
 -- Counts that rise.
 use Rattle.std.proofs.Common.{◌≡◌, ◌≤◌, ◌<◌, ◌+◌, ◌-◌, ◌^◌, ℕ, zero, suc, List, [], ◌∷◌, get_or, length, map, refl, slice_set, subst, sym, arith}
 use Rattle.std.proofs.lemmas.List.{map-set}
-use Rattle.fw_edge.specs.Ledgers.{AllRose, AreBelow, AreGiven, RoseTogether, total}
+use Rattle.fw_edge.specs.Ledgers.{EachCountGrows, AreBelow, AreGiven, CountsGrowTogether, total}
 
 -- by nothing
-pub rose_none : (os : List ℕ) → AllRose 0 os os
+pub rose_none : (os : List ℕ) → EachCountGrows 0 os os
 rose_none [] = tt
 rose_none (o ∷ os) = (λ lt. omega arith, rose_none os)
 
-pub together_none : (os ns : List ℕ) → ns ≡ os → RoseTogether 0 os ns
+pub together_none : (os ns : List ℕ) → ns ≡ os → CountsGrowTogether 0 os ns
 together_none os ns e = λ b. (subst AreBelow e b, subst (λ xs. total xs ≡ total os + 0) (sym e) (omega arith))
 
 -- by more
-pub rose_on : (k j : ℕ) (os ms ns : List ℕ) → AllRose k os ms → AllRose j ms ns → AllRose (k + j) os ns
+pub rose_on : (k j : ℕ) (os ms ns : List ℕ) → EachCountGrows k os ms → EachCountGrows j ms ns → EachCountGrows (k + j) os ns
 rose_on k j [] [] [] h g = tt
 rose_on k j [] [] (n ∷ ns) h g = absurd g
 rose_on k j [] (m ∷ ms) ns h g = absurd h
@@ -23,13 +23,13 @@ rose_on k j (o ∷ os) (m ∷ ms) (n ∷ ns) h g = (one h.0 g.0, rose_on k j os 
     one : (m < 2 ^ 64 - 1 → o + k ≤ m) → (n < 2 ^ 64 - 1 → m + j ≤ n) → n < 2 ^ 64 - 1 → o + (k + j) ≤ n
     one a b lt = let second : m + j ≤ n = b lt in let first : o + k ≤ m = a (omega arith) in omega arith
 
-pub rose_less : (k j : ℕ) (os ns : List ℕ) → k ≤ j → AllRose j os ns → AllRose k os ns
+pub rose_less : (k j : ℕ) (os ns : List ℕ) → k ≤ j → EachCountGrows j os ns → EachCountGrows k os ns
 rose_less k j [] [] le h = tt
 rose_less k j [] (n ∷ ns) le h = absurd h
 rose_less k j (o ∷ os) [] le h = absurd h
 rose_less k j (o ∷ os) (n ∷ ns) le h = (λ lt. (let all : o + j ≤ n = h.0 lt in omega arith), rose_less k j os ns le h.1)
 
-pub together_on : (k j : ℕ) (os ms ns : List ℕ) → RoseTogether k os ms → RoseTogether j ms ns → RoseTogether (k + j) os ns
+pub together_on : (k j : ℕ) (os ms ns : List ℕ) → CountsGrowTogether k os ms → CountsGrowTogether j ms ns → CountsGrowTogether (k + j) os ns
 together_on k j os ms ns h g = λ b. let second = g b in let first = h second.0 in (first.0, both second.1 first.1)
   where
     both : total ns ≡ total ms + j → total ms ≡ total os + k → total ns ≡ total os + (k + j)
@@ -51,8 +51,8 @@ rose_put k (suc i) [] (n ∷ ns) y d lt more h = absurd h
 rose_put k (suc i) (o ∷ os) (n ∷ ns) y d lt more h = (h.0, rose_put k i os ns y d (omega arith) more h.1)
 
 -- all did
-pub rose_all : (k i : ℕ) (os ns : List ℕ) → length os ≤ i → RoseBefore k i os ns → AllRose k os ns
-rose_all k zero [] ns le h = subst (AllRose k []) (sym h) tt
+pub rose_all : (k i : ℕ) (os ns : List ℕ) → length os ≤ i → RoseBefore k i os ns → EachCountGrows k os ns
+rose_all k zero [] ns le h = subst (EachCountGrows k []) (sym h) tt
 rose_all k zero (o ∷ os) ns le h = absurd (omega arith)
 rose_all k (suc i) [] [] le h = tt
 rose_all k (suc i) [] (n ∷ ns) le h = absurd h
@@ -60,7 +60,7 @@ rose_all k (suc i) (o ∷ os) [] le h = absurd h
 rose_all k (suc i) (o ∷ os) (n ∷ ns) le h = (h.0, rose_all k i os ns (omega arith) h.1)
 
 -- one rises: so all do together
-together_put : (h i : ℕ) (ns : List ℕ) (y d : ℕ) → i < length ns → (y < 2 ^ 64 - 1 → y ≡ get_or ns i d + h) → RoseTogether h ns (slice_set ns i y)
+together_put : (h i : ℕ) (ns : List ℕ) (y d : ℕ) → i < length ns → (y < 2 ^ 64 - 1 → y ≡ get_or ns i d + h) → CountsGrowTogether h ns (slice_set ns i y)
 together_put h i [] y d lt more = absurd (omega arith)
 together_put h zero (n ∷ ns) y d lt more = λ b. let is : y ≡ n + h = more b.0 in ((lower is b.0, b.1), sum_of is)
   where
@@ -99,34 +99,34 @@ rose_next f k os xs i d y lt more h =
     (subst (RoseBefore k (suc i) os) (sym (map-set f xs i y)) (rose_put k i os (map f xs) (f y) 0 (omega arith) (λ below. (let is = more below in omega arith)) h))
 
 pub together_next : {A : Type 0} (f : A → ℕ) (g h t : ℕ) (os : List ℕ) (xs : List A) (i : ℕ) (d y : A) → i < length xs → (f y < 2 ^ 64 - 1 → f y ≡ f (get_or xs i d) + h) → t ≡ g + h
-    → RoseTogether g os (map f xs) → RoseTogether t os (map f (slice_set xs i y))
+    → CountsGrowTogether g os (map f xs) → CountsGrowTogether t os (map f (slice_set xs i y))
 together_next f g h t os xs i d y lt more sum before =
     let size : length (map f xs) ≡ length xs = map_length f xs in
     let at : get_or (map f xs) i 0 ≡ f (get_or xs i d) = map_get f xs i d lt in
-    subst (λ n. RoseTogether n os (map f (slice_set xs i y))) (sym sum)
+    subst (λ n. CountsGrowTogether n os (map f (slice_set xs i y))) (sym sum)
     (together_on g h os (map f xs) (map f (slice_set xs i y)) before
-    (subst (RoseTogether h (map f xs)) (sym (map-set f xs i y)) (together_put h i (map f xs) (f y) 0 (omega arith) (λ below. (let is = more below in omega arith)))))
+    (subst (CountsGrowTogether h (map f xs)) (sym (map-set f xs i y)) (together_put h i (map f xs) (f y) 0 (omega arith) (λ below. (let is = more below in omega arith)))))
 
-pub together_sum : (k j t : ℕ) (os ms ns : List ℕ) → t ≡ k + j → RoseTogether k os ms → RoseTogether j ms ns → RoseTogether t os ns
-together_sum k j t os ms ns sum h g = subst (λ n. RoseTogether n os ns) (sym sum) (together_on k j os ms ns h g)
+pub together_sum : (k j t : ℕ) (os ms ns : List ℕ) → t ≡ k + j → CountsGrowTogether k os ms → CountsGrowTogether j ms ns → CountsGrowTogether t os ns
+together_sum k j t os ms ns sum h g = subst (λ n. CountsGrowTogether n os ns) (sym sum) (together_on k j os ms ns h g)
 
 -- counts that are the same before or after
-pub rose_from : (k : ℕ) (os ms ns : List ℕ) → ms ≡ os → AllRose k ms ns → AllRose k os ns
-rose_from k os ms ns e h = subst (λ xs. AllRose k xs ns) e h
+pub rose_from : (k : ℕ) (os ms ns : List ℕ) → ms ≡ os → EachCountGrows k ms ns → EachCountGrows k os ns
+rose_from k os ms ns e h = subst (λ xs. EachCountGrows k xs ns) e h
 
-pub rose_to : (k : ℕ) (os ms ns : List ℕ) → ns ≡ ms → AllRose k os ms → AllRose k os ns
-rose_to k os ms ns e h = subst (AllRose k os) (sym e) h
+pub rose_to : (k : ℕ) (os ms ns : List ℕ) → ns ≡ ms → EachCountGrows k os ms → EachCountGrows k os ns
+rose_to k os ms ns e h = subst (EachCountGrows k os) (sym e) h
 
-pub together_from : (k : ℕ) (os ms ns : List ℕ) → ms ≡ os → RoseTogether k ms ns → RoseTogether k os ns
-together_from k os ms ns e h = subst (λ xs. RoseTogether k xs ns) e h
+pub together_from : (k : ℕ) (os ms ns : List ℕ) → ms ≡ os → CountsGrowTogether k ms ns → CountsGrowTogether k os ns
+together_from k os ms ns e h = subst (λ xs. CountsGrowTogether k xs ns) e h
 
-pub together_to : (k : ℕ) (os ms ns : List ℕ) → ns ≡ ms → RoseTogether k os ms → RoseTogether k os ns
-together_to k os ms ns e h = subst (RoseTogether k os) (sym e) h
+pub together_to : (k : ℕ) (os ms ns : List ℕ) → ns ≡ ms → CountsGrowTogether k os ms → CountsGrowTogether k os ns
+together_to k os ms ns e h = subst (CountsGrowTogether k os) (sym e) h
 
 pub given_none : (before : ℕ) (os : List ℕ) → AreGiven before before 0 os os
 given_none before os = λ b. (b, omega arith)
 
-pub given_on : (before mid after known f j t : ℕ) (os ms ns : List ℕ) → after ≡ mid + known → t ≡ f + j → AreGiven before mid f os ms → RoseTogether (known + j) ms ns → AreGiven before after t os ns
+pub given_on : (before mid after known f j t : ℕ) (os ms ns : List ℕ) → after ≡ mid + known → t ≡ f + j → AreGiven before mid f os ms → CountsGrowTogether (known + j) ms ns → AreGiven before after t os ns
 given_on before mid after known f j t os ms ns more sum h g = λ b. let second = g b in let first = h second.0 in (first.0, both second.1 first.1)
   where
     both : total ns ≡ total ms + (known + j) → total ms + before ≡ total os + (mid + f) → total ns + before ≡ total os + (after + t)

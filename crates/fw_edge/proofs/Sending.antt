@@ -2,7 +2,7 @@
 use Rattle.std.proofs.Common.{◌≡◌, ◌≤◌, ◌<◌, ◌+◌, ◌-◌, ◌^◌, ◌∙◌, ℕ, zero, suc, List, [], ◌∷◌, get_or, length, map, slice_get, slice_set, refl, sym, ap, subst, subst₂, arith}
 use Rattle.std.proofs.lemmas.List.{map-set}
 use Rattle.fw_steps.specs.Worlds.{SiteOf, packets_at}
-use Rattle.fw_edge.specs.Ledgers.{AllSent, NoneFell, packet_counts}
+use Rattle.fw_edge.specs.Ledgers.{AllSent, NoCountFalls, packet_counts}
 use Rattle.fw_edge.proofs.Rising.{map_get, map_length}
 
 -- none
@@ -53,7 +53,7 @@ sent_next f bs ms os xs i c d y same lt le is h =
 
 -- All packets of the pairs before a place are written, and of the others no more than were sent.
 abbrev pub WrittenBefore : ℕ → List ℕ → List ℕ → Type 0
-WrittenBefore zero ws cs = NoneFell ws cs
+WrittenBefore zero ws cs = NoCountFalls ws cs
 WrittenBefore (suc i) [] [] = Unit {0}
 WrittenBefore (suc i) (w ∷ ws) (c ∷ cs) = (w ≡ c) × WrittenBefore i ws cs
 WrittenBefore (suc i) ws cs = ⊥

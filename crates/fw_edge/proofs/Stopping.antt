@@ -6,11 +6,11 @@ use Rattle.fw_message.specs.declared.side.Side.TheVariants as sides
 use Rattle.fw_steps.specs.Worlds.{WorldOf, eids_of}
 use Rattle.fw_steps.specs.declared.step.Step.{Step}
 use Rattle.fw_edge.specs.Drives.{Drives, ticks_in}
-use Rattle.fw_edge.specs.Links.{Asks, EndsOf, Fails, LinksOf, Rises}
-use Rattle.fw_edge.specs.Ledgers.{Refuses, Writes}
+use Rattle.fw_edge.specs.Links.{AsksForFrame, LinkBytes, FailsCall, LinksOf, CountsOne}
+use Rattle.fw_edge.specs.Ledgers.{RefusesPacket, TakesPackets}
 use Rattle.fw_edge.specs.Hearing.{IsKnown}
-use Rattle.fw_edge.specs.Outcomes.{EndsRead, LinkStopped, StepRefused}
-use Rattle.fw_edge.specs.Turns.{Ask, AsksSome, Came, Hears, RoundStops, both_ends, eid_in, round_ends}
+use Rattle.fw_edge.specs.Outcomes.{LinkReadOk, LinkReadErr, StepErr}
+use Rattle.fw_edge.specs.Turns.{Ask, AsksSome, ReadsAllEnds, HandlesFrames, RoundStops, both_ends, eid_in, round_ends}
 use Rattle.fw_edge.specs.declared.driving.EdgeFault.{EdgeFault}
 use Rattle.fw_edge.specs.declared.driving.EdgeFault.TheVariants as faults
 use Rattle.fw_edge.specs.declared.tally.Tally.{Tally}
@@ -21,9 +21,9 @@ use Rattle.fw_edge.proofs.Rising.{map_length}
 use Rattle.fw_edge.proofs.Turning.{hears_append}
 
 -- a packet isn't taken behind so many
-pub refuses_then : (k : ℕ) (o m n : Tally) → Writes k o m → Fails m n → Refuses k o n
+pub refuses_then : (k : ℕ) (o m n : Tally) → TakesPackets k o m → FailsCall m n → RefusesPacket k o n
 refuses_then k o m n h f = record {
-  failures = subst (λ x. Rises x n.failures) h.failures f.failures;
+  failures = subst (λ x. CountsOne x n.failures) h.failures f.failures;
   sent_rise = λ lt. f.sent ∙ h.sent_rise (subst (λ x. x < 2 ^ 64 - 1) f.sent lt);
   asked = f.asked ∙ h.asked;
   given = f.given ∙ h.given;
@@ -45,7 +45,7 @@ asks_wider e ends more w v before after h = record {
 }
 
 -- behind others
-abbrev pub asks_on : (e : EdgeFault) (asks : List Ask) (ends more : List (ℕ × Side)) (w u v : WorldOf) (before mid after : List Step) → map (λ a. (a.device, a.side)) asks ≡ ends → Hears w before asks u mid
+abbrev pub asks_on : (e : EdgeFault) (asks : List Ask) (ends more : List (ℕ × Side)) (w u v : WorldOf) (before mid after : List Step) → map (λ a. (a.device, a.side)) asks ≡ ends → HandlesFrames w before asks u mid
     → AsksSome e more u mid v after → AsksSome e (ends ++ more) w before v after
 asks_on e asks ends more w u v before mid after are hears k = record {
   asks = asks ++ k.asks;
@@ -65,13 +65,13 @@ round_split (x ∷ es) zero e there = let same : x ≡ e = cc in ap (λ n. both_
 round_split (x ∷ es) (suc i) e there = ap (λ xs. both_ends x ++ xs) (round_split es i e there)
 
 pub asks_round : (told : EdgeFault) (asks : List Ask) (es : List ℕ) (i e : ℕ) (w u v : WorldOf) (before mid after : List Step) → slice_get es i ≡ Some e
-    → map (λ a. (a.device, a.side)) asks ≡ round_ends (take i es) → Hears w before asks u mid → AsksSome told (both_ends e) u mid v after → AsksSome told (round_ends es) w before v after
+    → map (λ a. (a.device, a.side)) asks ≡ round_ends (take i es) → HandlesFrames w before asks u mid → AsksSome told (both_ends e) u mid v after → AsksSome told (round_ends es) w before v after
 asks_round told asks es i e w u v before mid after there are hears k =
     subst (λ xs. AsksSome told xs w before v after) (sym (round_split es i e there))
     (asks_wider told (round_ends (take i es) ++ both_ends e) (round_ends (drop (suc i) es)) w v before after (asks_on told asks (round_ends (take i es)) (both_ends e) w u v before mid after are hears k))
 
 pub asks_at : (e : EdgeFault) (i n device : ℕ) (w u v : WorldOf) (before mid after : List Step) (old new : LinksOf) → Drives w before u mid → i < length w.sites → device ≡ eid_in (slice_get u.sites i)
-    → Came i (eids_of w.sites) w before old u mid new n → AsksSome e (both_ends device) u mid v after → AsksSome e (round_ends (eids_of w.sites)) w before v after
+    → ReadsAllEnds i (eids_of w.sites) w before old u mid new n → AsksSome e (both_ends device) u mid v after → AsksSome e (round_ends (eids_of w.sites)) w before v after
 asks_at e i n device w u v before mid after old new d lt is h k =
     asks_round e h.asks (eids_of w.sites) i device w u v before mid after
     (ap (λ es. slice_get es i) (sym (drives_eids w before u mid d)) ∙ eid_there u.sites i (let same = as_many_sites w before u mid d in omega arith) ∙ ap Some (sym is)) h.ends_are h.hears k
@@ -87,8 +87,8 @@ memory_is_no_frame : {A : Type 0} (e : EdgeFault) → e ≡ faults.Memory → e 
 memory_is_no_frame e is other = absurd (cc)
 
 -- an end gives no answer
-pub link_failed : {A : Type 0} (t : A → Tally) (e : EdgeFault) (device : ℕ) (side : Side) (w : WorldOf) (ss : List Step) (old new : A) → e ≡ faults.Frame → Fails (t old) (t new)
-    → LinkStopped t e ((device, side) ∷ []) w ss old w ss new
+pub link_failed : {A : Type 0} (t : A → Tally) (e : EdgeFault) (device : ℕ) (side : Side) (w : WorldOf) (ss : List Step) (old new : A) → e ≡ faults.Frame → FailsCall (t old) (t new)
+    → LinkReadErr t e ((device, side) ∷ []) w ss old w ss new
 link_failed t e device side w ss old new is f = record {
   drives = drives_none w ss;
   no_tick = refl;
@@ -108,13 +108,13 @@ link_failed t e device side w ss old new is f = record {
     more k = omega arith
 
 -- a count that rises
-rises_by : (o n : ℕ) → Rises o n → n < 2 ^ 64 - 1 → n ≡ o + 1
+rises_by : (o n : ℕ) → CountsOne o n → n < 2 ^ 64 - 1 → n ≡ o + 1
 rises_by o n (inl e) lt = e
 rises_by o n (inr h) lt = absurd (let a = h.0 in let b = h.1 in omega arith)
 
 -- or a frame that isn't handed over
-pub link_refused : {A : Type 0} (t : A → Tally) (e : EdgeFault) (device : ℕ) (side : Side) (w v : WorldOf) (before after : List Step) (gave : Bool) (old new : A) → StepRefused e w before v after
-    → (bytes : List ℕ) → IsKnown w device bytes → Asks gave (t old) (t new) → LinkStopped t e ((device, side) ∷ []) w before old v after new
+pub link_refused : {A : Type 0} (t : A → Tally) (e : EdgeFault) (device : ℕ) (side : Side) (w v : WorldOf) (before after : List Step) (gave : Bool) (old new : A) → StepErr e w before v after
+    → (bytes : List ℕ) → IsKnown w device bytes → AsksForFrame gave (t old) (t new) → LinkReadErr t e ((device, side) ∷ []) w before old v after new
 link_refused t e device side w v before after gave old new r bytes known a = record {
   drives = drives_same w w v before before after (drives_none w before) r.same r.unlisted;
   no_tick = ap ticks_in r.unlisted;
@@ -138,8 +138,8 @@ link_refused t e device side w v before after gave old new r bytes known a = rec
 }
 
 -- the first of both ends
-pub link_first : {A : Type 0} (t : A → Tally) (e : EdgeFault) (device : ℕ) (w v : WorldOf) (before after : List Step) (old new : A) → LinkStopped t e ((device, sides.Device) ∷ []) w before old v after new
-    → LinkStopped t e (both_ends device) w before old v after new
+pub link_first : {A : Type 0} (t : A → Tally) (e : EdgeFault) (device : ℕ) (w v : WorldOf) (before after : List Step) (old new : A) → LinkReadErr t e ((device, sides.Device) ∷ []) w before old v after new
+    → LinkReadErr t e (both_ends device) w before old v after new
 link_first t e device w v before after old new h = record {
   drives = h.drives;
   no_tick = h.no_tick;
@@ -156,9 +156,9 @@ link_first t e device w v before after old new h = record {
 }
 
 -- and the second
-pub link_second : {A : Type 0} (t : A → Tally) (taken gave : A → EndsOf) (e : EdgeFault) (device : ℕ) (w u v : WorldOf) (before mid after : List Step) (old between new : A) (known foreign : ℕ)
-    → EndsRead t taken gave ((device, sides.Device) ∷ []) 1 w before old u mid between known foreign → LinkStopped t e ((device, sides.Agent) ∷ []) u mid between v after new
-    → LinkStopped t e (both_ends device) w before old v after new
+pub link_second : {A : Type 0} (t : A → Tally) (taken gave : A → LinkBytes) (e : EdgeFault) (device : ℕ) (w u v : WorldOf) (before mid after : List Step) (old between new : A) (known foreign : ℕ)
+    → LinkReadOk t taken gave ((device, sides.Device) ∷ []) 1 w before old u mid between known foreign → LinkReadErr t e ((device, sides.Agent) ∷ []) u mid between v after new
+    → LinkReadErr t e (both_ends device) w before old v after new
 link_second t taken gave e device w u v before mid after old between new known foreign h k = record {
   drives = goes_off w u v before mid after 0 known h.goes k.drives;
   no_tick = (let first = h.goes.ticks_rise in let second = k.no_tick in omega arith);

@@ -1,7 +1,7 @@
 -- What a run over links does.
 use Rattle.std.specs.Prelude.{ℕ, ◌≡◌, ◌+◌, ◌++◌, ◌==◌, ◌&&◌, Bool, true, false, IsSomeAnd, length, List, [], ◌∷◌, Option, Some, None}
 use Rattle.std.specs.List.{list_all, sum_by}
-use Rattle.exch_lane.specs.Lanes.{Lives, numbered}
+use Rattle.exch_lane.specs.Lanes.{IsAlive, item_numbered}
 use Rattle.fd_core.specs.declared.states.Verdict.{Verdict}
 use Rattle.fd_core.specs.declared.states.Verdict.TheVariants as verdicts
 use Rattle.fw_node.specs.Agents.{AgentOf, half_for}
@@ -16,7 +16,7 @@ use Rattle.fw_steps.specs.declared.step.Step.TheVariants as steps
 
 -- a packet that is delivered was sent in its pair, and lives
 abbrev pub NamesLiving : WorldOf → Step → Type 0
-NamesLiving w (steps.Deliver device number node) = IsSomeAnd (numbered (packets_of w device) number) (Lives w.now)
+NamesLiving w (steps.Deliver device number node) = IsSomeAnd (item_numbered (packets_of w device) number) (IsAlive w.now)
 NamesLiving w s = Unit {0}
 
 -- so at every step of a run

@@ -1,15 +1,15 @@
 -- Which packet of a pair comes where a frame comes.
 use Rattle.std.specs.Prelude.{ℕ, ◌≡◌, ◌≤◌, IsSomeAnd, List, Option, None, Some}
-use Rattle.exch_lane.specs.Lanes.{Lives, Sent, numbered}
+use Rattle.exch_lane.specs.Lanes.{IsAlive, Sent, item_numbered}
 use Rattle.fw_steps.specs.Worlds.{WorldOf, packets_of}
 
 -- a packet may still come, and has these bytes
 abbrev pub LivesWith : (now : ℕ) → List ℕ → Sent → Type 0
-LivesWith now bytes p = Lives now p × (p.bytes ≡ bytes)
+LivesWith now bytes p = IsAlive now p × (p.bytes ≡ bytes)
 
 -- there is such a packet of this number, counted from 1
 abbrev pub IsLiving : (now : ℕ) → List Sent → List ℕ → (number : ℕ) → Type 0
-IsLiving now packets bytes number = IsSomeAnd (numbered packets number) (LivesWith now bytes)
+IsLiving now packets bytes number = IsSomeAnd (item_numbered packets number) (LivesWith now bytes)
 
 -- it is the last such packet; or there is none
 abbrev pub IsLastLiving : (now : ℕ) → List Sent → List ℕ → Option ℕ → Type 0

@@ -6,42 +6,42 @@ use Rattle.fw_steps.specs.Replays.{needs_memory}
 use Rattle.fw_steps.specs.Worlds.{WorldOf, eids_of}
 use Rattle.fw_steps.specs.declared.step.Step.{Step}
 use Rattle.fw_edge.specs.Drives.{Drives, DrivesCounted, all_over, delivers_in, ticks_in}
-use Rattle.fw_edge.specs.Ledgers.{AllRose, AllSent, AreGiven, AreToldOf, IsToldOf, Reads, Refuses, RoseTogether, StopsAt, Writes, packet_counts}
-use Rattle.fw_edge.specs.Links.{EndsOf, LinksOf, links_at}
-use Rattle.fw_edge.specs.Turns.{AsksSome, Came, CameAt, Drove, Stopped, StopsTurn, TakesSome, TurnStops, round_ends}
+use Rattle.fw_edge.specs.Ledgers.{EachCountGrows, AllSent, AreGiven, ReportsFaultOfLinks, ReportsLinkFault, GivesFrames, RefusesPacket, CountsGrowTogether, StopsAt, TakesPackets, packet_counts}
+use Rattle.fw_edge.specs.Links.{LinkBytes, LinksOf, links_at}
+use Rattle.fw_edge.specs.Turns.{AsksSome, ReadsAllEnds, ReadsEnds, DrivesTurns, StopsDrive, StopsTurn, TakesSome, TurnStops, round_ends}
 use Rattle.fw_edge.specs.declared.driving.EdgeFault.{EdgeFault}
 use Rattle.fw_edge.specs.declared.driving.EdgeFault.TheVariants as faults
 use Rattle.fw_edge.specs.declared.tally.Tally.{Tally}
 
 -- A link took so many packets, and gave nothing.
-pub record LinkWrote {A : Type 0} (tally : A → Tally) (gave : A → EndsOf) (packets : ℕ) (old new : A) : Type 0 where
-  pub counts : Writes packets (tally old) (tally new)
+pub record LinkWriteOk {A : Type 0} (tally : A → Tally) (gave : A → LinkBytes) (packets : ℕ) (old new : A) : Type 0 where
+  pub counts : TakesPackets packets (tally old) (tally new)
   pub gave_none : gave new ≡ gave old
 
 -- It took fewer, and didn't take the next: that is the fault, and it counts it, and nothing after it.
-pub record LinkRefused {A : Type 0} (tally : A → Tally) (told : EdgeFault) (packets : ℕ) (old new : A) : Type 0 where
+pub record LinkWriteErr {A : Type 0} (tally : A → Tally) (told : EdgeFault) (packets : ℕ) (old new : A) : Type 0 where
   pub is : told ≡ faults.Frame
   pub taken : ℕ
   pub fewer : taken < packets
-  pub counts : Refuses taken (tally old) (tally new)
+  pub counts : RefusesPacket taken (tally old) (tally new)
 
 -- Ends of a link were asked for a frame each, in this order. Of the frames that came so many are living packets of its pair, each of which
 -- was delivered, and so many are foreign; the link took nothing.
-pub record EndsRead {A : Type 0} (tally : A → Tally) (taken gave : A → EndsOf) (ends : List (ℕ × Side)) (asked : ℕ) (w : WorldOf) (before : List Step) (old : A) (v : WorldOf) (after : List Step) (new : A) (known foreign : ℕ) : Type 0 where
+pub record LinkReadOk {A : Type 0} (tally : A → Tally) (taken gave : A → LinkBytes) (ends : List (ℕ × Side)) (asked : ℕ) (w : WorldOf) (before : List Step) (old : A) (v : WorldOf) (after : List Step) (new : A) (known foreign : ℕ) : Type 0 where
   pub goes : DrivesCounted w before v after 0 known
   pub few : known + foreign ≤ asked
-  pub came : CameAt w before (gave old) ends v after (gave new) (known + foreign)
+  pub came : ReadsEnds w before (gave old) ends v after (gave new) (known + foreign)
   pub took_none : taken new ≡ taken old
-  pub reads : Reads asked (known + foreign) (tally old) (tally new)
+  pub reads : GivesFrames asked (known + foreign) (tally old) (tally new)
 
 -- A fault ended that, at one of the ends: those before it were asked, and no others. That end gave no answer, where the fault is the link's,
 -- and else a frame that isn't handed over. The steps that were taken are listed; the fault isn't the clock's, and the link's only where it
 -- failed, once.
-pub record LinkStopped {A : Type 0} (tally : A → Tally) (told : EdgeFault) (ends : List (ℕ × Side)) (w : WorldOf) (before : List Step) (old : A) (v : WorldOf) (after : List Step) (new : A) : Type 0 where
+pub record LinkReadErr {A : Type 0} (tally : A → Tally) (told : EdgeFault) (ends : List (ℕ × Side)) (w : WorldOf) (before : List Step) (old : A) (v : WorldOf) (after : List Step) (new : A) : Type 0 where
   pub drives : Drives w before v after
   pub no_tick : ticks_in after ≡ ticks_in before
   pub fault : told ≢ faults.Step
-  pub failed : IsToldOf told (tally old).failures (tally new).failures
+  pub failed : ReportsLinkFault told (tally old).failures (tally new).failures
   pub some : AsksSome told ends w before v after
   pub sent : (tally new).sent ≡ (tally old).sent
   pub answered : ℕ
@@ -52,43 +52,43 @@ pub record LinkStopped {A : Type 0} (tally : A → Tally) (told : EdgeFault) (en
   pub unhanded : told ≢ faults.Frame → answered ≡ length some.asks + 1
 
 -- No link failed, was asked for a frame, or gave one; and each took the packets by which the count of its pair rose.
-pub record LinksWrote {A : Type 0} (tally : A → Tally) (before after : List ℕ) (olds news : List A) : Type 0 where
+pub record LinksWriteOk {A : Type 0} (tally : A → Tally) (before after : List ℕ) (olds news : List A) : Type 0 where
   pub kept : map (λ l. (tally l).failures) news ≡ map (λ l. (tally l).failures) olds
   pub asked : map (λ l. (tally l).asked) news ≡ map (λ l. (tally l).asked) olds
   pub given : map (λ l. (tally l).given) news ≡ map (λ l. (tally l).given) olds
   pub sent : AllSent before after (map (λ l. (tally l).sent) olds) (map (λ l. (tally l).sent) news)
 
 -- One didn't take one: that is the fault, and it counts it. Those behind it are as they were.
-pub record LinksRefused {A : Type 0} (tally : A → Tally) (told : EdgeFault) (olds news : List A) : Type 0 where
+pub record LinksWriteErr {A : Type 0} (tally : A → Tally) (told : EdgeFault) (olds news : List A) : Type 0 where
   pub is : told ≡ faults.Frame
   pub failed : StopsAt told (λ l. (tally l).failures) olds news
 
 -- No link failed or took a packet; each was asked so often at least, and all gave so many frames together.
-pub record LinksRead {A : Type 0} (tally : A → Tally) (least frames : ℕ) (olds news : List A) : Type 0 where
+pub record LinksReadOk {A : Type 0} (tally : A → Tally) (least frames : ℕ) (olds news : List A) : Type 0 where
   pub kept : map (λ l. (tally l).failures) news ≡ map (λ l. (tally l).failures) olds
-  pub asked : AllRose least (map (λ l. (tally l).asked) olds) (map (λ l. (tally l).asked) news)
-  pub given : RoseTogether frames (map (λ l. (tally l).given) olds) (map (λ l. (tally l).given) news)
+  pub asked : EachCountGrows least (map (λ l. (tally l).asked) olds) (map (λ l. (tally l).asked) news)
+  pub given : CountsGrowTogether frames (map (λ l. (tally l).given) olds) (map (λ l. (tally l).given) news)
   pub sent : map (λ l. (tally l).sent) news ≡ map (λ l. (tally l).sent) olds
 
 -- No link failed; each was asked so often at least, all gave so many frames together, and each took the packets by which the count of its
 -- pair rose.
-pub record LinksExchanged {A : Type 0} (tally : A → Tally) (least frames : ℕ) (before after : List ℕ) (olds news : List A) : Type 0 where
+pub record LinksExchangeOk {A : Type 0} (tally : A → Tally) (least frames : ℕ) (before after : List ℕ) (olds news : List A) : Type 0 where
   pub kept : map (λ l. (tally l).failures) news ≡ map (λ l. (tally l).failures) olds
-  pub asked : AllRose least (map (λ l. (tally l).asked) olds) (map (λ l. (tally l).asked) news)
-  pub given : RoseTogether frames (map (λ l. (tally l).given) olds) (map (λ l. (tally l).given) news)
+  pub asked : EachCountGrows least (map (λ l. (tally l).asked) olds) (map (λ l. (tally l).asked) news)
+  pub given : CountsGrowTogether frames (map (λ l. (tally l).given) olds) (map (λ l. (tally l).given) news)
   pub sent : AllSent before after (map (λ l. (tally l).sent) olds) (map (λ l. (tally l).sent) news)
 
 -- Each end of each link was asked for a frame. Of those that came so many are living packets, each of which was delivered, and so many are
 -- foreign.
-pub record RoundRead {A : Type 0} (tally : A → Tally) (taken gave : A → EndsOf) (w : WorldOf) (before : List Step) (olds : List A) (v : WorldOf) (after : List Step) (news : List A) (known foreign : ℕ) : Type 0 where
-  pub came : Came (length (eids_of w.sites)) (eids_of w.sites) w before (links_at [] (map taken olds) (map gave olds)) v after (links_at [] (map taken news) (map gave news)) (known + foreign)
+pub record RoundOk {A : Type 0} (tally : A → Tally) (taken gave : A → LinkBytes) (w : WorldOf) (before : List Step) (olds : List A) (v : WorldOf) (after : List Step) (news : List A) (known foreign : ℕ) : Type 0 where
+  pub came : ReadsAllEnds (length (eids_of w.sites)) (eids_of w.sites) w before (links_at [] (map taken olds) (map gave olds)) v after (links_at [] (map taken news) (map gave news)) (known + foreign)
   pub goes : DrivesCounted w before v after 0 known
   pub few : known + foreign ≤ 32
-  pub counts : LinksRead tally 2 (known + foreign) olds news
+  pub counts : LinksReadOk tally 2 (known + foreign) olds news
 
 -- A fault ended that, at one of the ends: those before it were asked, and no others, and the links behind its own are as they were. The steps
 -- that were taken are listed; the fault isn't the clock's, and a link's only where one failed, once.
-pub record RoundStopped {A : Type 0} (tally : A → Tally) (told : EdgeFault) (w : WorldOf) (before : List Step) (olds : List A) (v : WorldOf) (after : List Step) (news : List A) : Type 0 where
+pub record RoundErr {A : Type 0} (tally : A → Tally) (told : EdgeFault) (w : WorldOf) (before : List Step) (olds : List A) (v : WorldOf) (after : List Step) (news : List A) : Type 0 where
   pub drives : Drives w before v after
   pub no_tick : ticks_in after ≡ ticks_in before
   pub fault : told ≢ faults.Step
@@ -97,52 +97,52 @@ pub record RoundStopped {A : Type 0} (tally : A → Tally) (told : EdgeFault) (w
 
 -- A part of a turn did what it is to do, over links to which so many packets of each pair were written before, and so many are now. Of the
 -- frames that came so many are living packets, each of which was delivered, and so many are foreign.
-pub record PartDone {A : Type 0} (tally : A → Tally) (taken gave : A → EndsOf) (does : WorldOf → List Step → LinksOf → WorldOf → List Step → LinksOf → (count : ℕ) → Type 0) (ticks most : ℕ) (w : WorldOf) (before : List Step) (written_before : List ℕ) (olds : List A) (v : WorldOf) (after : List Step) (written : List ℕ) (news : List A) (known foreign : ℕ) : Type 0 where
+pub record PartOk {A : Type 0} (tally : A → Tally) (taken gave : A → LinkBytes) (does : WorldOf → List Step → LinksOf → WorldOf → List Step → LinksOf → (count : ℕ) → Type 0) (ticks most : ℕ) (w : WorldOf) (before : List Step) (written_before : List ℕ) (olds : List A) (v : WorldOf) (after : List Step) (written : List ℕ) (news : List A) (known foreign : ℕ) : Type 0 where
   pub does_so : does w before (links_at written_before (map taken olds) (map gave olds)) v after (links_at written (map taken news) (map gave news)) (known + foreign)
   pub goes : DrivesCounted w before v after ticks known
   pub few : known + foreign ≤ most
-  pub counts : LinksExchanged tally 2 (known + foreign) written_before written olds news
+  pub counts : LinksExchangeOk tally 2 (known + foreign) written_before written olds news
 
 -- A fault ended it, in this way. The steps that were taken are listed, none of them a tick; the fault isn't the clock's, and a link's only
 -- where one failed, once.
-pub record PartStopped {A : Type 0} (tally : A → Tally) (taken gave : A → EndsOf) (stops : WorldOf → List Step → LinksOf → WorldOf → List Step → Type 0) (told : EdgeFault) (w : WorldOf) (before : List Step) (written : List ℕ) (olds : List A) (v : WorldOf) (after : List Step) (news : List A) : Type 0 where
+pub record PartErr {A : Type 0} (tally : A → Tally) (taken gave : A → LinkBytes) (stops : WorldOf → List Step → LinksOf → WorldOf → List Step → Type 0) (told : EdgeFault) (w : WorldOf) (before : List Step) (written : List ℕ) (olds : List A) (v : WorldOf) (after : List Step) (news : List A) : Type 0 where
   pub drives : Drives w before v after
   pub no_tick : ticks_in after ≡ ticks_in before
   pub stops_so : stops w before (links_at written (map taken olds) (map gave olds)) v after
   pub fault : told ≢ faults.Step
-  pub failed : AreToldOf told (map (λ l. (tally l).failures) olds) (map (λ l. (tally l).failures) news)
+  pub failed : ReportsFaultOfLinks told (map (λ l. (tally l).failures) olds) (map (λ l. (tally l).failures) news)
 
 -- A fault ended a turn, in one of its parts. The steps that were taken are listed, one of them a tick at most; the fault is the clock's where
 -- that stands at its end, and a link's only where one failed, once.
-pub record TurnStopped {A : Type 0} (tally : A → Tally) (taken gave : A → EndsOf) (told : EdgeFault) (w : WorldOf) (before : List Step) (written : List ℕ) (olds : List A) (v : WorldOf) (after : List Step) (news : List A) : Type 0 where
+pub record TurnErr {A : Type 0} (tally : A → Tally) (taken gave : A → LinkBytes) (told : EdgeFault) (w : WorldOf) (before : List Step) (written : List ℕ) (olds : List A) (v : WorldOf) (after : List Step) (news : List A) : Type 0 where
   pub drives : Drives w before v after
   pub few : ticks_in after ≤ ticks_in before + 1
   pub last : TurnStops told w before (links_at written (map taken olds) (map gave olds)) v after
-  pub failed : AreToldOf told (map (λ l. (tally l).failures) olds) (map (λ l. (tally l).failures) news)
+  pub failed : ReportsFaultOfLinks told (map (λ l. (tally l).failures) olds) (map (λ l. (tally l).failures) news)
   pub stops : StopsTurn told w before v after
 
 -- In so many turns no link failed, and each was asked twice a turn at least. All gave what was delivered and what was foreign, and each took
 -- the packets that its pair gained.
-pub record LinksDriven {A : Type 0} (tally : A → Tally) (turns : ℕ) (w : WorldOf) (before : List Step) (olds : List A) (v : WorldOf) (after : List Step) (news : List A) (foreign : ℕ) : Type 0 where
+pub record LinksDriveOk {A : Type 0} (tally : A → Tally) (turns : ℕ) (w : WorldOf) (before : List Step) (olds : List A) (v : WorldOf) (after : List Step) (news : List A) (foreign : ℕ) : Type 0 where
   pub kept : map (λ l. (tally l).failures) news ≡ map (λ l. (tally l).failures) olds
-  pub asked : AllRose (2 * turns) (map (λ l. (tally l).asked) olds) (map (λ l. (tally l).asked) news)
+  pub asked : EachCountGrows (2 * turns) (map (λ l. (tally l).asked) olds) (map (λ l. (tally l).asked) news)
   pub given : AreGiven (delivers_in before) (delivers_in after) foreign (map (λ l. (tally l).given) olds) (map (λ l. (tally l).given) news)
   pub sent : AllSent (packet_counts w.sites) (packet_counts v.sites) (map (λ l. (tally l).sent) olds) (map (λ l. (tally l).sent) news)
 
 -- A run took so many turns of those that were asked for, a tick each: all, or fewer with each session Done or Failed.
-pub record RunDone {A : Type 0} (tally : A → Tally) (taken gave : A → EndsOf) (asked_for : ℕ) (w : WorldOf) (before : List Step) (written_before : List ℕ) (olds : List A) (v : WorldOf) (after : List Step) (written : List ℕ) (news : List A) (turns foreign : ℕ) : Type 0 where
-  pub drove : Drove turns w before (links_at written_before (map taken olds) (map gave olds)) v after (links_at written (map taken news) (map gave news)) foreign
+pub record DriveOk {A : Type 0} (tally : A → Tally) (taken gave : A → LinkBytes) (asked_for : ℕ) (w : WorldOf) (before : List Step) (written_before : List ℕ) (olds : List A) (v : WorldOf) (after : List Step) (written : List ℕ) (news : List A) (turns foreign : ℕ) : Type 0 where
+  pub drove : DrivesTurns turns w before (links_at written_before (map taken olds) (map gave olds)) v after (links_at written (map taken news) (map gave news)) foreign
   pub ticks : ticks_in after ≡ ticks_in before + turns
   pub within : turns ≤ asked_for
   pub ended : turns < asked_for → all_over v ≡ true
-  pub counts : LinksDriven tally turns w before olds v after news foreign
+  pub counts : LinksDriveOk tally turns w before olds v after news foreign
 
 -- A fault ended it, in the turn behind so many, fewer than were asked for: a link's where one failed, once, and the clock's where that stands
 -- at its end.
-pub record RunStopped {A : Type 0} (tally : A → Tally) (taken gave : A → EndsOf) (asked_for : ℕ) (told : EdgeFault) (w : WorldOf) (before : List Step) (written_before : List ℕ) (olds : List A) (v : WorldOf) (after : List Step) (news : List A) : Type 0 where
-  pub failed : AreToldOf told (map (λ l. (tally l).failures) olds) (map (λ l. (tally l).failures) news)
+pub record DriveErr {A : Type 0} (tally : A → Tally) (taken gave : A → LinkBytes) (asked_for : ℕ) (told : EdgeFault) (w : WorldOf) (before : List Step) (written_before : List ℕ) (olds : List A) (v : WorldOf) (after : List Step) (news : List A) : Type 0 where
+  pub failed : ReportsFaultOfLinks told (map (λ l. (tally l).failures) olds) (map (λ l. (tally l).failures) news)
   pub step : told ≡ faults.Step → v.now ≡ 2 ^ 32 - 1
-  pub stopped : Stopped told w before (links_at written_before (map taken olds) (map gave olds)) v after
+  pub stopped : StopsDrive told w before (links_at written_before (map taken olds) (map gave olds)) v after
   pub within : stopped.turns < asked_for
   pub ticks : ticks_in after ≤ ticks_in before + (stopped.turns + 1)
 
@@ -152,13 +152,13 @@ pub record SentNone (w : WorldOf) (before : List Step) (v : WorldOf) (after : Li
   pub sent : packet_counts v.sites ≡ packet_counts w.sites
 
 -- Memory was refused, and nothing has changed.
-pub record StepRefused (told : EdgeFault) (w : WorldOf) (before : List Step) (v : WorldOf) (after : List Step) : Type 0 where
+pub record StepErr (told : EdgeFault) (w : WorldOf) (before : List Step) (v : WorldOf) (after : List Step) : Type 0 where
   pub fault : told ≡ faults.Memory
   pub same : v ≡ w
   pub unlisted : after ≡ before
 
 -- Memory was refused to one of these steps, none of which is a tick. Those before it were taken, and are listed.
-pub record StepsStopped (told : EdgeFault) (ss : List Step) (w : WorldOf) (before : List Step) (v : WorldOf) (after : List Step) : Type 0 where
+pub record StepsErr (told : EdgeFault) (ss : List Step) (w : WorldOf) (before : List Step) (v : WorldOf) (after : List Step) : Type 0 where
   pub drives : Drives w before v after
   pub no_tick : ticks_in after ≡ ticks_in before
   pub fault : told ≡ faults.Memory

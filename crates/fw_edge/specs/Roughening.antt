@@ -3,25 +3,25 @@ use Rattle.std.specs.Prelude.{ℕ, ◌≡◌, ◌≢◌, ◌≤◌, ◌+◌, ◌
 use Rattle.std.specs.List.{AllByRecursion, filter}
 use Rattle.fw_edge.specs.Fates.{fate_of}
 use Rattle.fw_edge.specs.Frames.{frames_of}
-use Rattle.fw_edge.specs.Links.{EndsOf, GrowsAt, Rises}
+use Rattle.fw_edge.specs.Links.{LinkBytes, GrowsAt, CountsOne}
 use Rattle.fw_edge.specs.declared.fates.Fate.{Fate}
 use Rattle.fw_edge.specs.declared.fates.Fate.TheVariants as fates
 use Rattle.fw_edge.specs.declared.fates.Roughness.{Roughness}
-use Rattle.fw_edge.specs.declared.rough.Held.{Held}
+use Rattle.fw_edge.specs.declared.rough.DelayedPacket.{DelayedPacket}
 use Rattle.fw_message.specs.declared.side.Side.{Side}
 use Rattle.fw_message.specs.declared.side.Side.TheVariants as sides
 use Rattle.rand_pcg.specs.Lcg.{Lcg}
 
 -- A packet that is held back: the end at which it was sent, the turn behind which it goes out, and its bytes.
-pub record HeldOf : Type 0 where
+pub record DelayedPacketOf : Type 0 where
   pub side : Side
   pub due : ℕ
   pub bytes : List ℕ
 
-abbrev pub held_of : Held → HeldOf
+abbrev pub held_of : DelayedPacket → DelayedPacketOf
 held_of h = record { side = h.side; due = h.due; bytes = h.packet.items }
 
-abbrev pub helds_of : List Held → List HeldOf
+abbrev pub helds_of : List DelayedPacket → List DelayedPacketOf
 helds_of hs = map held_of hs
 
 -- how many turns late each copy of a packet comes
@@ -35,26 +35,26 @@ abbrev pub at_once : List ℕ → (bytes : List ℕ) → List (List ℕ)
 at_once waits bytes = map (λ w. bytes) (filter (λ w. w == 0) waits)
 
 -- and those that are held back, from this turn on
-abbrev pub late : (turn : ℕ) → List ℕ → Side → (bytes : List ℕ) → List HeldOf
-late turn waits side bytes = map (λ w. record { side = side; due = min (turn + w) (2 ^ 64 - 1); bytes = bytes }) (filter (λ w. nat_lt 0 w) waits)
+abbrev pub late_copies : (turn : ℕ) → List ℕ → Side → (bytes : List ℕ) → List DelayedPacketOf
+late_copies turn waits side bytes = map (λ w. record { side = side; due = min (turn + w) (2 ^ 64 - 1); bytes = bytes }) (filter (λ w. nat_lt 0 w) waits)
 
 -- A packet that was sent at an end goes on to the link below so often at once, and the other copies are held back.
-pub record PassesOn (turn : ℕ) (waits : List ℕ) (side : Side) (bytes : List ℕ) (took took_now : EndsOf) (held held_now : List HeldOf) : Type 0 where
+pub record PassesOn (turn : ℕ) (waits : List ℕ) (side : Side) (bytes : List ℕ) (took took_now : LinkBytes) (held held_now : List DelayedPacketOf) : Type 0 where
   pub now : GrowsAt side (frames_of (at_once waits bytes)) took took_now
-  pub later : held_now ≡ held ++ late turn waits side bytes
+  pub later : held_now ≡ held ++ late_copies turn waits side bytes
 
 -- A copy of a packet isn't passed on: the link below refuses one that isn't late, and counts that; or there is no room to hold one back.
-pub record IsRefused (wait : ℕ) (failures failures_now held room : ℕ) : Type 0 where
-  pub failed : wait ≡ 0 → Rises failures failures_now
+pub record IsRefusedCopy (wait : ℕ) (failures failures_now held room : ℕ) : Type 0 where
+  pub failed : wait ≡ 0 → CountsOne failures failures_now
   pub kept : wait ≢ 0 → failures_now ≡ failures
   pub full : wait ≢ 0 → room ≤ held
 
 -- The copies of a packet are passed on up to one that isn't.
-abbrev pub PassesSome : (turn : ℕ) → List ℕ → Side → (bytes : List ℕ) → (failures failures_now room : ℕ) → (held held_now : List HeldOf) → Type 0
+abbrev pub PassesSome : (turn : ℕ) → List ℕ → Side → (bytes : List ℕ) → (failures failures_now room : ℕ) → (held held_now : List DelayedPacketOf) → Type 0
 PassesSome turn [] side bytes failures failures_now room held held_now = ⊥
 PassesSome turn (wait ∷ waits) side bytes failures failures_now room held held_now =
-    (IsRefused wait failures failures_now (length held_now) room × (held_now ≡ held))
-    ⊎ PassesSome turn waits side bytes failures failures_now room (held ++ late turn (wait ∷ []) side bytes) held_now
+    (IsRefusedCopy wait failures failures_now (length held_now) room × (held_now ≡ held))
+    ⊎ PassesSome turn waits side bytes failures failures_now room (held ++ late_copies turn (wait ∷ []) side bytes) held_now
 
 -- A turn, as a link sees it, ends where its ends are asked one after the other, the device's first, and neither gives a frame.
 abbrev pub ends_turn : Side → (gave is_idle : Bool) → Bool
@@ -67,25 +67,25 @@ idle_after sides.Device gave = not gave
 idle_after sides.Agent gave = false
 
 -- behind a turn the packets that are due go out, and others are late still
-abbrev pub is_late : (turn : ℕ) → HeldOf → Bool
+abbrev pub is_late : (turn : ℕ) → DelayedPacketOf → Bool
 is_late turn h = nat_lt turn h.due
 
-abbrev pub is_due : (turn : ℕ) → HeldOf → Bool
+abbrev pub is_due : (turn : ℕ) → DelayedPacketOf → Bool
 is_due turn h = not (is_late turn h)
 
 -- Packets go out, one after another, each at its end.
-abbrev pub GoOut : List HeldOf → EndsOf → EndsOf → Type 0
+abbrev pub GoOut : List DelayedPacketOf → LinkBytes → LinkBytes → Type 0
 GoOut [] old new = new ≡ old
-GoOut (h ∷ hs) old new = (mid : EndsOf) × GrowsAt h.side (frames_of (h.bytes ∷ [])) old mid × GoOut hs mid new
+GoOut (h ∷ hs) old new = (mid : LinkBytes) × GrowsAt h.side (frames_of (h.bytes ∷ [])) old mid × GoOut hs mid new
 
-pub record Releases (turn : ℕ) (took took_now : EndsOf) (held held_now : List HeldOf) : Type 0 where
+pub record Releases (turn : ℕ) (took took_now : LinkBytes) (held held_now : List DelayedPacketOf) : Type 0 where
   pub out : GoOut (filter (is_due turn) held) took took_now
   pub left : held_now ≡ filter (is_late turn) held
 
 -- THE LAW
 
 -- What becomes of a packet is within what is asked for.
-pub record IsWithin (r : Roughness) (fate : Fate) : Type 0 where
+pub record IsWithinRoughness (r : Roughness) (fate : Fate) : Type 0 where
   pub none_lost : r.loss ≡ 0 → 1 ≤ length (waits_of fate)
   pub all_lost : 100 ≤ r.loss → waits_of fate ≡ []
   pub none_doubled : r.duplicate ≡ 0 → length (waits_of fate) ≤ 1
@@ -93,4 +93,4 @@ pub record IsWithin (r : Roughness) (fate : Fate) : Type 0 where
   pub late : AllByRecursion (λ w. w ≤ r.delay) (waits_of fate)
 
 abbrev pub FatesAreWithin : Type 0
-FatesAreWithin = (r : Roughness) (g : Lcg) → IsWithin r (fate_of r g)
+FatesAreWithin = (r : Roughness) (g : Lcg) → IsWithinRoughness r (fate_of r g)

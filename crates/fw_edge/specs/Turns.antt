@@ -7,7 +7,7 @@ use Rattle.fd_core.specs.declared.states.Verdict.TheVariants as verdicts
 use Rattle.fw_message.specs.declared.side.Side.{Side}
 use Rattle.fw_message.specs.declared.side.Side.TheVariants as sides
 use Rattle.fw_node.specs.Agents.{ready_for}
-use Rattle.fw_steps.specs.Headline.{Leads, Run}
+use Rattle.fw_steps.specs.Headline.{StepsTo, Run}
 use Rattle.fw_steps.specs.Worlds.{SiteOf, WorldOf, eids_of, full_tick, site_for}
 use Rattle.fw_steps.specs.declared.step.Step.{Step}
 use Rattle.fw_steps.specs.declared.step.Step.TheVariants as steps
@@ -16,7 +16,7 @@ use Rattle.fw_edge.specs.declared.driving.EdgeFault.{EdgeFault}
 use Rattle.fw_edge.specs.declared.driving.EdgeFault.TheVariants as faults
 use Rattle.fw_edge.specs.Frames.{frames_of}
 use Rattle.fw_edge.specs.Hearing.{IsHeard, IsKnown}
-use Rattle.fw_edge.specs.Links.{EndsOf, GrowsAt, LinksOf}
+use Rattle.fw_edge.specs.Links.{LinkBytes, GrowsAt, LinksOf}
 use Rattle.fw_edge.specs.Outgoing.{WritesOut}
 
 -- the identifier of the device at a place
@@ -32,7 +32,7 @@ node_at w device sides.Device = device
 -- a step is taken and listed, if there is one
 abbrev pub TakesIf : WorldOf → List Step → Option Step → WorldOf → List Step → Type 0
 TakesIf w before None v after = (v ≡ w) × (after ≡ before)
-TakesIf w before (Some s) v after = Leads w s v × (after ≡ before ++ s ∷ [])
+TakesIf w before (Some s) v after = StepsTo w s v × (after ≡ before ++ s ∷ [])
 
 -- the verdict that a device waits for: that all is well
 abbrev pub awaited_by : DeviceState → Option Verdict
@@ -78,15 +78,15 @@ pub record Ask : Type 0 where
   pub side : Side
   pub frame : Option (List ℕ)
 
-abbrev pub HearsFrame : WorldOf → List Step → (device : ℕ) → Side → Option (List ℕ) → WorldOf → List Step → Type 0
-HearsFrame w before device side None v after = (v ≡ w) × (after ≡ before)
-HearsFrame w before device side (Some bytes) v after = HandsOver w before device side bytes v after
+abbrev pub HandlesFrame : WorldOf → List Step → (device : ℕ) → Side → Option (List ℕ) → WorldOf → List Step → Type 0
+HandlesFrame w before device side None v after = (v ≡ w) × (after ≡ before)
+HandlesFrame w before device side (Some bytes) v after = HandsOver w before device side bytes v after
 
 -- one after the other
-abbrev pub Hears : WorldOf → List Step → List Ask → WorldOf → List Step → Type 0
-Hears w before [] v after = (v ≡ w) × (after ≡ before)
-Hears w before (a ∷ rest) v after =
-    (mid : WorldOf) × (steps : List Step) × HearsFrame w before a.device a.side a.frame mid steps × Hears mid steps rest v after
+abbrev pub HandlesFrames : WorldOf → List Step → List Ask → WorldOf → List Step → Type 0
+HandlesFrames w before [] v after = (v ≡ w) × (after ≡ before)
+HandlesFrames w before (a ∷ rest) v after =
+    (mid : WorldOf) × (steps : List Step) × HandlesFrame w before a.device a.side a.frame mid steps × HandlesFrames mid steps rest v after
 
 -- how many frames came
 abbrev pub frame_in : Option (List ℕ) → ℕ
@@ -98,22 +98,22 @@ frames_in [] = 0
 frames_in (a ∷ rest) = frame_in a.frame + frames_in rest
 
 -- what a link gave where its ends were asked, one after the other
-abbrev pub Gave : EndsOf → List Ask → EndsOf → Type 0
-Gave old [] new = new ≡ old
-Gave old (a ∷ rest) new = (mid : EndsOf) × GrowsAt a.side (frames_of (option_to_list a.frame)) old mid × Gave mid rest new
+abbrev pub LinkGives : LinkBytes → List Ask → LinkBytes → Type 0
+LinkGives old [] new = new ≡ old
+LinkGives old (a ∷ rest) new = (mid : LinkBytes) × GrowsAt a.side (frames_of (option_to_list a.frame)) old mid × LinkGives mid rest new
 
 -- what the first so many links gave, where both ends of each were asked; the others gave nothing
-abbrev pub GaveEach : ℕ → List EndsOf → List Ask → List EndsOf → Type 0
-GaveEach zero olds [] news = news ≡ olds
-GaveEach (suc n) (old ∷ olds) (first ∷ second ∷ rest) (new ∷ news) = Gave old (first ∷ second ∷ []) new × GaveEach n olds rest news
-GaveEach n olds asks news = ⊥
+abbrev pub LinksGive : ℕ → List LinkBytes → List Ask → List LinkBytes → Type 0
+LinksGive zero olds [] news = news ≡ olds
+LinksGive (suc n) (old ∷ olds) (first ∷ second ∷ rest) (new ∷ news) = LinkGives old (first ∷ second ∷ []) new × LinksGive n olds rest news
+LinksGive n olds asks news = ⊥
 
 -- These ends of a link were asked, in this order, and so many frames came: those that the link gave.
-pub record CameAt (w : WorldOf) (before : List Step) (old : EndsOf) (ends : List (ℕ × Side)) (v : WorldOf) (after : List Step) (new : EndsOf) (count : ℕ) : Type 0 where
+pub record ReadsEnds (w : WorldOf) (before : List Step) (old : LinkBytes) (ends : List (ℕ × Side)) (v : WorldOf) (after : List Step) (new : LinkBytes) (count : ℕ) : Type 0 where
   pub asks : List Ask
   pub ends_are : map (λ a. (a.device, a.side)) asks ≡ ends
-  pub hears : Hears w before asks v after
-  pub gave : Gave old asks new
+  pub hears : HandlesFrames w before asks v after
+  pub gave : LinkGives old asks new
   pub count_is : count ≡ frames_in asks
 
 -- the ends of a device's link, the device's first; and of each link, in configured order
@@ -125,11 +125,11 @@ round_ends [] = []
 round_ends (e ∷ es) = both_ends e ++ round_ends es
 
 -- The ends of the links of the first so many devices were asked, in this order, and so many frames came: those that the links gave.
-pub record Came (devices : ℕ) (es : List ℕ) (w : WorldOf) (before : List Step) (old : LinksOf) (v : WorldOf) (after : List Step) (new : LinksOf) (count : ℕ) : Type 0 where
+pub record ReadsAllEnds (devices : ℕ) (es : List ℕ) (w : WorldOf) (before : List Step) (old : LinksOf) (v : WorldOf) (after : List Step) (new : LinksOf) (count : ℕ) : Type 0 where
   pub asks : List Ask
   pub ends_are : map (λ a. (a.device, a.side)) asks ≡ round_ends (take devices es)
-  pub hears : Hears w before asks v after
-  pub gave : GaveEach devices old.gave asks new.gave
+  pub hears : HandlesFrames w before asks v after
+  pub gave : LinksGive devices old.gave asks new.gave
   pub took_none : new.took ≡ old.took
   pub count_is : count ≡ frames_in asks
 
@@ -137,7 +137,7 @@ pub record Came (devices : ℕ) (es : List ℕ) (w : WorldOf) (before : List Ste
 pub record RoundOf (es : List ℕ) (w : WorldOf) (before : List Step) (old : LinksOf) (v : WorldOf) (after : List Step) (new : LinksOf) (count : ℕ) : Type 0 where
   pub out : LinksOf
   pub writes : WritesOut w old out
-  pub came : Came (length es) es w before out v after new count
+  pub came : ReadsAllEnds (length es) es w before out v after new count
   pub wrote_none : new.written ≡ out.written
 
 -- So many rounds, in each of which a frame came, and fewer than 1,024 in all.
@@ -148,7 +148,7 @@ RoundsOn es (suc n) w before old v after new count =
     × RoundOf es mid steps links v after new more × (1 ≤ more) × (count ≡ read + more) × (count < 1024)
 
 -- The rounds of a turn: in the last one no frame came, or the turn has then read 1,024 and more.
-pub record Rounds (es : List ℕ) (w : WorldOf) (before : List Step) (old : LinksOf) (v : WorldOf) (after : List Step) (new : LinksOf) (count : ℕ) : Type 0 where
+pub record TakesRounds (es : List ℕ) (w : WorldOf) (before : List Step) (old : LinksOf) (v : WorldOf) (after : List Step) (new : LinksOf) (count : ℕ) : Type 0 where
   pub rounds : ℕ
   pub mid : WorldOf
   pub steps : List Step
@@ -161,20 +161,20 @@ pub record Rounds (es : List ℕ) (w : WorldOf) (before : List Step) (old : Link
   pub ended : (more ≡ 0) ⊎ (1024 ≤ count)
 
 -- The rounds of a turn, and then what is unwritten goes out.
-pub record Exchanged (es : List ℕ) (w : WorldOf) (before : List Step) (old : LinksOf) (v : WorldOf) (after : List Step) (new : LinksOf) (count : ℕ) : Type 0 where
+pub record TakesExchange (es : List ℕ) (w : WorldOf) (before : List Step) (old : LinksOf) (v : WorldOf) (after : List Step) (new : LinksOf) (count : ℕ) : Type 0 where
   pub links : LinksOf
-  pub rounds : Rounds es w before old v after links count
+  pub rounds : TakesRounds es w before old v after links count
   pub out : WritesOut v links new
 
 -- A turn: a tick; the rounds; for each device in configured order the verdict that it then waits for; and for each the activation
 -- that its session then waits for.
-pub record Turned (w : WorldOf) (before : List Step) (old : LinksOf) (v : WorldOf) (after : List Step) (new : LinksOf) (count : ℕ) : Type 0 where
+pub record TakesTurn (w : WorldOf) (before : List Step) (old : LinksOf) (v : WorldOf) (after : List Step) (new : LinksOf) (count : ℕ) : Type 0 where
   pub ticked : WorldOf
   pub ticked_steps : List Step
   pub tick : TakesIf w before (Some full_tick) ticked ticked_steps
   pub heard : WorldOf
   pub heard_steps : List Step
-  pub exchanged : Exchanged (eids_of ticked.sites) ticked ticked_steps old heard heard_steps new count
+  pub exchanged : TakesExchange (eids_of ticked.sites) ticked ticked_steps old heard heard_steps new count
   pub judged : WorldOf
   pub judged_steps : List Step
   pub verdicts : TakesAll heard heard_steps (all_due verdict_for heard (eids_of heard.sites)) judged judged_steps
@@ -195,7 +195,7 @@ pub record AsksSome (told : EdgeFault) (ends : List (ℕ × Side)) (w : WorldOf)
   pub failed : ℕ × Side
   pub rest : List (ℕ × Side)
   pub are : ends ≡ map (λ a. (a.device, a.side)) asks ++ failed ∷ rest
-  pub hears : Hears w before asks v after
+  pub hears : HandlesFrames w before asks v after
   pub known : told ≢ faults.Frame → (bytes : List ℕ) × IsKnown v failed.0 bytes
 
 -- A round stops: where a packet isn't taken, so that no end is asked; or at one of the ends.
@@ -216,7 +216,7 @@ pub record RoundsStop (told : EdgeFault) (es : List ℕ) (w : WorldOf) (before :
 pub record RoundsOver (es : List ℕ) (w : WorldOf) (before : List Step) (old : LinksOf) (v : WorldOf) (after : List Step) : Type 0 where
   pub links : LinksOf
   pub count : ℕ
-  pub rounds : Rounds es w before old v after links count
+  pub rounds : TakesRounds es w before old v after links count
 
 abbrev pub ExchangeStops : EdgeFault → List ℕ → WorldOf → List Step → LinksOf → WorldOf → List Step → Type 0
 ExchangeStops told es w before old v after = RoundsStop told es w before old v after ⊎ ((told ≡ faults.Frame) × RoundsOver es w before old v after)
@@ -229,26 +229,26 @@ pub record StopsInRounds (told : EdgeFault) (w : WorldOf) (before : List Step) (
   pub stops : ExchangeStops told (eids_of ticked.sites) ticked ticked_steps old v after
 
 -- Its rounds are over.
-pub record TurnsHeard (w : WorldOf) (before : List Step) (old : LinksOf) (heard : WorldOf) (heard_steps : List Step) : Type 0 where
+pub record TakesTurnRounds (w : WorldOf) (before : List Step) (old : LinksOf) (heard : WorldOf) (heard_steps : List Step) : Type 0 where
   pub ticked : WorldOf
   pub ticked_steps : List Step
   pub tick : TakesIf w before (Some full_tick) ticked ticked_steps
   pub links : LinksOf
   pub count : ℕ
-  pub exchanged : Exchanged (eids_of ticked.sites) ticked ticked_steps old heard heard_steps links count
+  pub exchanged : TakesExchange (eids_of ticked.sites) ticked ticked_steps old heard heard_steps links count
 
 -- It stops at a verdict that is due.
 pub record StopsInVerdicts (w : WorldOf) (before : List Step) (old : LinksOf) (v : WorldOf) (after : List Step) : Type 0 where
   pub heard : WorldOf
   pub heard_steps : List Step
-  pub hears : TurnsHeard w before old heard heard_steps
+  pub hears : TakesTurnRounds w before old heard heard_steps
   pub some : TakesSome heard heard_steps (all_due verdict_for heard (eids_of heard.sites)) v after
 
 -- It stops at an activation that is due.
 pub record StopsInActivations (w : WorldOf) (before : List Step) (old : LinksOf) (v : WorldOf) (after : List Step) : Type 0 where
   pub heard : WorldOf
   pub heard_steps : List Step
-  pub hears : TurnsHeard w before old heard heard_steps
+  pub hears : TakesTurnRounds w before old heard heard_steps
   pub judged : WorldOf
   pub judged_steps : List Step
   pub verdicts : TakesAll heard heard_steps (all_due verdict_for heard (eids_of heard.sites)) judged judged_steps
@@ -272,17 +272,17 @@ abbrev pub Turns : ℕ → WorldOf → List Step → LinksOf → WorldOf → Lis
 Turns zero w before old v after new count = (v ≡ w) × (after ≡ before) × (new ≡ old) × (count ≡ 0)
 Turns (suc n) w before old v after new count =
     (mid : WorldOf) × (steps : List Step) × (links : LinksOf) × (read : ℕ) × (more : ℕ) × Turns n w before old mid steps links read × (all_over mid ≡ false)
-    × Turned mid steps links v after new more × (count ≡ read + more)
+    × TakesTurn mid steps links v after new more × (count ≡ read + more)
 
 -- The turns of a run, over links that gave so far what stands first, and now what stands last: the frames that came are those that
 -- were delivered, and so many others.
-pub record Drove (turns : ℕ) (w : WorldOf) (before : List Step) (old : LinksOf) (v : WorldOf) (after : List Step) (new : LinksOf) (foreign : ℕ) : Type 0 where
+pub record DrivesTurns (turns : ℕ) (w : WorldOf) (before : List Step) (old : LinksOf) (v : WorldOf) (after : List Step) (new : LinksOf) (foreign : ℕ) : Type 0 where
   pub count : ℕ
   pub turned : Turns turns w before old v after new count
   pub frames : delivers_in before + count ≡ delivers_in after + foreign
 
 -- A run stopped for this reason in the turn behind so many, before which some session was neither Done nor Failed.
-pub record Stopped (fault : EdgeFault) (w : WorldOf) (before : List Step) (old : LinksOf) (v : WorldOf) (after : List Step) : Type 0 where
+pub record StopsDrive (fault : EdgeFault) (w : WorldOf) (before : List Step) (old : LinksOf) (v : WorldOf) (after : List Step) : Type 0 where
   pub turns : ℕ
   pub mid : WorldOf
   pub steps : List Step

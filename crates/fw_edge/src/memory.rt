@@ -2,7 +2,7 @@
 
 ghost use Rattle.std.specs.Prelude.{[], ◌≤◌, ◌≡◌, ◌++◌, ◌∷◌, IfErr, IfNone, IfOk, IsOk, None, Ok, OnErr, OnOk, false, is_some, map, option_to_list, true};
 ghost use Rattle.std.specs.VecDeque.{deque_capacity, deque_len};
-ghost use Rattle.fw_edge.specs.Links.{Asks, Fails, Sends};
+ghost use Rattle.fw_edge.specs.Links.{AsksForFrame, FailsCall, SendsPacket};
 
 use crate::frame::FrameFault;
 use crate::link::Link;
@@ -77,8 +77,8 @@ impl Link for MemLink {
     ghost tally = { λ l. l.tally };
 
     fn send(&mut self, side: Side, packet: &RawPacket) -> Result<(), FrameFault>
-        ensures ok { OnOk result (Sends self.old.tally self.new.tally) }
-        ensures err { OnErr result (Fails self.old.tally self.new.tally) }
+        ensures ok { OnOk result (SendsPacket self.old.tally self.new.tally) }
+        ensures err { OnErr result (FailsCall self.old.tally self.new.tally) }
         ensures agent { side ≡ Side.Agent → OnOk result (map (λ p. p.items) self.new.down.items ≡ map (λ p. p.items) self.old.down.items ++ packet.now.items ∷ []) }
         ensures device { side ≡ Side.Device → OnOk result (map (λ p. p.items) self.new.up.items ≡ map (λ p. p.items) self.old.up.items ++ packet.now.items ∷ []) }
         ensures not_up { side ≡ Side.Agent → self.new.up.items ≡ self.old.up.items }
@@ -97,8 +97,8 @@ impl Link for MemLink {
     }
 
     fn receive(&mut self, side: Side) -> Result<Option<RawPacket>, FrameFault>
-        ensures ok { IfOk result (λ p. Asks (is_some p) self.old.tally self.new.tally) }
-        ensures err { OnErr result (Fails self.old.tally self.new.tally) }
+        ensures ok { IfOk result (λ p. AsksForFrame (is_some p) self.old.tally self.new.tally) }
+        ensures err { OnErr result (FailsCall self.old.tally self.new.tally) }
         ensures agent { side ≡ Side.Agent → IfOk result (λ p. self.old.up.items ≡ option_to_list p ++ self.new.up.items) }
         ensures device { side ≡ Side.Device → IfOk result (λ p. self.old.down.items ≡ option_to_list p ++ self.new.down.items) }
         ensures not_down { side ≡ Side.Agent → self.new.down.items ≡ self.old.down.items }

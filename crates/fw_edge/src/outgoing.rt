@@ -1,10 +1,10 @@
 //! Packets of a world, written to its links.
 
 ghost use Rattle.std.specs.Prelude.{◌≡◌, ◌≤◌, ◌<◌, ◌+◌, ◌-◌, IfErr, OnOk, length, map, slice_get};
-ghost use Rattle.fw_edge.specs.Ledgers.{NoneFell, packet_counts};
+ghost use Rattle.fw_edge.specs.Ledgers.{NoCountFalls, packet_counts};
 ghost use Rattle.fw_edge.specs.Links.{end_of, links_at};
-ghost use Rattle.fw_edge.specs.Outcomes.{LinkRefused, LinkWrote, LinksRefused, LinksWrote};
-ghost use Rattle.fw_edge.specs.Outgoing.{TookAll, TookAt, WritesOut};
+ghost use Rattle.fw_edge.specs.Outcomes.{LinkWriteErr, LinkWriteOk, LinksWriteErr, LinksWriteOk};
+ghost use Rattle.fw_edge.specs.Outgoing.{LinkTakesAll, LinkTakesPair, WritesOut};
 ghost use Rattle.fw_steps.specs.Worlds.{packets_at};
 
 use crate::driving::EdgeFault;
@@ -37,9 +37,9 @@ fn put(packet: &mut RawPacket, bytes: &[u8])
 
 /// Writes these packets of a pair to its link, each at its sender's end.
 fn write_each<L: Link>(link: &mut L, packets: &SentPackets<'_>, device: u8) -> Result<(), EdgeFault>
-    ensures took { OnOk result (TookAll device (L.taken link.old) (map (λ p. p.bytes) packets.now) (L.taken link.new)) }
-    ensures wrote { OnOk result (LinkWrote L.tally L.gave (length packets.now) link.old link.new) }
-    ensures refused { IfErr result (λ e. LinkRefused L.tally e (length packets.now) link.old link.new) }
+    ensures took { OnOk result (LinkTakesAll device (L.taken link.old) (map (λ p. p.bytes) packets.now) (L.taken link.new)) }
+    ensures wrote { OnOk result (LinkWriteOk L.tally L.gave (length packets.now) link.old link.new) }
+    ensures refused { IfErr result (λ e. LinkWriteErr L.tally e (length packets.now) link.old link.new) }
 {
     let mut packet = RawPacket::new();
     for place in 0..packets.len() {
@@ -73,9 +73,9 @@ fn write_at<B: Bank + Drop, L: Link>(
     link: &mut L,
     written: usize,
 ) -> Result<(), EdgeFault>
-    ensures took { OnOk result (TookAt (slice_get world.now.sites place) written (L.taken link.old) (L.taken link.new)) }
-    ensures wrote { OnOk result (LinkWrote L.tally L.gave (length (packets_at (slice_get world.now.sites place)) - written) link.old link.new) }
-    ensures refused { IfErr result (λ e. LinkRefused L.tally e (length (packets_at (slice_get world.now.sites place)) - written) link.old link.new) }
+    ensures took { OnOk result (LinkTakesPair (slice_get world.now.sites place) written (L.taken link.old) (L.taken link.new)) }
+    ensures wrote { OnOk result (LinkWriteOk L.tally L.gave (length (packets_at (slice_get world.now.sites place)) - written) link.old link.new) }
+    ensures refused { IfErr result (λ e. LinkWriteErr L.tally e (length (packets_at (slice_get world.now.sites place)) - written) link.old link.new) }
 {
     let (Some(node), Some(packets)) = (world.device_at(place), world.packets_at(place)) else {
         return Ok(());
@@ -97,10 +97,10 @@ pub(crate) fn write_out<B: Bank + Drop, L: Link>(
     written: &mut [usize],
 ) -> Result<(), EdgeFault>
     requires each { length written.old ≡ length links.old }
-    requires within { NoneFell written.old (packet_counts world.now.sites) }
+    requires within { NoCountFalls written.old (packet_counts world.now.sites) }
     ensures out { OnOk result (WritesOut world.now (links_at written.old (map L.taken links.old) (map L.gave links.old)) (links_at written.new (map L.taken links.new) (map L.gave links.new))) }
-    ensures wrote { OnOk result (LinksWrote L.tally written.old written.new links.old links.new) }
-    ensures refused { IfErr result (λ e. LinksRefused L.tally e links.old links.new) }
+    ensures wrote { OnOk result (LinksWriteOk L.tally written.old written.new links.old links.new) }
+    ensures refused { IfErr result (λ e. LinksWriteErr L.tally e links.old links.new) }
     ensures links { length links.new ≡ length links.old }
     ensures written { length written.new ≡ length written.old }
 {

@@ -6,8 +6,8 @@ ghost use Rattle.rand_pcg.specs.Lcg.{increment_of, started};
 ghost use Rattle.rand_pcg.specs.Pcg.{multiplier_64};
 ghost use Rattle.fw_edge.specs.Fates.{fate_of, generator_after};
 ghost use Rattle.fw_edge.specs.Frames.{frames_of};
-ghost use Rattle.fw_edge.specs.Ledgers.{Writes};
-ghost use Rattle.fw_edge.specs.Links.{Asks, Fails, GrowsAt, Rises, RisesIf, Sends, came_in};
+ghost use Rattle.fw_edge.specs.Ledgers.{TakesPackets};
+ghost use Rattle.fw_edge.specs.Links.{AsksForFrame, FailsCall, GrowsAt, CountsOne, CountsOneIf, SendsPacket, packet_if};
 ghost use Rattle.fw_edge.specs.Roughening.{GoOut, PassesOn, PassesSome, Releases, at_once, ends_turn, helds_of, idle_after, is_due, is_late, waits_of};
 
 use crate::fates::{Fate, Roughness, next_fate};
@@ -24,7 +24,7 @@ const MOST_HELD: usize = 1_024;
 
 /// A packet that is held back.
 #[derive(Drop)]
-pub struct Held {
+pub struct DelayedPacket {
     /// The end at which it was sent.
     side: Side,
     /// Behind which turn it goes out.
@@ -48,7 +48,7 @@ pub struct Rough<L: Link + Drop> {
     link: L,
     roughness: Roughness,
     generator: Pcg32,
-    held: Vec<Held>,
+    held: Vec<DelayedPacket>,
     /// How many turns have ended.
     turn: u64,
     /// Whether the device's end gave nothing when it was asked last, and the agent's gave no answer and no call failed since.
@@ -59,14 +59,14 @@ pub struct Rough<L: Link + Drop> {
 /// Passes a copy of a packet that was sent at an end on to the link below, or holds it back where it comes late.
 fn pass_copy<L: Link>(
     link: &mut L,
-    held: &mut Vec<Held>,
+    held: &mut Vec<DelayedPacket>,
     turn: u64,
     side: Side,
     packet: &RawPacket,
     wait: u32,
 ) -> Result<(), FrameFault>
     ensures passes { OnOk result (PassesOn turn (wait ∷ []) side packet.now.items (L.taken link.old) (L.taken link.new) (helds_of held.old.items) (helds_of held.new.items)) }
-    ensures counts { OnOk result (Writes (length (at_once (wait ∷ []) packet.now.items)) (L.tally link.old) (L.tally link.new)) }
+    ensures counts { OnOk result (TakesPackets (length (at_once (wait ∷ []) packet.now.items)) (L.tally link.old) (L.tally link.new)) }
     ensures gave { OnOk result (L.gave link.new ≡ L.gave link.old) }
     ensures stops { OnErr result (PassesSome turn (wait ∷ []) side packet.now.items (L.tally link.old).failures (L.tally link.new).failures (vec_capacity held.old) (helds_of held.old.items) (helds_of held.new.items)) }
     ensures room { vec_capacity held.old ≤ vec_capacity held.new }
@@ -74,7 +74,7 @@ fn pass_copy<L: Link>(
     if wait == 0 {
         return link.send(side, packet);
     }
-    let copy = Held {
+    let copy = DelayedPacket {
         side,
         due: turn.saturating_add(u64::from(wait)),
         packet: copy_of(packet),
@@ -88,14 +88,14 @@ fn pass_copy<L: Link>(
 /// Passes a packet that was sent at an end on to the link below, as its fate says.
 fn pass<L: Link>(
     link: &mut L,
-    held: &mut Vec<Held>,
+    held: &mut Vec<DelayedPacket>,
     turn: u64,
     side: Side,
     packet: &RawPacket,
     fate: Fate,
 ) -> Result<(), FrameFault>
     ensures passes { OnOk result (PassesOn turn (waits_of fate) side packet.now.items (L.taken link.old) (L.taken link.new) (helds_of held.old.items) (helds_of held.new.items)) }
-    ensures counts { OnOk result (Writes (length (at_once (waits_of fate) packet.now.items)) (L.tally link.old) (L.tally link.new)) }
+    ensures counts { OnOk result (TakesPackets (length (at_once (waits_of fate) packet.now.items)) (L.tally link.old) (L.tally link.new)) }
     ensures gave { OnOk result (L.gave link.new ≡ L.gave link.old) }
     ensures stops { OnErr result (PassesSome turn (waits_of fate) side packet.now.items (L.tally link.old).failures (L.tally link.new).failures (vec_capacity held.old) (helds_of held.old.items) (helds_of held.new.items)) }
 {
@@ -113,11 +113,11 @@ fn pass<L: Link>(
 }
 
 /// Passes on those packets that are due behind a turn.
-fn send_due<L: Link>(link: &mut L, held: &[Held], turn: u64) -> Result<(), FrameFault>
+fn send_due<L: Link>(link: &mut L, held: &[DelayedPacket], turn: u64) -> Result<(), FrameFault>
     ensures out { OnOk result (GoOut (filter (is_due turn) (helds_of held.now)) (L.taken link.old) (L.taken link.new)) }
-    ensures counts { OnOk result (Writes (length (filter (is_due turn) (helds_of held.now))) (L.tally link.old) (L.tally link.new)) }
+    ensures counts { OnOk result (TakesPackets (length (filter (is_due turn) (helds_of held.now))) (L.tally link.old) (L.tally link.new)) }
     ensures gave { OnOk result (L.gave link.new ≡ L.gave link.old) }
-    ensures refused { OnErr result (Rises (L.tally link.old).failures (L.tally link.new).failures) }
+    ensures refused { OnErr result (CountsOne (L.tally link.old).failures (L.tally link.new).failures) }
 {
     for packet in held {
         if packet.due <= turn {
@@ -131,18 +131,22 @@ fn send_due<L: Link>(link: &mut L, held: &[Held], turn: u64) -> Result<(), Frame
 }
 
 /// Lets go of those packets that are due behind a turn.
-fn let_go(held: &mut Vec<Held>, turn: u64)
+fn let_go(held: &mut Vec<DelayedPacket>, turn: u64)
     ensures { helds_of held.new.items ≡ filter (is_late turn) (helds_of held.old.items) }
 {
     held.retain(|packet| packet.due > turn);
 }
 
 /// Passes on what is held back and due behind a turn.
-fn release<L: Link>(link: &mut L, held: &mut Vec<Held>, turn: u64) -> Result<(), FrameFault>
+fn release<L: Link>(
+    link: &mut L,
+    held: &mut Vec<DelayedPacket>,
+    turn: u64,
+) -> Result<(), FrameFault>
     ensures released { OnOk result (Releases turn (L.taken link.old) (L.taken link.new) (helds_of held.old.items) (helds_of held.new.items)) }
-    ensures counts { OnOk result (Writes (length (filter (is_due turn) (helds_of held.old.items))) (L.tally link.old) (L.tally link.new)) }
+    ensures counts { OnOk result (TakesPackets (length (filter (is_due turn) (helds_of held.old.items))) (L.tally link.old) (L.tally link.new)) }
     ensures gave { OnOk result (L.gave link.new ≡ L.gave link.old) }
-    ensures refused { OnErr result (Rises (L.tally link.old).failures (L.tally link.new).failures) }
+    ensures refused { OnErr result (CountsOne (L.tally link.old).failures (L.tally link.new).failures) }
     ensures kept { OnErr result (held.new ≡ held.old) }
 {
     match send_due(link, held.as_slice(), turn) {
@@ -218,10 +222,10 @@ impl<L: Link + Drop> Rough<L> {
         ensures on { ends_turn side gave self.old.is_idle ≡ false → OnOk result ((self.new.link ≡ self.old.link) × (self.new.held ≡ self.old.held) × (self.new.turn ≡ self.old.turn)) }
         ensures turn { ends_turn side gave self.old.is_idle ≡ true → self.new.turn ≡ min (self.old.turn + 1) (2 ^ 64 - 1) }
         ensures released { ends_turn side gave self.old.is_idle ≡ true → OnOk result (Releases self.new.turn (L.taken self.old.link) (L.taken self.new.link) (helds_of self.old.held.items) (helds_of self.new.held.items)) }
-        ensures counts { ends_turn side gave self.old.is_idle ≡ true → OnOk result (Writes (length (filter (is_due self.new.turn) (helds_of self.old.held.items))) (L.tally self.old.link) (L.tally self.new.link)) }
+        ensures counts { ends_turn side gave self.old.is_idle ≡ true → OnOk result (TakesPackets (length (filter (is_due self.new.turn) (helds_of self.old.held.items))) (L.tally self.old.link) (L.tally self.new.link)) }
         ensures gave { OnOk result (L.gave self.new.link ≡ L.gave self.old.link) }
         ensures only { OnErr result (ends_turn side gave self.old.is_idle ≡ true) }
-        ensures refused { OnErr result (Rises (L.tally self.old.link).failures (L.tally self.new.link).failures) }
+        ensures refused { OnErr result (CountsOne (L.tally self.old.link).failures (L.tally self.new.link).failures) }
         ensures kept { OnErr result (self.new.held ≡ self.old.held) }
     {
         let was_idle = self.is_idle;
@@ -240,12 +244,12 @@ impl<L: Link + Drop> Link for Rough<L> {
     ghost gave = { λ r. L.gave r.link };
 
     fn send(&mut self, side: Side, packet: &RawPacket) -> Result<(), FrameFault>
-        ensures ok { OnOk result (Sends self.old.tally self.new.tally) }
-        ensures err { OnErr result (Fails self.old.tally self.new.tally) }
+        ensures ok { OnOk result (SendsPacket self.old.tally self.new.tally) }
+        ensures err { OnErr result (FailsCall self.old.tally self.new.tally) }
         ensures gave { OnOk result (L.gave self.new.link ≡ L.gave self.old.link) }
         ensures passes { OnOk result (PassesOn self.old.turn (waits_of (fate_of self.old.roughness self.old.generator)) side packet.now.items
             (L.taken self.old.link) (L.taken self.new.link) (helds_of self.old.held.items) (helds_of self.new.held.items)) }
-        ensures counts { OnOk result (Writes (length (at_once (waits_of (fate_of self.old.roughness self.old.generator)) packet.now.items)) (L.tally self.old.link) (L.tally self.new.link)) }
+        ensures counts { OnOk result (TakesPackets (length (at_once (waits_of (fate_of self.old.roughness self.old.generator)) packet.now.items)) (L.tally self.old.link) (L.tally self.new.link)) }
         ensures stops { OnErr result (PassesSome self.old.turn (waits_of (fate_of self.old.roughness self.old.generator)) side packet.now.items (L.tally self.old.link).failures (L.tally self.new.link).failures
             (vec_capacity self.old.held) (helds_of self.old.held.items) (helds_of self.new.held.items)) }
         ensures generator { self.new.generator ≡ generator_after self.old.generator }
@@ -272,17 +276,17 @@ impl<L: Link + Drop> Link for Rough<L> {
     }
 
     fn receive(&mut self, side: Side) -> Result<Option<RawPacket>, FrameFault>
-        ensures ok { IfOk result (λ p. Asks (is_some p) self.old.tally self.new.tally) }
-        ensures err { OnErr result (Fails self.old.tally self.new.tally) }
+        ensures ok { IfOk result (λ p. AsksForFrame (is_some p) self.old.tally self.new.tally) }
+        ensures err { OnErr result (FailsCall self.old.tally self.new.tally) }
         ensures gave { IfOk result (λ p. GrowsAt side (frames_of (option_to_list (option_map (λ q. q.items) p))) (L.gave self.old.link) (L.gave self.new.link)) }
         ensures on { IfOk result (λ p. ends_turn side (is_some p) self.old.is_idle ≡ false
             → (L.taken self.new.link ≡ L.taken self.old.link) × (self.new.held ≡ self.old.held) × (self.new.turn ≡ self.old.turn)) }
         ensures turn { IfOk result (λ p. ends_turn side (is_some p) self.old.is_idle ≡ true → self.new.turn ≡ min (self.old.turn + 1) (2 ^ 64 - 1)) }
         ensures released { IfOk result (λ p. ends_turn side (is_some p) self.old.is_idle ≡ true
             → Releases self.new.turn (L.taken self.old.link) (L.taken self.new.link) (helds_of self.old.held.items) (helds_of self.new.held.items)) }
-        ensures asked { IfOk result (λ p. Rises (L.tally self.old.link).asked (L.tally self.new.link).asked) }
-        ensures given { IfOk result (λ p. RisesIf (is_some p) (L.tally self.old.link).given (L.tally self.new.link).given) }
-        ensures refused { OnErr result (Rises (L.tally self.old.link).failures (L.tally self.new.link).failures) }
+        ensures asked { IfOk result (λ p. CountsOne (L.tally self.old.link).asked (L.tally self.new.link).asked) }
+        ensures given { IfOk result (λ p. CountsOneIf (is_some p) (L.tally self.old.link).given (L.tally self.new.link).given) }
+        ensures refused { OnErr result (CountsOne (L.tally self.old.link).failures (L.tally self.new.link).failures) }
         ensures kept { OnErr result (self.new.held ≡ self.old.held) }
         ensures turn_still { OnErr result ((self.new.turn ≡ self.old.turn) ⊎ ((ends_turn side false self.old.is_idle ≡ true) × (self.new.turn ≡ min (self.old.turn + 1) (2 ^ 64 - 1)))) }
         ensures idle { IfOk result (λ p. self.new.is_idle ≡ idle_after side (is_some p)) }
@@ -298,18 +302,18 @@ impl<L: Link + Drop> Link for Rough<L> {
     }
 
     fn receive_into(&mut self, side: Side, packet: &mut RawPacket) -> Result<bool, FrameFault>
-        ensures ok { IfOk result (λ came. Asks came self.old.tally self.new.tally) }
+        ensures ok { IfOk result (λ came. AsksForFrame came self.old.tally self.new.tally) }
         ensures none { IfOk result (λ came. came ≡ false → packet.new.items ≡ packet.old.items) }
-        ensures err { OnErr result (Fails self.old.tally self.new.tally) }
-        ensures gave { IfOk result (λ came. GrowsAt side (frames_of (came_in came packet.new.items)) (L.gave self.old.link) (L.gave self.new.link)) }
+        ensures err { OnErr result (FailsCall self.old.tally self.new.tally) }
+        ensures gave { IfOk result (λ came. GrowsAt side (frames_of (packet_if came packet.new.items)) (L.gave self.old.link) (L.gave self.new.link)) }
         ensures on { IfOk result (λ came. ends_turn side came self.old.is_idle ≡ false
             → (L.taken self.new.link ≡ L.taken self.old.link) × (self.new.held ≡ self.old.held) × (self.new.turn ≡ self.old.turn)) }
         ensures turn { IfOk result (λ came. ends_turn side came self.old.is_idle ≡ true → self.new.turn ≡ min (self.old.turn + 1) (2 ^ 64 - 1)) }
         ensures released { IfOk result (λ came. ends_turn side came self.old.is_idle ≡ true
             → Releases self.new.turn (L.taken self.old.link) (L.taken self.new.link) (helds_of self.old.held.items) (helds_of self.new.held.items)) }
-        ensures asked { IfOk result (λ came. Rises (L.tally self.old.link).asked (L.tally self.new.link).asked) }
-        ensures given { IfOk result (λ came. RisesIf came (L.tally self.old.link).given (L.tally self.new.link).given) }
-        ensures refused { OnErr result (Rises (L.tally self.old.link).failures (L.tally self.new.link).failures) }
+        ensures asked { IfOk result (λ came. CountsOne (L.tally self.old.link).asked (L.tally self.new.link).asked) }
+        ensures given { IfOk result (λ came. CountsOneIf came (L.tally self.old.link).given (L.tally self.new.link).given) }
+        ensures refused { OnErr result (CountsOne (L.tally self.old.link).failures (L.tally self.new.link).failures) }
         ensures kept { OnErr result (self.new.held ≡ self.old.held) }
         ensures turn_still { OnErr result ((self.new.turn ≡ self.old.turn) ⊎ ((ends_turn side false self.old.is_idle ≡ true) × (self.new.turn ≡ min (self.old.turn + 1) (2 ^ 64 - 1)))) }
         ensures idle { IfOk result (λ came. self.new.is_idle ≡ idle_after side came) }

@@ -2,11 +2,11 @@
 
 ghost use Rattle.std.specs.Prelude.{[], ◌∷◌, ◌≡◌, ◌≤◌, ◌<◌, ◌+◌, ◌⊎◌, IfErr, IfOk, None, OnErr, OnOk, length, slice_get};
 ghost use Rattle.fw_edge.specs.Links.{links_at};
-ghost use Rattle.fw_edge.specs.Turns.{Came, CameAt, ExchangeStops, Exchanged, HandsOver, RoundOf, RoundStops, Rounds, RoundsStop, both_ends, eid_in, node_at, round_ends};
+ghost use Rattle.fw_edge.specs.Turns.{ReadsAllEnds, ReadsEnds, ExchangeStops, TakesExchange, HandsOver, RoundOf, RoundStops, TakesRounds, RoundsStop, both_ends, eid_in, node_at, round_ends};
 ghost use Rattle.fw_edge.specs.Drives.{Drives, DrivesCounted};
 ghost use Rattle.fw_edge.specs.Hearing.{IsHeard, IsKnown};
-ghost use Rattle.fw_edge.specs.Ledgers.{NoneFell, packet_counts};
-ghost use Rattle.fw_edge.specs.Outcomes.{EndsRead, LinkStopped, PartDone, PartStopped, RoundRead, RoundStopped, StepRefused};
+ghost use Rattle.fw_edge.specs.Ledgers.{NoCountFalls, packet_counts};
+ghost use Rattle.fw_edge.specs.Outcomes.{LinkReadOk, LinkReadErr, PartOk, PartErr, RoundOk, RoundErr, StepErr};
 ghost use Rattle.fw_steps.specs.Headline.{may_step};
 ghost use Rattle.fw_steps.specs.Worlds.{eids_of};
 ghost use Rattle.fw_steps.specs.declared.step.Step.{Step};
@@ -91,7 +91,7 @@ fn hand_over<B: Bank + Drop>(
     ensures goes { IfOk result (λ f. DrivesCounted world.old steps.old.items world.new steps.new.items 0 f.known) }
     ensures one { IfOk result (λ f. f.known + f.foreign ≡ 1) }
     ensures over { OnOk result (HandsOver world.old steps.old.items device end packet.now.items world.new steps.new.items) }
-    ensures refused { IfErr result (λ e. StepRefused e world.old steps.old.items world.new steps.new.items) }
+    ensures refused { IfErr result (λ e. StepErr e world.old steps.old.items world.new steps.new.items) }
     ensures known { OnErr result (IsKnown world.old device packet.now.items) }
 {
     let Some(number) = heard(world, device, packet) else {
@@ -120,8 +120,8 @@ fn read_end<B: Bank + Drop, L: Link>(
     packet: &mut RawPacket,
     steps: &mut Vec<Step>,
 ) -> Result<Frames, EdgeFault>
-    ensures read { IfOk result (λ f. EndsRead L.tally L.taken L.gave ((device, end) ∷ []) 1 world.old steps.old.items link.old world.new steps.new.items link.new f.known f.foreign) }
-    ensures stopped { IfErr result (λ e. LinkStopped L.tally e ((device, end) ∷ []) world.old steps.old.items link.old world.new steps.new.items link.new) }
+    ensures read { IfOk result (λ f. LinkReadOk L.tally L.taken L.gave ((device, end) ∷ []) 1 world.old steps.old.items link.old world.new steps.new.items link.new f.known f.foreign) }
+    ensures stopped { IfErr result (λ e. LinkReadErr L.tally e ((device, end) ∷ []) world.old steps.old.items link.old world.new steps.new.items link.new) }
 {
     let came = match link.receive_into(end, packet) {
         Ok(came) => came,
@@ -144,8 +144,8 @@ fn read_both<B: Bank + Drop, L: Link>(
     packet: &mut RawPacket,
     steps: &mut Vec<Step>,
 ) -> Result<Frames, EdgeFault>
-    ensures read { IfOk result (λ f. EndsRead L.tally L.taken L.gave (both_ends device) 2 world.old steps.old.items link.old world.new steps.new.items link.new f.known f.foreign) }
-    ensures stopped { IfErr result (λ e. LinkStopped L.tally e (both_ends device) world.old steps.old.items link.old world.new steps.new.items link.new) }
+    ensures read { IfOk result (λ f. LinkReadOk L.tally L.taken L.gave (both_ends device) 2 world.old steps.old.items link.old world.new steps.new.items link.new f.known f.foreign) }
+    ensures stopped { IfErr result (λ e. LinkReadErr L.tally e (both_ends device) world.old steps.old.items link.old world.new steps.new.items link.new) }
 {
     let first = match read_end(world, device, Side::Device, link, packet, steps) {
         Ok(frames) => frames,
@@ -176,8 +176,8 @@ fn read_round<B: Bank + Drop, L: Link>(
 ) -> Result<Frames, EdgeFault>
     requires few { length links.old ≤ 16 }
     requires devices { length links.old ≡ length world.old.sites }
-    ensures read { IfOk result (λ f. RoundRead L.tally L.taken L.gave world.old steps.old.items links.old world.new steps.new.items links.new f.known f.foreign) }
-    ensures stopped { IfErr result (λ e. RoundStopped L.tally e world.old steps.old.items links.old world.new steps.new.items links.new) }
+    ensures read { IfOk result (λ f. RoundOk L.tally L.taken L.gave world.old steps.old.items links.old world.new steps.new.items links.new f.known f.foreign) }
+    ensures stopped { IfErr result (λ e. RoundErr L.tally e world.old steps.old.items links.old world.new steps.new.items links.new) }
     ensures links { length links.new ≡ length links.old }
 {
     let mut frames = Frames::none();
@@ -202,10 +202,10 @@ fn round<B: Bank + Drop, L: Link>(
 ) -> Result<Frames, EdgeFault>
     requires few { length links.old ≤ 16 }
     requires written { length written.old ≡ length links.old }
-    requires within { NoneFell written.old (packet_counts world.old.sites) }
-    ensures done { IfOk result (λ f. PartDone L.tally L.taken L.gave (RoundOf (eids_of world.old.sites)) 0 32 world.old steps.old.items written.old links.old world.new steps.new.items written.new links.new f.known f.foreign) }
-    ensures within { OnOk result (NoneFell written.new (packet_counts world.new.sites)) }
-    ensures stopped { IfErr result (λ e. PartStopped L.tally L.taken L.gave (RoundStops e (eids_of world.old.sites)) e world.old steps.old.items written.old links.old world.new steps.new.items links.new) }
+    requires within { NoCountFalls written.old (packet_counts world.old.sites) }
+    ensures done { IfOk result (λ f. PartOk L.tally L.taken L.gave (RoundOf (eids_of world.old.sites)) 0 32 world.old steps.old.items written.old links.old world.new steps.new.items written.new links.new f.known f.foreign) }
+    ensures within { OnOk result (NoCountFalls written.new (packet_counts world.new.sites)) }
+    ensures stopped { IfErr result (λ e. PartErr L.tally L.taken L.gave (RoundStops e (eids_of world.old.sites)) e world.old steps.old.items written.old links.old world.new steps.new.items links.new) }
     ensures links { length links.new ≡ length links.old }
     ensures written { length written.new ≡ length written.old }
 {
@@ -230,10 +230,10 @@ fn rounds<B: Bank + Drop, L: Link>(
 ) -> Result<Frames, EdgeFault>
     requires few { length links.old ≤ 16 }
     requires written { length written.old ≡ length links.old }
-    requires within { NoneFell written.old (packet_counts world.old.sites) }
-    ensures done { IfOk result (λ f. PartDone L.tally L.taken L.gave (Rounds (eids_of world.old.sites)) 0 1055 world.old steps.old.items written.old links.old world.new steps.new.items written.new links.new f.known f.foreign) }
-    ensures within { OnOk result (NoneFell written.new (packet_counts world.new.sites)) }
-    ensures stopped { IfErr result (λ e. PartStopped L.tally L.taken L.gave (RoundsStop e (eids_of world.old.sites)) e world.old steps.old.items written.old links.old world.new steps.new.items links.new) }
+    requires within { NoCountFalls written.old (packet_counts world.old.sites) }
+    ensures done { IfOk result (λ f. PartOk L.tally L.taken L.gave (TakesRounds (eids_of world.old.sites)) 0 1055 world.old steps.old.items written.old links.old world.new steps.new.items written.new links.new f.known f.foreign) }
+    ensures within { OnOk result (NoCountFalls written.new (packet_counts world.new.sites)) }
+    ensures stopped { IfErr result (λ e. PartErr L.tally L.taken L.gave (RoundsStop e (eids_of world.old.sites)) e world.old steps.old.items written.old links.old world.new steps.new.items links.new) }
     ensures links { length links.new ≡ length links.old }
     ensures written { length written.new ≡ length written.old }
 {
@@ -260,10 +260,10 @@ pub(crate) fn exchange<B: Bank + Drop, L: Link>(
 ) -> Result<Frames, EdgeFault>
     requires few { length links.old ≤ 16 }
     requires written { length written.old ≡ length links.old }
-    requires within { NoneFell written.old (packet_counts world.old.sites) }
-    ensures done { IfOk result (λ f. PartDone L.tally L.taken L.gave (Exchanged (eids_of world.old.sites)) 0 1055 world.old steps.old.items written.old links.old world.new steps.new.items written.new links.new f.known f.foreign) }
+    requires within { NoCountFalls written.old (packet_counts world.old.sites) }
+    ensures done { IfOk result (λ f. PartOk L.tally L.taken L.gave (TakesExchange (eids_of world.old.sites)) 0 1055 world.old steps.old.items written.old links.old world.new steps.new.items written.new links.new f.known f.foreign) }
     ensures all { OnOk result (written.new ≡ packet_counts world.new.sites) }
-    ensures stopped { IfErr result (λ e. PartStopped L.tally L.taken L.gave (ExchangeStops e (eids_of world.old.sites)) e world.old steps.old.items written.old links.old world.new steps.new.items links.new) }
+    ensures stopped { IfErr result (λ e. PartErr L.tally L.taken L.gave (ExchangeStops e (eids_of world.old.sites)) e world.old steps.old.items written.old links.old world.new steps.new.items links.new) }
     ensures links { length links.new ≡ length links.old }
     ensures written { length written.new ≡ length written.old }
 {

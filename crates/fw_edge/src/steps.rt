@@ -3,10 +3,10 @@
 ghost use Rattle.std.specs.Prelude.{[], ◌≡◌, ◌≢◌, ◌-◌, ◌^◌, ◌++◌, ◌∷◌, IfErr, IfSome, None, OnErr, OnOk, Some, is_some, slice_get, true, vec_capacity, vec_len};
 ghost use Rattle.fw_edge.specs.Drives.{Drives, DrivesCounted, all_over, deliver_in, is_driven, is_good, is_over, tick_in};
 ghost use Rattle.fw_edge.specs.Ledgers.{packet_counts};
-ghost use Rattle.fw_edge.specs.Outcomes.{LacksMemory, SentNone, StepRefused, StepsStopped};
+ghost use Rattle.fw_edge.specs.Outcomes.{LacksMemory, SentNone, StepErr, StepsErr};
 ghost use Rattle.fw_edge.specs.Turns.{TakesAll, TakesIf, activation_for, all_due, awaited_in, due_at, verdict_for};
 ghost use Rattle.fw_node.specs.Agents.{half_for, ready_for};
-ghost use Rattle.fw_steps.specs.Headline.{Leads, may_step};
+ghost use Rattle.fw_steps.specs.Headline.{StepsTo, may_step};
 ghost use Rattle.fw_steps.specs.Worlds.{eids_of, full_tick, site_for};
 ghost use Rattle.fw_steps.specs.declared.step.Step.{Step};
 
@@ -27,7 +27,7 @@ pub(crate) fn take<B: Bank + Drop>(
 ) -> Result<(), EdgeFault>
     requires may { may_step world.old step ≡ None }
     requires driven { is_driven step ≡ true }
-    ensures leads { OnOk result (Leads world.old step world.new) }
+    ensures leads { OnOk result (StepsTo world.old step world.new) }
     ensures listed { OnOk result (steps.new.items ≡ steps.old.items ++ step ∷ []) }
     ensures goes { OnOk result (DrivesCounted world.old steps.old.items world.new steps.new.items (tick_in step) (deliver_in step)) }
     ensures same { OnErr result (world.new ≡ world.old) }
@@ -108,7 +108,7 @@ fn judge<B: Bank + Drop>(
 ) -> Result<(), EdgeFault>
     ensures due { OnOk result (TakesIf world.old steps.old.items (due_at verdict_for world.old (slice_get world.old.sites place)) world.new steps.new.items) }
     ensures quiet { OnOk result (SentNone world.old steps.old.items world.new steps.new.items) }
-    ensures refused { IfErr result (λ e. StepRefused e world.old steps.old.items world.new steps.new.items) }
+    ensures refused { IfErr result (λ e. StepErr e world.old steps.old.items world.new steps.new.items) }
     ensures one { OnErr result (is_some (due_at verdict_for world.old (slice_get world.old.sites place)) ≡ true) }
     ensures lacked { OnErr result (IfSome (due_at verdict_for world.old (slice_get world.old.sites place)) (λ s. LacksMemory s (vec_len steps.old) (vec_capacity steps.old) (vec_capacity steps.new))) }
 {
@@ -131,7 +131,7 @@ fn activate<B: Bank + Drop>(
 ) -> Result<(), EdgeFault>
     ensures due { OnOk result (TakesIf world.old steps.old.items (due_at activation_for world.old (slice_get world.old.sites place)) world.new steps.new.items) }
     ensures quiet { OnOk result (SentNone world.old steps.old.items world.new steps.new.items) }
-    ensures refused { IfErr result (λ e. StepRefused e world.old steps.old.items world.new steps.new.items) }
+    ensures refused { IfErr result (λ e. StepErr e world.old steps.old.items world.new steps.new.items) }
     ensures one { OnErr result (is_some (due_at activation_for world.old (slice_get world.old.sites place)) ≡ true) }
     ensures lacked { OnErr result (IfSome (due_at activation_for world.old (slice_get world.old.sites place)) (λ s. LacksMemory s (vec_len steps.old) (vec_capacity steps.old) (vec_capacity steps.new))) }
 {
@@ -152,7 +152,7 @@ pub(crate) fn judge_all<B: Bank + Drop>(
 ) -> Result<(), EdgeFault>
     ensures due { OnOk result (TakesAll world.old steps.old.items (all_due verdict_for world.old (eids_of world.old.sites)) world.new steps.new.items) }
     ensures quiet { OnOk result (SentNone world.old steps.old.items world.new steps.new.items) }
-    ensures stopped { IfErr result (λ e. StepsStopped e (all_due verdict_for world.old (eids_of world.old.sites)) world.old steps.old.items world.new steps.new.items) }
+    ensures stopped { IfErr result (λ e. StepsErr e (all_due verdict_for world.old (eids_of world.old.sites)) world.old steps.old.items world.new steps.new.items) }
 {
     world.is_promised();
     for place in 0..world.device_count() {
@@ -171,7 +171,7 @@ pub(crate) fn activate_all<B: Bank + Drop>(
 ) -> Result<(), EdgeFault>
     ensures due { OnOk result (TakesAll world.old steps.old.items (all_due activation_for world.old (eids_of world.old.sites)) world.new steps.new.items) }
     ensures quiet { OnOk result (SentNone world.old steps.old.items world.new steps.new.items) }
-    ensures stopped { IfErr result (λ e. StepsStopped e (all_due activation_for world.old (eids_of world.old.sites)) world.old steps.old.items world.new steps.new.items) }
+    ensures stopped { IfErr result (λ e. StepsErr e (all_due activation_for world.old (eids_of world.old.sites)) world.old steps.old.items world.new steps.new.items) }
 {
     world.is_promised();
     for place in 0..world.device_count() {

@@ -3,7 +3,7 @@
 ghost use Rattle.std.specs.Prelude.{◌≡◌, ◌≢◌, ◌+◌, IfErr, IfOk, IfSome, None, Ok, OnErr, OnOk, false, is_some, true};
 ghost use Rattle.std.specs.Io.KnownBytes.{Keeps};
 ghost use Rattle.fw_edge.specs.Frames.{ReadStops, WriteStops};
-ghost use Rattle.fw_edge.specs.Links.{Asks, Fails, Reads, Sends, Writes};
+ghost use Rattle.fw_edge.specs.Links.{AsksForFrame, FailsCall, ReadsFrameAt, SendsPacket, WritesFrameAt};
 
 use crate::frame::{Frame, FrameFault, read_frame_into, write_frame_from};
 use crate::link::Link;
@@ -68,8 +68,8 @@ impl<S: Read + Write + Drop> StreamLink<S> {
     fn write(&mut self, side: Side, packet: &RawPacket) -> Result<(), FrameFault>
         ensures tally { self.new.tally ≡ self.old.tally }
         ensures unit { self.new.unit ≡ self.old.unit }
-        ensures agent { side ≡ Side.Agent → OnOk result (Writes (S.contents self.old.agent) (S.contents self.new.agent) self.old.down self.new.down packet.now.items) }
-        ensures device { side ≡ Side.Device → OnOk result (Writes (S.contents self.old.device) (S.contents self.new.device) self.old.up self.new.up packet.now.items) }
+        ensures agent { side ≡ Side.Agent → OnOk result (WritesFrameAt (S.contents self.old.agent) (S.contents self.new.agent) self.old.down self.new.down packet.now.items) }
+        ensures device { side ≡ Side.Device → OnOk result (WritesFrameAt (S.contents self.old.device) (S.contents self.new.device) self.old.up self.new.up packet.now.items) }
         ensures agent_fault { side ≡ Side.Agent → IfErr result (λ e. (self.new.down ≡ self.old.down) × WriteStops self.old.unit e (S.contents self.old.agent) (S.contents self.new.agent) packet.now.items) }
         ensures device_fault { side ≡ Side.Device → IfErr result (λ e. (self.new.up ≡ self.old.up) × WriteStops self.old.unit e (S.contents self.old.device) (S.contents self.new.device) packet.now.items) }
         ensures not_device { side ≡ Side.Agent → (self.new.device ≡ self.old.device) × (self.new.up ≡ self.old.up) }
@@ -97,8 +97,8 @@ impl<S: Read + Write + Drop> StreamLink<S> {
         ensures unit { self.new.unit ≡ self.old.unit }
         ensures no_up { side ≡ Side.Agent → self.old.up ≡ 0 → (result ≡ Ok false) × (self.new ≡ self.old) }
         ensures no_down { side ≡ Side.Device → self.old.down ≡ 0 → (result ≡ Ok false) × (self.new ≡ self.old) }
-        ensures agent { side ≡ Side.Agent → IfOk result (λ came. came ≡ true → Reads (S.remaining self.old.agent) (S.remaining self.new.agent) self.old.up self.new.up packet.new.items) }
-        ensures device { side ≡ Side.Device → IfOk result (λ came. came ≡ true → Reads (S.remaining self.old.device) (S.remaining self.new.device) self.old.down self.new.down packet.new.items) }
+        ensures agent { side ≡ Side.Agent → IfOk result (λ came. came ≡ true → ReadsFrameAt (S.remaining self.old.agent) (S.remaining self.new.agent) self.old.up self.new.up packet.new.items) }
+        ensures device { side ≡ Side.Device → IfOk result (λ came. came ≡ true → ReadsFrameAt (S.remaining self.old.device) (S.remaining self.new.device) self.old.down self.new.down packet.new.items) }
         ensures none { IfOk result (λ came. came ≡ false → packet.new.items ≡ packet.old.items) }
         ensures some_up { side ≡ Side.Agent → self.old.up ≢ 0 → result ≢ Ok false }
         ensures some_down { side ≡ Side.Device → self.old.down ≢ 0 → result ≢ Ok false }
@@ -133,11 +133,11 @@ impl<S: Read + Write + Drop> Link for StreamLink<S> {
     ghost tally = { λ l. l.tally };
 
     fn send(&mut self, side: Side, packet: &RawPacket) -> Result<(), FrameFault>
-        ensures ok { OnOk result (Sends self.old.tally self.new.tally) }
-        ensures err { OnErr result (Fails self.old.tally self.new.tally) }
+        ensures ok { OnOk result (SendsPacket self.old.tally self.new.tally) }
+        ensures err { OnErr result (FailsCall self.old.tally self.new.tally) }
         ensures unit { self.new.unit ≡ self.old.unit }
-        ensures agent { side ≡ Side.Agent → OnOk result (Writes (S.contents self.old.agent) (S.contents self.new.agent) self.old.down self.new.down packet.now.items) }
-        ensures device { side ≡ Side.Device → OnOk result (Writes (S.contents self.old.device) (S.contents self.new.device) self.old.up self.new.up packet.now.items) }
+        ensures agent { side ≡ Side.Agent → OnOk result (WritesFrameAt (S.contents self.old.agent) (S.contents self.new.agent) self.old.down self.new.down packet.now.items) }
+        ensures device { side ≡ Side.Device → OnOk result (WritesFrameAt (S.contents self.old.device) (S.contents self.new.device) self.old.up self.new.up packet.now.items) }
         ensures agent_fault { side ≡ Side.Agent → IfErr result (λ e. (self.new.down ≡ self.old.down) × WriteStops self.old.unit e (S.contents self.old.agent) (S.contents self.new.agent) packet.now.items) }
         ensures device_fault { side ≡ Side.Device → IfErr result (λ e. (self.new.up ≡ self.old.up) × WriteStops self.old.unit e (S.contents self.old.device) (S.contents self.new.device) packet.now.items) }
         ensures not_device { side ≡ Side.Agent → (self.new.device ≡ self.old.device) × (self.new.up ≡ self.old.up) }
@@ -156,15 +156,15 @@ impl<S: Read + Write + Drop> Link for StreamLink<S> {
     }
 
     fn receive(&mut self, side: Side) -> Result<Option<RawPacket>, FrameFault>
-        ensures ok { IfOk result (λ p. Asks (is_some p) self.old.tally self.new.tally) }
-        ensures err { OnErr result (Fails self.old.tally self.new.tally) }
+        ensures ok { IfOk result (λ p. AsksForFrame (is_some p) self.old.tally self.new.tally) }
+        ensures err { OnErr result (FailsCall self.old.tally self.new.tally) }
         ensures unit { self.new.unit ≡ self.old.unit }
         ensures no_up { side ≡ Side.Agent → self.old.up ≡ 0
             → (result ≡ Ok None) × (self.new.agent ≡ self.old.agent) × (self.new.device ≡ self.old.device) × (self.new.up ≡ self.old.up) × (self.new.down ≡ self.old.down) }
         ensures no_down { side ≡ Side.Device → self.old.down ≡ 0
             → (result ≡ Ok None) × (self.new.agent ≡ self.old.agent) × (self.new.device ≡ self.old.device) × (self.new.up ≡ self.old.up) × (self.new.down ≡ self.old.down) }
-        ensures agent { side ≡ Side.Agent → IfOk result (λ p. IfSome p (λ q. Reads (S.remaining self.old.agent) (S.remaining self.new.agent) self.old.up self.new.up q.items)) }
-        ensures device { side ≡ Side.Device → IfOk result (λ p. IfSome p (λ q. Reads (S.remaining self.old.device) (S.remaining self.new.device) self.old.down self.new.down q.items)) }
+        ensures agent { side ≡ Side.Agent → IfOk result (λ p. IfSome p (λ q. ReadsFrameAt (S.remaining self.old.agent) (S.remaining self.new.agent) self.old.up self.new.up q.items)) }
+        ensures device { side ≡ Side.Device → IfOk result (λ p. IfSome p (λ q. ReadsFrameAt (S.remaining self.old.device) (S.remaining self.new.device) self.old.down self.new.down q.items)) }
         ensures some_up { side ≡ Side.Agent → self.old.up ≢ 0 → result ≢ Ok None }
         ensures some_down { side ≡ Side.Device → self.old.down ≢ 0 → result ≢ Ok None }
         ensures agent_fault { side ≡ Side.Agent → IfErr result (λ e. (self.old.up ≡ self.new.up + 1) × ReadStops self.old.unit e (S.remaining self.old.agent) (S.remaining self.new.agent)) }
@@ -181,16 +181,16 @@ impl<S: Read + Write + Drop> Link for StreamLink<S> {
     }
 
     fn receive_into(&mut self, side: Side, packet: &mut RawPacket) -> Result<bool, FrameFault>
-        ensures ok { IfOk result (λ came. Asks came self.old.tally self.new.tally) }
+        ensures ok { IfOk result (λ came. AsksForFrame came self.old.tally self.new.tally) }
         ensures none { IfOk result (λ came. came ≡ false → packet.new.items ≡ packet.old.items) }
-        ensures err { OnErr result (Fails self.old.tally self.new.tally) }
+        ensures err { OnErr result (FailsCall self.old.tally self.new.tally) }
         ensures unit { self.new.unit ≡ self.old.unit }
         ensures no_up { side ≡ Side.Agent → self.old.up ≡ 0
             → (result ≡ Ok false) × (self.new.agent ≡ self.old.agent) × (self.new.device ≡ self.old.device) × (self.new.up ≡ self.old.up) × (self.new.down ≡ self.old.down) }
         ensures no_down { side ≡ Side.Device → self.old.down ≡ 0
             → (result ≡ Ok false) × (self.new.agent ≡ self.old.agent) × (self.new.device ≡ self.old.device) × (self.new.up ≡ self.old.up) × (self.new.down ≡ self.old.down) }
-        ensures agent { side ≡ Side.Agent → IfOk result (λ came. came ≡ true → Reads (S.remaining self.old.agent) (S.remaining self.new.agent) self.old.up self.new.up packet.new.items) }
-        ensures device { side ≡ Side.Device → IfOk result (λ came. came ≡ true → Reads (S.remaining self.old.device) (S.remaining self.new.device) self.old.down self.new.down packet.new.items) }
+        ensures agent { side ≡ Side.Agent → IfOk result (λ came. came ≡ true → ReadsFrameAt (S.remaining self.old.agent) (S.remaining self.new.agent) self.old.up self.new.up packet.new.items) }
+        ensures device { side ≡ Side.Device → IfOk result (λ came. came ≡ true → ReadsFrameAt (S.remaining self.old.device) (S.remaining self.new.device) self.old.down self.new.down packet.new.items) }
         ensures some_up { side ≡ Side.Agent → self.old.up ≢ 0 → result ≢ Ok false }
         ensures some_down { side ≡ Side.Device → self.old.down ≢ 0 → result ≢ Ok false }
         ensures agent_fault { side ≡ Side.Agent → IfErr result (λ e. (self.old.up ≡ self.new.up + 1) × ReadStops self.old.unit e (S.remaining self.old.agent) (S.remaining self.new.agent)) }

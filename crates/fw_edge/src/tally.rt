@@ -1,7 +1,7 @@
 //! What a link counts.
 
 ghost use Rattle.std.specs.Prelude.{◌≡◌, false, true};
-ghost use Rattle.fw_edge.specs.Links.{Asks, Fails, Sends};
+ghost use Rattle.fw_edge.specs.Links.{AsksForFrame, FailsCall, SendsPacket};
 
 /// What a link has done so far. Each count stops at its last value.
 #[derive(Clone, Copy, PartialEq, Eq)]
@@ -34,21 +34,21 @@ impl Tally {
 
     /// Counts a call that failed.
     pub fn fail(&mut self)
-        ensures { Fails self.old self.new }
+        ensures { FailsCall self.old self.new }
     {
         self.failures = self.failures.saturating_add(1);
     }
 
     /// Counts a packet that was taken.
     pub fn send(&mut self)
-        ensures { Sends self.old self.new }
+        ensures { SendsPacket self.old self.new }
     {
         self.sent = self.sent.saturating_add(1);
     }
 
     /// Counts that a frame was asked for, and whether one was given.
     pub fn ask(&mut self, gave: bool)
-        ensures { Asks gave self.old self.new }
+        ensures { AsksForFrame gave self.old self.new }
     {
         self.asked = self.asked.saturating_add(1);
         if gave {

@@ -2,16 +2,16 @@
 use Rattle.std.proofs.Common.{◌≡◌, ◌∙◌, List, ◌++◌, append_assoc, ap, refl}
 use Rattle.json.specs.Token.{Token}
 use Rattle.json.specs.Written.{Written}
-use Rattle.fw_json.specs.Writing.{Tells}
+use Rattle.fw_json.specs.Writing.{AppendsTokens}
 
-pub tells_more : {w w1 w2 : Written} {a b : List Token} → Tells w w1 a → Tells w1 w2 b → Tells w w2 (a ++ b)
+pub tells_more : {w w1 w2 : Written} {a b : List Token} → AppendsTokens w w1 a → AppendsTokens w1 w2 b → AppendsTokens w w2 (a ++ b)
 tells_more {w} {w1} {w2} {a} {b} first second = record {
   tokens = rw (second.tokens, first.tokens, append_assoc w.tokens a b) refl;
   before = second.before ∙ first.before;
 }
 
 -- a piece more is told, and less is left
-pub told_more : (w w1 : Written) (rest all piece : List Token) → w.tokens ++ (piece ++ rest) ≡ all → Tells w w1 piece → w1.tokens ++ rest ≡ all
+pub told_more : (w w1 : Written) (rest all piece : List Token) → w.tokens ++ (piece ++ rest) ≡ all → AppendsTokens w w1 piece → w1.tokens ++ rest ≡ all
 told_more w w1 rest all piece told tells = ap (λ ts. ts ++ rest) tells.tokens ∙ append_assoc w.tokens piece rest ∙ told
 
 pub ruleset telling = (told_more)

@@ -11,14 +11,14 @@ use Rattle.fw_package.specs.declared.fault.PlanFault.{PlanFault}
 use Rattle.fw_script.specs.Configs.{DeviceConfigOf}
 use Rattle.fw_setup.specs.Forecasts.{first_lacked, plan_word, update_word}
 use Rattle.fw_setup.specs.Nodes.{device_made}
-use Rattle.ua_core.specs.Lent.{key_of, told_descriptor}
+use Rattle.ua_core.specs.Lent.{key_of, package_descriptor}
 use Rattle.fw_json.specs.Inspections.{descriptor_value}
 use Rattle.fw_json.specs.Plans.{configured_value, device_forecast, found_value, lack_value, offer_items, offer_value, plan_value, planned_value, running_value}
-use Rattle.fw_json.specs.Values.{counted, counted_items, optional, spelled}
+use Rattle.fw_json.specs.Values.{number_value, numbered_items, optional_value, text_value}
 use Rattle.fw_json.proofs.Inspected.{descriptor_shallow}
 use Rattle.fw_json.proofs.Reading.{counted_shallow, items_shallow}
 
-optional_shallow : {A : Type 0} (f : A → Json) (n : ℕ) (o : Option A) → ((x : A) → depth (f x) ≤ n) → depth (optional f o) ≤ n
+optional_shallow : {A : Type 0} (f : A → Json) (n : ℕ) (o : Option A) → ((x : A) → depth (f x) ≤ n) → depth (optional_value f o) ≤ n
 optional_shallow f n None h = omega arith
 optional_shallow f n (Some x) h = h x
 
@@ -48,21 +48,21 @@ forecast_shallow eid chosen set word lacks components flat_chosen flat_set few s
 
 planned_shallow : (eid chosen : ℕ) (p : PackageText) (rows : List RowOf) (r : Result (List ℕ) PlanFault) → depth (planned_value eid chosen p rows r) ≤ 4
 planned_shallow eid chosen p rows (Err fault) =
-    forecast_shallow eid (counted (chosen + 1)) (spelled (record_at p chosen).set_text.bytes) (plan_word fault) no_items no_items (omega arith) (omega arith) (omega arith) (omega arith)
+    forecast_shallow eid (number_value (chosen + 1)) (text_value (record_at p chosen).set_text.bytes) (plan_word fault) no_items no_items (omega arith) (omega arith) (omega arith) (omega arith)
 planned_shallow eid chosen p rows (Ok ns) =
-    forecast_shallow eid (counted (chosen + 1)) (spelled (record_at p chosen).set_text.bytes) (update_word p rows ns) no_items (offer_items p rows ns)
+    forecast_shallow eid (number_value (chosen + 1)) (text_value (record_at p chosen).set_text.bytes) (update_word p rows ns) no_items (offer_items p rows ns)
     (omega arith) (omega arith) (omega arith) (offers_shallow p rows ns)
 
 found_shallow : (eid : ℕ) (p : PackageText) (v : DeviceState) (o : Option ℕ) → depth (found_value eid p v o) ≤ 4
 found_shallow eid p v None =
-    let device = map told_descriptor v.descriptors in
-    forecast_shallow eid null null (codes "NoRecord") (counted_items (lack_value device) 1 p.records) no_items (omega arith) (omega arith)
+    let device = map package_descriptor v.descriptors in
+    forecast_shallow eid null null (codes "NoRecord") (numbered_items (lack_value device) 1 p.records) no_items (omega arith) (omega arith)
     (counted_shallow (lack_value device) 2 (lack_shallow device) 1 p.records) (omega arith)
 found_shallow eid p v (Some chosen) = planned_shallow eid chosen p v.rows (plan_of p chosen)
 
 configured_shallow : (p : PackageText) (x : DeviceConfigOf) → depth (configured_value p x) ≤ 4
 configured_shallow p x =
-    found_shallow x.endpoint.eid p (device_made U64 x).device (record_number p (map told_descriptor (device_made U64 x).device.descriptors))
+    found_shallow x.endpoint.eid p (device_made U64 x).device (record_number p (map package_descriptor (device_made U64 x).device.descriptors))
 
 pub plan_shallow : (number : ℕ) (p : PackageText) (devices : List DeviceConfigOf) → depth (plan_value number p devices) ≤ max_depth
 plan_shallow number p devices =

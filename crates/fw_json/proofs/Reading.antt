@@ -6,7 +6,7 @@ use Rattle.json.specs.Print.{print}
 use Rattle.json.specs.Token.{Token}
 use Rattle.json.specs.Tree.{json_tokens, depth, items_depth}
 use Rattle.json.proofs.Printed.Trees.{value-json_tokens}
-use Rattle.fw_json.specs.Values.{ReadsBack, counted_items, items}
+use Rattle.fw_json.specs.Values.{ReadsBack, numbered_items, items}
 
 -- tokens that are found in their text again are read as the value that they are of
 pub read_back : (j : Json) (ts : List Token) → ts ≡ json_tokens j → tokens (print ts) ≡ ts → depth j ≤ max_depth → ReadsBack j
@@ -20,7 +20,7 @@ pub items_shallow : {A : Type 0} (f : A → Json) (n : ℕ) → ((x : A) → dep
 items_shallow f n h [] = omega arith
 items_shallow f n h (x ∷ xs) = omega (arith, h x, items_shallow f n h xs)
 
-pub counted_shallow : {A : Type 0} (f : ℕ → A → Json) (n : ℕ) → ((k : ℕ) (x : A) → depth (f k x) ≤ n) → (k : ℕ) (xs : List A) → items_depth (counted_items f k xs) ≤ n
+pub counted_shallow : {A : Type 0} (f : ℕ → A → Json) (n : ℕ) → ((k : ℕ) (x : A) → depth (f k x) ≤ n) → (k : ℕ) (xs : List A) → items_depth (numbered_items f k xs) ≤ n
 counted_shallow f n h k [] = omega arith
 counted_shallow f n h k (x ∷ xs) = omega (arith, h k x, counted_shallow f n h (k + 1) xs)
 

@@ -12,26 +12,26 @@ use Rattle.fw_package.specs.declared.fault.PlanFault.{PlanFault}
 use Rattle.fw_script.specs.Configs.{DeviceConfigOf}
 use Rattle.fw_setup.specs.Forecasts.{component_word, first_lacked, passed, plan_word, update_word}
 use Rattle.fw_setup.specs.Nodes.{device_made}
-use Rattle.ua_core.specs.Lent.{key_of, sent_stamp, told_descriptor}
+use Rattle.ua_core.specs.Lent.{key_of, sent_stamp, package_descriptor}
 use Rattle.fw_json.specs.Inspections.{descriptor_value}
-use Rattle.fw_json.specs.Values.{counted, counted_items, items, object_of, optional, spelled}
+use Rattle.fw_json.specs.Values.{number_value, numbered_items, items, object_of, optional_value, text_value}
 
 -- why a record isn't for the device: the descriptor that it lacks, or the record has none
 unfoldable pub lack_value : (device : List DescriptorOf) → (number : ℕ) → RecordOf → Json
 lack_value device n r =
-    object_of ((codes "record", counted n) ∷ (codes "descriptor", optional descriptor_value (first_lacked device r.descriptors)) ∷ [])
+    object_of ((codes "record", number_value n) ∷ (codes "descriptor", optional_value descriptor_value (first_lacked device r.descriptors)) ∷ [])
 
 -- what runs for a component's key: its stamp and its text
 unfoldable pub running_value : RowOf → Json
-running_value row = object_of ((codes "stamp", counted row.active.label.stamp) ∷ (codes "version", spelled row.active.label.text) ∷ [])
+running_value row = object_of ((codes "stamp", number_value row.active.label.stamp) ∷ (codes "version", text_value row.active.label.text) ∷ [])
 
 -- a component that the device is offered. Its stamp is the one that is sent: all ones where its options don't use it
 unfoldable pub offer_value : List RowOf → ComponentOf → Json
 offer_value rows c =
     object_of
-    ((codes "classification", counted c.classification) ∷ (codes "identifier", counted c.identifier)
-    ∷ (codes "size", counted (length c.image)) ∷ (codes "stamp", counted (sent_stamp c)) ∷ (codes "version", spelled c.text.bytes)
-    ∷ (codes "active", optional running_value (row_of rows (key_of c))) ∷ (codes "word", string (component_word c (passed rows c))) ∷ [])
+    ((codes "classification", number_value c.classification) ∷ (codes "identifier", number_value c.identifier)
+    ∷ (codes "size", number_value (length c.image)) ∷ (codes "stamp", number_value (sent_stamp c)) ∷ (codes "version", text_value c.text.bytes)
+    ∷ (codes "active", optional_value running_value (row_of rows (key_of c))) ∷ (codes "word", string (component_word c (passed rows c))) ∷ [])
 
 -- the components of a package with these numbers
 abbrev pub offer_items : PackageText → List RowOf → List ℕ → Items
@@ -41,16 +41,16 @@ offer_items p rows ns = items (λ n. offer_value rows (component_at p n)) ns
 unfoldable pub device_forecast : (eid : ℕ) (chosen set : Json) → (word : List ℕ) → (lacks components : Items) → Json
 device_forecast eid chosen set word lacks components =
     object_of
-    ((codes "eid", counted eid) ∷ (codes "record", chosen) ∷ (codes "set", set) ∷ (codes "word", string word)
+    ((codes "eid", number_value eid) ∷ (codes "record", chosen) ∷ (codes "set", set) ∷ (codes "word", string word)
     ∷ (codes "lacks", array lacks) ∷ (codes "components", array components) ∷ [])
 
 -- one for which no record is
 abbrev pub unmet_value : (eid : ℕ) → PackageText → (device : List DescriptorOf) → Json
-unmet_value eid p device = device_forecast eid null null (codes "NoRecord") (counted_items (lack_value device) 1 p.records) no_items
+unmet_value eid p device = device_forecast eid null null (codes "NoRecord") (numbered_items (lack_value device) 1 p.records) no_items
 
 -- one for which this record is; records are counted from 1
 abbrev pub chosen_value : (eid chosen : ℕ) → RecordOf → (word : List ℕ) → (components : Items) → Json
-chosen_value eid chosen r word components = device_forecast eid (counted (chosen + 1)) (spelled r.set_text.bytes) word no_items components
+chosen_value eid chosen r word components = device_forecast eid (number_value (chosen + 1)) (text_value r.set_text.bytes) word no_items components
 
 -- one for which this record is, and this is its plan
 abbrev pub planned_value : (eid chosen : ℕ) → PackageText → List RowOf → Result (List ℕ) PlanFault → Json
@@ -58,17 +58,17 @@ planned_value eid chosen p rows (Err fault) = chosen_value eid chosen (record_at
 planned_value eid chosen p rows (Ok ns) = chosen_value eid chosen (record_at p chosen) (update_word p rows ns) (offer_items p rows ns)
 
 abbrev pub found_value : (eid : ℕ) → PackageText → DeviceState → Option ℕ → Json
-found_value eid p v None = unmet_value eid p (map told_descriptor v.descriptors)
+found_value eid p v None = unmet_value eid p (map package_descriptor v.descriptors)
 found_value eid p v (Some chosen) = planned_value eid chosen p v.rows (plan_of p chosen)
 
 -- a device of a configuration: its descriptors and images alone, so that any unit does
 abbrev pub configured_value : PackageText → DeviceConfigOf → Json
 configured_value p x =
-    found_value x.endpoint.eid p (device_made U64 x).device (record_number p (map told_descriptor (device_made U64 x).device.descriptors))
+    found_value x.endpoint.eid p (device_made U64 x).device (record_number p (map package_descriptor (device_made U64 x).device.descriptors))
 
 -- what is written of a configuration's devices, for the package of this number
 abbrev pub plan_value : (number : ℕ) → PackageText → List DeviceConfigOf → Json
 plan_value number p devices =
     object_of
-    ((codes "format", string (codes "fwupd-plan/1")) ∷ (codes "package", counted number)
+    ((codes "format", string (codes "fwupd-plan/1")) ∷ (codes "package", number_value number)
     ∷ (codes "devices", array (items (configured_value p) devices)) ∷ [])

@@ -5,7 +5,7 @@ use Rattle.hex.specs.Hex.{encode_upper}
 use Rattle.json.specs.Json.{Json, document, null, number, string, object, Items, no_items, item, Members, no_members, member}
 use Rattle.json.specs.Print.{print}
 use Rattle.json.specs.Tree.{json_tokens}
-use Rattle.fw_text.specs.Printing.{escaped}
+use Rattle.fw_text.specs.Printing.{escaped_byte}
 
 -- the members of an object, in their order
 abbrev pub members : List (List ℕ × Json) → Members
@@ -21,26 +21,26 @@ items f [] = no_items
 items f (x ∷ xs) = item (f x) (items f xs)
 
 -- the same of things that are counted, from number n on
-abbrev pub counted_items : {A : Type 0} → (ℕ → A → Json) → ℕ → List A → Items
-counted_items f n [] = no_items
-counted_items f n (x ∷ xs) = item (f n x) (counted_items f (n + 1) xs)
+abbrev pub numbered_items : {A : Type 0} → (ℕ → A → Json) → ℕ → List A → Items
+numbered_items f n [] = no_items
+numbered_items f n (x ∷ xs) = item (f n x) (numbered_items f (n + 1) xs)
 
 -- a number in decimal digits
-abbrev pub counted : ℕ → Json
-counted n = number (decimal n)
+abbrev pub number_value : ℕ → Json
+number_value n = number (decimal n)
 
 -- bytes in upper-case digits, two each
 abbrev pub in_digits : List ℕ → Json
 in_digits bytes = string (encode_upper bytes)
 
 -- a text as it is printed between quotes
-abbrev pub spelled : List ℕ → Json
-spelled text = string (flat_map escaped text)
+abbrev pub text_value : List ℕ → Json
+text_value text = string (flat_map escaped_byte text)
 
 -- what is absent is null
-abbrev pub optional : {A : Type 0} → (A → Json) → Option A → Json
-optional f None = null
-optional f (Some x) = f x
+abbrev pub optional_value : {A : Type 0} → (A → Json) → Option A → Json
+optional_value f None = null
+optional_value f (Some x) = f x
 
 -- a value's line: its bytes, and a line feed
 abbrev pub line_of : Json → List ℕ

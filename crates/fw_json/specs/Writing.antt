@@ -4,6 +4,6 @@ use Rattle.json.specs.Token.{Token}
 use Rattle.json.specs.Written.{Written}
 
 -- the new tokens are the old ones and these after them, and what stood before the first one stays
-pub record Tells (old new : Written) (ts : List Token) : Type 0 where
+pub record AppendsTokens (old new : Written) (ts : List Token) : Type 0 where
   pub tokens : new.tokens ≡ old.tokens ++ ts
   pub before : new.before ≡ old.before

@@ -10,16 +10,16 @@ ghost use Rattle.json.specs.Lex.{tokens};
 ghost use Rattle.json.specs.Print.{print};
 ghost use Rattle.json.specs.Token.{begin_array, begin_object, boolean, end_array, end_object, key, null, number, string};
 ghost use Rattle.json.specs.Tree.{json_tokens};
-ghost use Rattle.fw_text.specs.Printing.{escaped};
-ghost use Rattle.fw_json.specs.Values.{in_digits, optional};
-ghost use Rattle.fw_json.specs.Writing.{Tells};
+ghost use Rattle.fw_text.specs.Printing.{escaped_byte};
+ghost use Rattle.fw_json.specs.Values.{in_digits, optional_value};
+ghost use Rattle.fw_json.specs.Writing.{AppendsTokens};
 
 use json::Writer;
 use std::alloc::{AllocError, Global};
 
 /// Begins an object.
 pub(crate) fn open_object(writer: &mut Writer) -> Result<(), AllocError>
-    ensures { OnOk result (Tells writer.old writer.new (begin_object ∷ [])) }
+    ensures { OnOk result (AppendsTokens writer.old writer.new (begin_object ∷ [])) }
 {
     writer.begin_object()?;
     Ok(())
@@ -27,7 +27,7 @@ pub(crate) fn open_object(writer: &mut Writer) -> Result<(), AllocError>
 
 /// Ends an object.
 pub(crate) fn close_object(writer: &mut Writer) -> Result<(), AllocError>
-    ensures { OnOk result (Tells writer.old writer.new (end_object ∷ [])) }
+    ensures { OnOk result (AppendsTokens writer.old writer.new (end_object ∷ [])) }
 {
     writer.end_object()?;
     Ok(())
@@ -35,7 +35,7 @@ pub(crate) fn close_object(writer: &mut Writer) -> Result<(), AllocError>
 
 /// Ends an array.
 pub(crate) fn close_array(writer: &mut Writer) -> Result<(), AllocError>
-    ensures { OnOk result (Tells writer.old writer.new (end_array ∷ [])) }
+    ensures { OnOk result (AppendsTokens writer.old writer.new (end_array ∷ [])) }
 {
     writer.end_array()?;
     Ok(())
@@ -43,7 +43,7 @@ pub(crate) fn close_array(writer: &mut Writer) -> Result<(), AllocError>
 
 /// Writes a key, and begins the array that is its value.
 pub(crate) fn open_array_field(writer: &mut Writer, name: &str) -> Result<(), AllocError>
-    ensures { OnOk result (Tells writer.old writer.new (key name.now ∷ begin_array ∷ [])) }
+    ensures { OnOk result (AppendsTokens writer.old writer.new (key name.now ∷ begin_array ∷ [])) }
 {
     writer.key(name)?;
     writer.begin_array()?;
@@ -52,7 +52,7 @@ pub(crate) fn open_array_field(writer: &mut Writer, name: &str) -> Result<(), Al
 
 /// Writes a key.
 pub(crate) fn push_key(writer: &mut Writer, name: &str) -> Result<(), AllocError>
-    ensures { OnOk result (Tells writer.old writer.new (key name.now ∷ [])) }
+    ensures { OnOk result (AppendsTokens writer.old writer.new (key name.now ∷ [])) }
 {
     writer.key(name)?;
     Ok(())
@@ -60,7 +60,7 @@ pub(crate) fn push_key(writer: &mut Writer, name: &str) -> Result<(), AllocError
 
 /// Writes null.
 pub(crate) fn push_null(writer: &mut Writer) -> Result<(), AllocError>
-    ensures { OnOk result (Tells writer.old writer.new (null ∷ [])) }
+    ensures { OnOk result (AppendsTokens writer.old writer.new (null ∷ [])) }
 {
     writer.null()?;
     Ok(())
@@ -68,7 +68,7 @@ pub(crate) fn push_null(writer: &mut Writer) -> Result<(), AllocError>
 
 /// Writes the number after this place.
 pub(crate) fn push_next(alloc: Global, writer: &mut Writer, place: usize) -> Result<(), AllocError>
-    ensures { OnOk result (Tells writer.old writer.new (number (decimal (place + 1)) ∷ [])) }
+    ensures { OnOk result (AppendsTokens writer.old writer.new (number (decimal (place + 1)) ∷ [])) }
 {
     let digits = (place as u128 + 1).to_string(alloc)?;
     writer.number(&digits)?;
@@ -81,7 +81,7 @@ pub(crate) fn push_number_field(
     name: &str,
     value: usize,
 ) -> Result<(), AllocError>
-    ensures { OnOk result (Tells writer.old writer.new (key name.now ∷ number (decimal value) ∷ [])) }
+    ensures { OnOk result (AppendsTokens writer.old writer.new (key name.now ∷ number (decimal value) ∷ [])) }
 {
     writer.key(name)?;
     writer.u64(value as u64)?;
@@ -94,7 +94,7 @@ pub(crate) fn push_word_field(
     name: &str,
     words: &str,
 ) -> Result<(), AllocError>
-    ensures { OnOk result (Tells writer.old writer.new (key name.now ∷ string words.now ∷ [])) }
+    ensures { OnOk result (AppendsTokens writer.old writer.new (key name.now ∷ string words.now ∷ [])) }
 {
     writer.key(name)?;
     writer.string(words)?;
@@ -107,7 +107,7 @@ pub(crate) fn push_flag_field(
     name: &str,
     holds: bool,
 ) -> Result<(), AllocError>
-    ensures { OnOk result (Tells writer.old writer.new (key name.now ∷ boolean holds ∷ [])) }
+    ensures { OnOk result (AppendsTokens writer.old writer.new (key name.now ∷ boolean holds ∷ [])) }
 {
     writer.key(name)?;
     writer.boolean(holds)?;
@@ -120,7 +120,7 @@ pub(crate) fn push_optional_word_field(
     name: &str,
     words: Option<&str>,
 ) -> Result<(), AllocError>
-    ensures { OnOk result (Tells writer.old writer.new (key name.now ∷ json_tokens (optional Json.string (option_map (λ w. w.now) words.entry)))) }
+    ensures { OnOk result (AppendsTokens writer.old writer.new (key name.now ∷ json_tokens (optional_value Json.string (option_map (λ w. w.now) words.entry)))) }
 {
     writer.key(name)?;
     match words {
@@ -137,7 +137,7 @@ pub(crate) fn push_next_field(
     name: &str,
     place: usize,
 ) -> Result<(), AllocError>
-    ensures { OnOk result (Tells writer.old writer.new (key name.now ∷ number (decimal (place + 1)) ∷ [])) }
+    ensures { OnOk result (AppendsTokens writer.old writer.new (key name.now ∷ number (decimal (place + 1)) ∷ [])) }
 {
     writer.key(name)?;
     push_next(alloc, writer, place)
@@ -150,7 +150,7 @@ pub(crate) fn push_optional_digits_field(
     name: &str,
     bytes: Option<&[u8]>,
 ) -> Result<(), AllocError>
-    ensures { OnOk result (Tells writer.old writer.new (key name.now ∷ json_tokens (optional in_digits (option_map (λ b. b.now) bytes.entry)))) }
+    ensures { OnOk result (AppendsTokens writer.old writer.new (key name.now ∷ json_tokens (optional_value in_digits (option_map (λ b. b.now) bytes.entry)))) }
 {
     match bytes {
         Some(bytes) => push_digits_field(alloc, writer, name, bytes),
@@ -165,7 +165,7 @@ pub(crate) fn push_digits_field(
     name: &str,
     bytes: &[u8],
 ) -> Result<(), AllocError>
-    ensures { OnOk result (Tells writer.old writer.new (key name.now ∷ string (encode_upper bytes.now) ∷ [])) }
+    ensures { OnOk result (AppendsTokens writer.old writer.new (key name.now ∷ string (encode_upper bytes.now) ∷ [])) }
 {
     let digits = hex::encode_upper(alloc, bytes)?;
     push_word_field(writer, name, &digits)
@@ -180,7 +180,7 @@ fn is_plain(byte: u8) -> bool
 
 /// Appends a byte of a text, as it is printed between quotes.
 fn push_escaped(alloc: Global, text: &mut String, byte: u8) -> Result<(), AllocError>
-    ensures { OnOk result (string_bytes text.new ≡ string_bytes text.old ++ escaped byte) }
+    ensures { OnOk result (string_bytes text.new ≡ string_bytes text.old ++ escaped_byte byte) }
 {
     if is_plain(byte) {
         text.push(char::from(byte))?;
@@ -194,7 +194,7 @@ fn push_escaped(alloc: Global, text: &mut String, byte: u8) -> Result<(), AllocE
 
 /// A text as it is printed between quotes.
 fn spelling(alloc: Global, bytes: &[u8]) -> Result<String, AllocError>
-    ensures { IfOk result (λ text. string_bytes text ≡ flat_map escaped bytes.now) }
+    ensures { IfOk result (λ text. string_bytes text ≡ flat_map escaped_byte bytes.now) }
 {
     let mut text = String::new(alloc);
     for byte in bytes {
@@ -210,7 +210,7 @@ pub(crate) fn push_text_field(
     name: &str,
     bytes: &[u8],
 ) -> Result<(), AllocError>
-    ensures { OnOk result (Tells writer.old writer.new (key name.now ∷ string (flat_map escaped bytes.now) ∷ [])) }
+    ensures { OnOk result (AppendsTokens writer.old writer.new (key name.now ∷ string (flat_map escaped_byte bytes.now) ∷ [])) }
 {
     let text = spelling(alloc, bytes)?;
     push_word_field(writer, name, &text)

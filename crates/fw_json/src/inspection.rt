@@ -8,14 +8,14 @@ ghost use Rattle.fw_package.specs.Outlines.{IsBeginning};
 ghost use Rattle.fw_package.specs.Package.{descriptor_of};
 ghost use Rattle.fw_package.specs.Reading.{package_of};
 ghost use Rattle.fw_json.specs.Inspections.{component_value, descriptor_value, inspection_value, outline_value, record_value, use_value};
-ghost use Rattle.fw_json.specs.Values.{ReadsBack, counted_items, items, line_of};
-ghost use Rattle.fw_json.specs.Writing.{Tells};
+ghost use Rattle.fw_json.specs.Values.{ReadsBack, numbered_items, items, line_of};
+ghost use Rattle.fw_json.specs.Writing.{AppendsTokens};
 
 use crate::fields::{
     close_array, close_object, line, open_array_field, open_object, push_digits_field, push_next,
     push_number_field, push_text_field, push_word_field,
 };
-use fw_package::{Descriptor, Descriptors, Outline, Place, Places, Record, Records, Uses};
+use fw_package::{ComponentPlaces, Descriptor, Descriptors, Outline, Place, Record, Records, Uses};
 use fwupd_base::{InspectFault, beginning_of};
 use json::Writer;
 use std::alloc::{AllocError, Global};
@@ -27,7 +27,7 @@ pub(crate) fn push_descriptor(
     writer: &mut Writer,
     descriptor: Descriptor<'_>,
 ) -> Result<(), AllocError>
-    ensures { OnOk result (Tells writer.old writer.new (json_tokens (descriptor_value (descriptor_of descriptor.entry)))) }
+    ensures { OnOk result (AppendsTokens writer.old writer.new (json_tokens (descriptor_value (descriptor_of descriptor.entry)))) }
 {
     open_object(writer)?;
     push_number_field(writer, "type", usize::from(descriptor.kind))?;
@@ -43,7 +43,7 @@ fn push_descriptors(
     writer: &mut Writer,
     descriptors: Descriptors<'_>,
 ) -> Result<(), AllocError>
-    ensures { OnOk result (Tells writer.old writer.new (items_tokens (items descriptor_value descriptors.entry))) }
+    ensures { OnOk result (AppendsTokens writer.old writer.new (items_tokens (items descriptor_value descriptors.entry))) }
 {
     for descriptor in descriptors {
         push_descriptor(alloc, writer, descriptor)?;
@@ -55,7 +55,7 @@ fn push_descriptors(
 /// Writes the number of each component that a record uses, and ends their array.
 #[tactic(auto, using(crate::proofs::Chains::telling))]
 fn push_uses(alloc: Global, writer: &mut Writer, uses: Uses<'_>) -> Result<(), AllocError>
-    ensures { OnOk result (Tells writer.old writer.new (items_tokens (items use_value uses.entry))) }
+    ensures { OnOk result (AppendsTokens writer.old writer.new (items_tokens (items use_value uses.entry))) }
 {
     for component in uses {
         push_next(alloc, writer, usize::from(component))?;
@@ -71,7 +71,7 @@ fn push_record(
     number: usize,
     contents: Record<'_>,
 ) -> Result<(), AllocError>
-    ensures { OnOk result (Tells writer.old writer.new (json_tokens (record_value number (record_seen contents.entry)))) }
+    ensures { OnOk result (AppendsTokens writer.old writer.new (json_tokens (record_value number (record_seen contents.entry)))) }
 {
     open_object(writer)?;
     push_number_field(writer, "number", number)?;
@@ -92,7 +92,7 @@ fn push_records(
     writer: &mut Writer,
     mut records: Records<'_>,
 ) -> Result<(), AllocError>
-    ensures { OnOk result (Tells writer.old writer.new (items_tokens (counted_items record_value 1 records.entry))) }
+    ensures { OnOk result (AppendsTokens writer.old writer.new (items_tokens (numbered_items record_value 1 records.entry))) }
 {
     for number in 0..records.len() {
         let Some(contents) = records.next() else {
@@ -111,7 +111,7 @@ fn push_component(
     number: usize,
     contents: Place<'_>,
 ) -> Result<(), AllocError>
-    ensures { OnOk result (Tells writer.old writer.new (json_tokens (component_value number (place_seen contents.entry)))) }
+    ensures { OnOk result (AppendsTokens writer.old writer.new (json_tokens (component_value number (place_seen contents.entry)))) }
 {
     open_object(writer)?;
     push_number_field(writer, "number", number)?;
@@ -135,9 +135,9 @@ fn push_component(
 fn push_components(
     alloc: Global,
     writer: &mut Writer,
-    mut components: Places<'_>,
+    mut components: ComponentPlaces<'_>,
 ) -> Result<(), AllocError>
-    ensures { OnOk result (Tells writer.old writer.new (items_tokens (counted_items component_value 1 components.entry))) }
+    ensures { OnOk result (AppendsTokens writer.old writer.new (items_tokens (numbered_items component_value 1 components.entry))) }
 {
     for number in 0..components.len() {
         let Some(contents) = components.next() else {
@@ -155,7 +155,7 @@ fn push_package(
     writer: &mut Writer,
     contents: &Outline<'_>,
 ) -> Result<(), AllocError>
-    ensures { OnOk result (Tells writer.old writer.new (json_tokens (outline_value contents.now))) }
+    ensures { OnOk result (AppendsTokens writer.old writer.new (json_tokens (outline_value contents.now))) }
 {
     open_object(writer)?;
     push_word_field(writer, "format", "fwupd-inspect/1")?;

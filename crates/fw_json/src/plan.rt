@@ -9,8 +9,8 @@ ghost use Rattle.fw_script.specs.Seen.{component_of, device_of};
 ghost use Rattle.fw_setup.specs.Nodes.{row_made};
 ghost use Rattle.fw_json.specs.Inspections.{descriptor_value};
 ghost use Rattle.fw_json.specs.Plans.{chosen_value, configured_value, lack_value, offer_items, offer_value, plan_value, planned_value, running_value, unmet_value};
-ghost use Rattle.fw_json.specs.Values.{ReadsBack, counted_items, items, line_of, optional};
-ghost use Rattle.fw_json.specs.Writing.{Tells};
+ghost use Rattle.fw_json.specs.Values.{ReadsBack, numbered_items, items, line_of, optional_value};
+ghost use Rattle.fw_json.specs.Writing.{AppendsTokens};
 
 use crate::fields::{
     close_array, close_object, line, open_array_field, open_object, push_key, push_next_field,
@@ -31,7 +31,7 @@ fn push_lacked(
     writer: &mut Writer,
     lacked: Option<Descriptor<'_>>,
 ) -> Result<(), AllocError>
-    ensures { OnOk result (Tells writer.old writer.new (json_tokens (optional descriptor_value (option_map descriptor_of lacked.entry)))) }
+    ensures { OnOk result (AppendsTokens writer.old writer.new (json_tokens (optional_value descriptor_value (option_map descriptor_of lacked.entry)))) }
 {
     match lacked {
         Some(descriptor) => push_descriptor(alloc, writer, descriptor),
@@ -47,7 +47,7 @@ fn push_lack(
     number: usize,
     contents: Record<'_>,
 ) -> Result<(), AllocError>
-    ensures { OnOk result (Tells writer.old writer.new (json_tokens (lack_value (map descriptor_of device.now) number (record_seen contents.entry)))) }
+    ensures { OnOk result (AppendsTokens writer.old writer.new (json_tokens (lack_value (map descriptor_of device.now) number (record_seen contents.entry)))) }
 {
     open_object(writer)?;
     push_number_field(writer, "record", number)?;
@@ -65,7 +65,7 @@ fn push_lacks(
     device: &[Descriptor<'_>],
     mut records: Records<'_>,
 ) -> Result<(), AllocError>
-    ensures { OnOk result (Tells writer.old writer.new (items_tokens (counted_items (lack_value (map descriptor_of device.now)) 1 records.entry))) }
+    ensures { OnOk result (AppendsTokens writer.old writer.new (items_tokens (numbered_items (lack_value (map descriptor_of device.now)) 1 records.entry))) }
 {
     for number in 0..records.len() {
         let Some(contents) = records.next() else {
@@ -83,7 +83,7 @@ fn push_running(
     writer: &mut Writer,
     config: &ComponentConfig,
 ) -> Result<(), AllocError>
-    ensures { OnOk result (Tells writer.old writer.new (json_tokens (running_value (row_made (component_of config.now))))) }
+    ensures { OnOk result (AppendsTokens writer.old writer.new (json_tokens (running_value (row_made (component_of config.now))))) }
 {
     open_object(writer)?;
     push_number_field(writer, "stamp", config.label.stamp() as usize)?;
@@ -98,7 +98,7 @@ fn push_active(
     writer: &mut Writer,
     active: Option<&ComponentConfig>,
 ) -> Result<(), AllocError>
-    ensures { OnOk result (Tells writer.old writer.new (json_tokens (optional running_value (option_map (λ c. row_made (component_of c.now)) active.entry)))) }
+    ensures { OnOk result (AppendsTokens writer.old writer.new (json_tokens (optional_value running_value (option_map (λ c. row_made (component_of c.now)) active.entry)))) }
 {
     match active {
         Some(config) => push_running(alloc, writer, config),
@@ -113,7 +113,7 @@ fn push_offer(
     components: &[ComponentConfig],
     component: Component<'_>,
 ) -> Result<(), AllocError>
-    ensures { OnOk result (Tells writer.old writer.new (json_tokens (offer_value (map row_made (map component_of components.now)) (component_seen component.entry)))) }
+    ensures { OnOk result (AppendsTokens writer.old writer.new (json_tokens (offer_value (map row_made (map component_of components.now)) (component_seen component.entry)))) }
 {
     open_object(writer)?;
     push_number_field(
@@ -146,7 +146,7 @@ fn push_offers(
     numbers: &[usize],
 ) -> Result<(), AllocError>
     requires { All (λ n. n < length contents.now.components) numbers.now }
-    ensures { OnOk result (Tells writer.old writer.new (items_tokens (offer_items contents.now (map row_made (map component_of components.now)) numbers.now))) }
+    ensures { OnOk result (AppendsTokens writer.old writer.new (items_tokens (offer_items contents.now (map row_made (map component_of components.now)) numbers.now))) }
 {
     for number in numbers {
         push_offer(alloc, writer, components, contents.component_at(*number))?;
@@ -163,7 +163,7 @@ fn push_unmet(
     contents: &Package<'_>,
     device: &[Descriptor<'_>],
 ) -> Result<(), AllocError>
-    ensures { OnOk result (Tells writer.old writer.new (json_tokens (unmet_value eid contents.now (map descriptor_of device.now)))) }
+    ensures { OnOk result (AppendsTokens writer.old writer.new (json_tokens (unmet_value eid contents.now (map descriptor_of device.now)))) }
 {
     open_object(writer)?;
     push_number_field(writer, "eid", usize::from(eid))?;
@@ -193,7 +193,7 @@ fn push_chosen(
 ) -> Result<(), AllocError>
     requires chosen { chosen < length contents.now.records }
     requires there { All (λ n. n < length contents.now.components) numbers.now }
-    ensures { OnOk result (Tells writer.old writer.new (json_tokens (chosen_value eid chosen (record_at contents.now chosen) word.now (offer_items contents.now (map row_made (map component_of components.now)) numbers.now)))) }
+    ensures { OnOk result (AppendsTokens writer.old writer.new (json_tokens (chosen_value eid chosen (record_at contents.now chosen) word.now (offer_items contents.now (map row_made (map component_of components.now)) numbers.now)))) }
 {
     open_object(writer)?;
     push_number_field(writer, "eid", usize::from(eid))?;
@@ -219,7 +219,7 @@ fn push_planned(
     components: &[ComponentConfig],
 ) -> Result<(), AllocError>
     requires { chosen < length contents.now.records }
-    ensures { OnOk result (Tells writer.old writer.new (json_tokens (planned_value eid chosen contents.now (map row_made (map component_of components.now)) (plan_of contents.now chosen)))) }
+    ensures { OnOk result (AppendsTokens writer.old writer.new (json_tokens (planned_value eid chosen contents.now (map row_made (map component_of components.now)) (plan_of contents.now chosen)))) }
 {
     let plan = match contents.plan(chosen) {
         Ok(plan) => plan,
@@ -242,7 +242,7 @@ fn push_device(
     contents: &Package<'_>,
     device: &DeviceConfig,
 ) -> Result<(), AllocError>
-    ensures { OnOk result (Tells writer.old writer.new (json_tokens (configured_value contents.now (device_of device.now)))) }
+    ensures { OnOk result (AppendsTokens writer.old writer.new (json_tokens (configured_value contents.now (device_of device.now)))) }
 {
     let eid = device.endpoint.eid;
     let known = known(alloc, device.descriptors.lent())?;
@@ -263,7 +263,7 @@ fn push_devices(
     contents: &Package<'_>,
     devices: &[DeviceConfig],
 ) -> Result<(), AllocError>
-    ensures { OnOk result (Tells writer.old writer.new (items_tokens (items (configured_value contents.now) (map device_of devices.now)))) }
+    ensures { OnOk result (AppendsTokens writer.old writer.new (items_tokens (items (configured_value contents.now) (map device_of devices.now)))) }
 {
     for device in devices {
         push_device(alloc, writer, contents, device)?;
@@ -280,7 +280,7 @@ fn push_plan(
     contents: &Package<'_>,
     devices: &[DeviceConfig],
 ) -> Result<(), AllocError>
-    ensures { OnOk result (Tells writer.old writer.new (json_tokens (plan_value number contents.now (map device_of devices.now)))) }
+    ensures { OnOk result (AppendsTokens writer.old writer.new (json_tokens (plan_value number contents.now (map device_of devices.now)))) }
 {
     open_object(writer)?;
     push_word_field(writer, "format", "fwupd-plan/1")?;

@@ -6,34 +6,34 @@ use Rattle.fwup_wire.specs.Values.{AnswerOf}
 use Rattle.fd_core.specs.Commands.{device_take}
 use Rattle.fd_core.proofs.BankCalls.{judges_alike, learns_alike, takes_alike}
 use Rattle.fw_message.specs.BankCalls.{brought_calls_bank, held_calls_bank, node_calls_bank, pair_step_calls_bank, message_step_calls_bank}
-use Rattle.fw_message.specs.Pairs.{HeldOf, PairOf, brought, closing, down_taken, is_empty, judged, learn_up, pair_after, quietly, step_of, take_down, take_down_at}
-use Rattle.fw_message.specs.Worlds.{NodeOf, WorldOf, WorldStepOf, device_of, named_step, node_at, pair_step, restarts_agent, step_at, went_on, world_after}
+use Rattle.fw_message.specs.Pairs.{CellContentOf, PairOf, waiting_answer, closing, down_taken, is_empty, step_after_verdict, learn_up, pair_after, step_without_entries, step_of, take_down, take_down_at}
+use Rattle.fw_message.specs.Worlds.{NodeOf, MessageWorldOf, WorldStepOf, device_of, named_step, node_at, pair_step, restarts_agent, step_at, went_on, message_world_after}
 use Rattle.fw_message.specs.declared.side.Way.TheVariants as ways
 use Rattle.fw_message.specs.declared.step.MessageStep.{MessageStep}
 use Rattle.fw_message.specs.declared.step.MessageStep.TheVariants as steps
 
 -- a command in a cell
-takes_held : (m : PairOf) (h : HeldOf) (reply : Option AnswerOf) (quiet works : Bool) → held_calls_bank m.device (Some h) quiet ≡ false → take_down_at m h reply quiet works ≡ take_down_at m h reply quiet true
+takes_held : (m : PairOf) (h : CellContentOf) (reply : Option AnswerOf) (quiet works : Bool) → held_calls_bank m.device (Some h) quiet ≡ false → take_down_at m h reply quiet works ≡ take_down_at m h reply quiet true
 takes_held m h None quiet works e = ap (λ t. if quiet && not (is_empty m.up) then None else Some (down_taken m h t)) (takes_alike m.device h.command quiet works e)
 takes_held m h (Some a) quiet works e = refl
 
-takes_alone : (m : PairOf) (held : Option HeldOf) (quiet works : Bool) → held_calls_bank m.device held quiet ≡ false → take_down m held quiet works ≡ take_down m held quiet true
+takes_alone : (m : PairOf) (held : Option CellContentOf) (quiet works : Bool) → held_calls_bank m.device held quiet ≡ false → take_down m held quiet works ≡ take_down m held quiet true
 takes_alone m None quiet works e = refl
 takes_alone m (Some h) quiet works e = takes_held m h h.reply quiet works e
 
 -- an answer that is waited for
 learns_alone : (m : PairOf) (a : Option AnswerOf) (works : Bool) → brought_calls_bank m.device a ≡ false → learn_up m a works ≡ learn_up m a true
 learns_alone m None works e = refl
-learns_alone m (Some a) works e = ap (λ d. Some (quietly (record m { device = d; up = None }))) (learns_alike m.device (Some a) works e)
+learns_alone m (Some a) works e = ap (λ d. Some (step_without_entries (record m { device = d; up = None }))) (learns_alike m.device (Some a) works e)
 
 -- a step of a pair
 step_alone : (packages : List PackageText) (m : PairOf) (s : MessageStep) (works : Bool) → pair_step_calls_bank m (pair_step true s) ≡ false
     → step_of packages m (pair_step works s) ≡ step_of packages m (pair_step true s)
 step_alone packages m (steps.Take device ways.Down quiet) works e = takes_alone m m.down quiet works e
 step_alone packages m (steps.Take device ways.Up quiet) works e = refl
-step_alone packages m (steps.Learn device ways.Up) works e = learns_alone m (brought m.up) works e
+step_alone packages m (steps.Learn device ways.Up) works e = learns_alone m (waiting_answer m.up) works e
 step_alone packages m (steps.Learn device ways.Down) works e = refl
-step_alone packages m (steps.Verdict device verdict) works e = ap (judged m) (judges_alike m.device verdict works e)
+step_alone packages m (steps.Verdict device verdict) works e = ap (step_after_verdict m) (judges_alike m.device verdict works e)
 step_alone packages m (steps.Ask device ways.Down) works e = refl
 step_alone packages m (steps.Ask device ways.Up) works e = refl
 step_alone packages m s works e = refl
@@ -44,19 +44,19 @@ unfolding pair_after
 pair_alone packages m s works e = ap (option_map (closing packages)) (step_alone packages m s works e)
 
 -- a step of the world
-node_alone : (w : WorldOf) (s : MessageStep) (works : Bool) (n : Option NodeOf) → node_calls_bank s n ≡ false
+node_alone : (w : MessageWorldOf) (s : MessageStep) (works : Bool) (n : Option NodeOf) → node_calls_bank s n ≡ false
     → step_at w (device_of s) (pair_step works s) n ≡ step_at w (device_of s) (pair_step true s) n
 node_alone w s works None e = refl
 node_alone w s works (Some n) e = ap (option_map (went_on w (device_of s))) (pair_alone w.packages n.pair s works e)
 
-named_alone : (w : WorldOf) (s : MessageStep) (works restarts : Bool) → message_step_calls_bank w s ≡ false
-    → world_after w (if restarts then WorldStepOf.RestartAgent else WorldStepOf.OfPair (device_of s) (pair_step works s))
-    ≡ world_after w (if restarts then WorldStepOf.RestartAgent else WorldStepOf.OfPair (device_of s) (pair_step true s))
-unfolding world_after
+named_alone : (w : MessageWorldOf) (s : MessageStep) (works restarts : Bool) → message_step_calls_bank w s ≡ false
+    → message_world_after w (if restarts then WorldStepOf.RestartAgent else WorldStepOf.OfPair (device_of s) (pair_step works s))
+    ≡ message_world_after w (if restarts then WorldStepOf.RestartAgent else WorldStepOf.OfPair (device_of s) (pair_step true s))
+unfolding message_world_after
 named_alone w s works true e = refl
 named_alone w s works false e = node_alone w s works (node_at w.nodes (device_of s)) e
 
-world_alone : (w : WorldOf) (s : MessageStep) (works : Bool) → message_step_calls_bank w s ≡ false → world_after w (named_step w.agent works s) ≡ world_after w (named_step w.agent true s)
+world_alone : (w : MessageWorldOf) (s : MessageStep) (works : Bool) → message_step_calls_bank w s ≡ false → message_world_after w (named_step w.agent works s) ≡ message_world_after w (named_step w.agent true s)
 world_alone w s works e = named_alone w s works (restarts_agent w.agent s) e
 
 -- A step of which it is said whether its call works, as it is said where no bank is called: then it works.
@@ -65,9 +65,9 @@ said_so f r true called alone e = e
 said_so f r false true alone e = e
 said_so f r false false alone e = sym (alone refl) ∙ e
 
-pub works_if_uncalled : (w v : WorldOf) (s : MessageStep) (works : Bool) → world_after w (named_step w.agent works s) ≡ Some v
-    → world_after w (named_step w.agent (works || not (message_step_calls_bank w s)) s) ≡ Some v
-works_if_uncalled w v s works e = said_so (λ b. world_after w (named_step w.agent b s)) (Some v) works (message_step_calls_bank w s) (world_alone w s works) e
+pub works_if_uncalled : (w v : MessageWorldOf) (s : MessageStep) (works : Bool) → message_world_after w (named_step w.agent works s) ≡ Some v
+    → message_world_after w (named_step w.agent (works || not (message_step_calls_bank w s)) s) ≡ Some v
+works_if_uncalled w v s works e = said_so (λ b. message_world_after w (named_step w.agent b s)) (Some v) works (message_step_calls_bank w s) (world_alone w s works) e
 
 pub called_if_fails : (works called : Bool) → (works || not called) ≡ false → called ≡ true
 called_if_fails true called e = absurd (cc)

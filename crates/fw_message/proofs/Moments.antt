@@ -4,14 +4,14 @@ use Rattle.std.specs.Option.{option_map}
 use Rattle.std.proofs.Common.{refl, sym, ap, subst, ◌∙◌, append_assoc, append-nil}
 use Rattle.std.proofs.Math.Seq.{drop-append_seam}
 use Rattle.fw_package.specs.Package.{PackageText}
-use Rattle.fd_core.specs.Images.{Put}
-use Rattle.fw_message.specs.History.{EntryOf, recorded_in, replaced, running, running_after}
+use Rattle.fd_core.specs.Images.{KeyedImage}
+use Rattle.fw_message.specs.History.{EntryOf, recorded_in, image_or_replacement, running_image, running_after}
 use Rattle.fw_message.specs.Laws.{IsSafeAndTied}
 use Rattle.fw_message.specs.Pairs.{PairOf, StepOf, Stepped, pair_after}
-use Rattle.fw_message.specs.Replays.{CountedWorldOf, Run}
-use Rattle.fw_message.specs.RunLaws.{IsGrown, IsTiedBetween, IsTiedFrom, RunsGrow, RunsJoin, RunsStayTied, added}
-use Rattle.fw_message.specs.WorldLaws.{IsSafeWorld, WorldsAreSafe, history_of, run_of}
-use Rattle.fw_message.specs.Worlds.{NodeOf, NotedOf, WorldOf, WorldStepOf, agent_restarted, node_at, noted_of, step_at, went_on, with_pair, world_after, world_along}
+use Rattle.fw_message.specs.Replays.{CountedWorldOf, MessageRun}
+use Rattle.fw_message.specs.RunLaws.{GrowsMessageHistory, IsMessageWorldTiedBetween, IsPairTiedFrom, MessageRunsGrow, MessageRunsJoin, MessageRunsStayTied, message_entries_added}
+use Rattle.fw_message.specs.WorldLaws.{IsSafeMessageWorld, WorldsAreSafe, history_of, run_of}
+use Rattle.fw_message.specs.Worlds.{NodeOf, NotedOf, MessageWorldOf, WorldStepOf, agent_restarted, node_at, noted_of, step_at, went_on, with_pair, message_world_after, world_along}
 use Rattle.fw_message.specs.declared.step.MessageStep.{MessageStep}
 use Rattle.fw_message.proofs.Running.{Along, run_append, run_safe, taken_along}
 use Rattle.fw_message.proofs.Safety.Worlds.{history_more, restarted_node}
@@ -38,12 +38,12 @@ there_restarted : (ps : List PackageText) (ns : List NodeOf) (eid : ℕ) → is_
 there_restarted ps ns eid = ap is_some (restarted_node ps ns eid) ∙ there_mapped (agent_restarted ps) (node_at ns eid)
 
 -- a world and a later one
-pub record Later (w v : WorldOf) : Type 0 where
+pub record Later (w v : MessageWorldOf) : Type 0 where
   pub more : List NotedOf
   pub history : v.history ≡ w.history ++ more
   pub there : (eid : ℕ) → is_some (node_at v.nodes eid) ≡ is_some (node_at w.nodes eid)
 
-later_taken : (w : WorldOf) (device : ℕ) (o : Option Stepped) → IfSome (option_map (went_on w device) o) (Later w)
+later_taken : (w : MessageWorldOf) (device : ℕ) (o : Option Stepped) → IfSome (option_map (went_on w device) o) (Later w)
 later_taken w device None = tt
 later_taken w device (Some t) = record {
   more = map (noted_of device) t.noted;
@@ -51,12 +51,12 @@ later_taken w device (Some t) = record {
   there = λ eid. there_with w.nodes device eid t.after;
 }
 
-later_found : (w : WorldOf) (device : ℕ) (s : StepOf) (o : Option NodeOf) → IfSome (step_at w device s o) (Later w)
+later_found : (w : MessageWorldOf) (device : ℕ) (s : StepOf) (o : Option NodeOf) → IfSome (step_at w device s o) (Later w)
 later_found w device s None = tt
 later_found w device s (Some n) = later_taken w device (pair_after w.packages n.pair s)
 
-pub later_step : (w : WorldOf) (s : WorldStepOf) → IfSome (world_after w s) (Later w)
-unfolding world_after
+pub later_step : (w : MessageWorldOf) (s : WorldStepOf) → IfSome (message_world_after w s) (Later w)
+unfolding message_world_after
 later_step w (WorldStepOf.OfPair device s) = later_found w device s (node_at w.nodes device)
 later_step w WorldStepOf.RestartAgent = record {
   more = [];
@@ -64,7 +64,7 @@ later_step w WorldStepOf.RestartAgent = record {
   there = λ eid. there_restarted w.packages w.nodes eid;
 }
 
-later_on : (w v : WorldOf) (o : Option WorldOf) → Later w v → IfSome o (Later v) → IfSome o (Later w)
+later_on : (w v : MessageWorldOf) (o : Option MessageWorldOf) → Later w v → IfSome o (Later v) → IfSome o (Later w)
 later_on w v None g h = tt
 later_on w v (Some u) g h = record {
   more = g.more ++ h.more;
@@ -72,34 +72,34 @@ later_on w v (Some u) g h = record {
   there = λ eid. h.there eid ∙ g.there eid;
 }
 
-later_along : (w : WorldOf) (steps : List WorldStepOf) (o : Option WorldOf) → IfSome o (Later w) → IfSome (world_along o steps) (Later w)
+later_along : (w : MessageWorldOf) (steps : List WorldStepOf) (o : Option MessageWorldOf) → IfSome o (Later w) → IfSome (world_along o steps) (Later w)
 later_along w steps None h = tt
 later_along w [] (Some v) h = h
-later_along w (s ∷ steps) (Some v) h = later_along w steps (world_after v s) (later_on w v (world_after v s) h (later_step v s))
+later_along w (s ∷ steps) (Some v) h = later_along w steps (message_world_after v s) (later_on w v (message_world_after v s) h (later_step v s))
 
-pub run_later : (w v : CountedWorldOf) (ss : List MessageStep) → Run w ss v → Later w.world v.world
+pub run_later : (w v : CountedWorldOf) (ss : List MessageStep) → MessageRun w ss v → Later w.world v.world
 run_later w v ss h =
     let a : Along w v = taken_along w v ss h in
     let same : Later w.world w.world = record { more = []; history = sym (append-nil w.world.history); there = λ eid. refl } in
-    subst (λ (o : Option WorldOf). IfSome o (Later w.world)) a.along (later_along w.world a.steps (Some w.world) same)
+    subst (λ (o : Option MessageWorldOf). IfSome o (Later w.world)) a.along (later_along w.world a.steps (Some w.world) same)
 
-grown : (w v : WorldOf) → Later w v → IsGrown w v
+grown : (w v : MessageWorldOf) → Later w v → GrowsMessageHistory w v
 grown w v h =
-    let rest : added w v ≡ h.more = ap (λ xs. drop (length w.history) xs) h.history ∙ drop-append_seam w.history h.more in
+    let rest : message_entries_added w v ≡ h.more = ap (λ xs. drop (length w.history) xs) h.history ∙ drop-append_seam w.history h.more in
     h.history ∙ ap (λ xs. w.history ++ xs) (sym rest)
 
-pub runs_grow : RunsGrow
+pub runs_grow : MessageRunsGrow
 runs_grow old new steps h = grown old.world new.world (run_later old new steps h)
 
-pub runs_join : RunsJoin
+pub runs_join : MessageRunsJoin
 runs_join w v u ss ts h k = run_append w v u ss ts h k
 
 -- what runs and what is recorded, in two parts
-pub running_on : (runs : List Put) (es xs : List EntryOf) → running_after runs (es ++ xs) ≡ running_after (running_after runs es) xs
+pub running_on : (runs : List KeyedImage) (es xs : List EntryOf) → running_after runs (es ++ xs) ≡ running_after (running_after runs es) xs
 running_on runs [] xs = refl
 running_on runs (EntryOf.Applied p ∷ es) xs = running_on runs es xs
 running_on runs (EntryOf.Recording r ∷ es) xs = running_on runs es xs
-running_on runs (EntryOf.Activated p ∷ es) xs = running_on (map (replaced p) runs) es xs
+running_on runs (EntryOf.Activated p ∷ es) xs = running_on (map (image_or_replacement p) runs) es xs
 
 pub recorded_on : (es xs : List EntryOf) → recorded_in (es ++ xs) ≡ recorded_in es ++ recorded_in xs
 recorded_on [] xs = refl
@@ -108,15 +108,15 @@ recorded_on (EntryOf.Recording r ∷ es) xs = ap (λ rs. r ∷ rs) (recorded_on 
 recorded_on (EntryOf.Activated p ∷ es) xs = recorded_on es xs
 
 tied_from : (ps : List PackageText) (first n m : NodeOf) (es more : List EntryOf) → IsSafeAndTied ps (run_of first []) (run_of n es)
-    → IsSafeAndTied ps (run_of first []) (run_of m (es ++ more)) → IsTiedFrom n m more
+    → IsSafeAndTied ps (run_of first []) (run_of m (es ++ more)) → IsPairTiedFrom n m more
 tied_from ps first n m es more g h = record {
-  active = h.tied.active ∙ running_on (map running first.pair.device.rows) es more ∙ ap (λ rs. running_after rs more) (sym g.tied.active);
+  active = h.tied.active ∙ running_on (map running_image first.pair.device.rows) es more ∙ ap (λ rs. running_after rs more) (sym g.tied.active);
   records = h.tied.records ∙ recorded_on es more ∙ ap (λ rs. rs ++ recorded_in more) (sym g.tied.records);
 }
 
 -- the same of what a world has for an identifier
 tied_new : (ps : List PackageText) (first n : NodeOf) (o : Option NodeOf) (es more all : List EntryOf) → all ≡ es ++ more
-    → IsSafeAndTied ps (run_of first []) (run_of n es) → IsSomeAnd o (λ m. IsSafeAndTied ps (run_of first []) (run_of m all)) → IsSomeAnd o (λ m. IsTiedFrom n m more)
+    → IsSafeAndTied ps (run_of first []) (run_of n es) → IsSomeAnd o (λ m. IsSafeAndTied ps (run_of first []) (run_of m all)) → IsSomeAnd o (λ m. IsPairTiedFrom n m more)
 tied_new ps first n None es more all e g h = h
 tied_new ps first n (Some m) es more all e g h =
     let now : IsSafeAndTied ps (run_of first []) (run_of m (es ++ more)) = subst (λ (xs : List EntryOf). IsSafeAndTied ps (run_of first []) (run_of m xs)) e h in
@@ -125,19 +125,19 @@ tied_new ps first n (Some m) es more all e g h =
 tied_at : (ps : List PackageText) (f o p : Option NodeOf) (es more all : List EntryOf) → all ≡ es ++ more → is_some o ≡ is_some f
     → IfSome f (λ first. IsSomeAnd o (λ n. IsSafeAndTied ps (run_of first []) (run_of n es)))
     → IfSome f (λ first. IsSomeAnd p (λ m. IsSafeAndTied ps (run_of first []) (run_of m all)))
-    → IfSome o (λ n. IsSomeAnd p (λ m. IsTiedFrom n m more))
+    → IfSome o (λ n. IsSomeAnd p (λ m. IsPairTiedFrom n m more))
 tied_at ps f None p es more all e there g h = tt
 tied_at ps None (Some n) p es more all e there g h = absurd (cc)
 tied_at ps (Some first) (Some n) p es more all e there g h = tied_new ps first n p es more all e g h
 
-tied_between : (opening old new : WorldOf) → Later opening old → Later old new → IsSafeWorld opening old → IsSafeWorld opening new → IsTiedBetween old new
+tied_between : (opening old new : MessageWorldOf) → Later opening old → Later old new → IsSafeMessageWorld opening old → IsSafeMessageWorld opening new → IsMessageWorldTiedBetween old new
 tied_between opening old new before after g h eid =
-    let all : history_of eid new.history ≡ history_of eid old.history ++ history_of eid (added old new) =
-    ap (history_of eid) (grown old new after) ∙ history_more eid old.history (added old new) in
-    tied_at opening.packages (node_at opening.nodes eid) (node_at old.nodes eid) (node_at new.nodes eid) (history_of eid old.history) (history_of eid (added old new)) (history_of eid new.history)
+    let all : history_of eid new.history ≡ history_of eid old.history ++ history_of eid (message_entries_added old new) =
+    ap (history_of eid) (grown old new after) ∙ history_more eid old.history (message_entries_added old new) in
+    tied_at opening.packages (node_at opening.nodes eid) (node_at old.nodes eid) (node_at new.nodes eid) (history_of eid old.history) (history_of eid (message_entries_added old new)) (history_of eid new.history)
     all (before.there eid) (g eid) (h eid)
 
-pub runs_stay_tied : WorldsAreSafe → RunsStayTied
+pub runs_stay_tied : WorldsAreSafe → MessageRunsStayTied
 runs_stay_tied law opening old new before steps begins to_old to_new =
     tied_between opening.world old.world new.world (run_later opening old before to_old) (run_later old new steps to_new)
     (run_safe law opening old before begins to_old)

@@ -4,7 +4,7 @@ use Rattle.std.specs.Prelude.{is_some, option_map, slice_get}
 use Rattle.std.proofs.lemmas.Bool.Decides.{eqb_tells}
 use Rattle.fw_message.specs.Pairs.{PairOf, StepOf, Stepped, pair_after}
 use Rattle.fw_message.specs.Replays.{place_at, place_from}
-use Rattle.fw_message.specs.Worlds.{NodeOf, NotedOf, PairNoted, WorldOf, WorldStepOf, node_at, noted_of, noted_on, went_on, with_pair, world_after}
+use Rattle.fw_message.specs.Worlds.{NodeOf, NotedOf, PairNoted, MessageWorldOf, WorldStepOf, node_at, noted_of, noted_on, went_on, with_pair, message_world_after}
 use Rattle.fw_message.proofs.Allowing.{some_map}
 
 -- the first device of this identifier stands at this place
@@ -75,7 +75,7 @@ at_put [] eid place n m at e = absurd at
 at_put (k ∷ ns) eid zero n m at e = let same : k ≡ n = cc in rw (equal_self k.eid eid at, same) refl
 at_put (k ∷ ns) eid (suc place) n m at e = rw at.0 (ap (λ ms. k ∷ ms) (at_put ns eid place n m at.1 e))
 
-went : (w : WorldOf) (eid : ℕ) (n : NodeOf) (o : Option Stepped) (after : PairOf) (later : List NotedOf) → option_map (noted_on eid w.history) o ≡ Some (record { pair = after; history = later })
+went : (w : MessageWorldOf) (eid : ℕ) (n : NodeOf) (o : Option Stepped) (after : PairOf) (later : List NotedOf) → option_map (noted_on eid w.history) o ≡ Some (record { pair = after; history = later })
     → option_map (went_on w eid) o ≡ Some (record w { nodes = with_pair w.nodes eid after; history = later })
 went w eid n None after later e = absurd (cc)
 went w eid n (Some t) after later e =
@@ -85,21 +85,21 @@ went w eid n (Some t) after later e =
     rw (pair, all) refl
 
 -- a step of the device at a place is a step of the world
-pub world_step : (w : WorldOf) (eid place : ℕ) (s : StepOf) (n : NodeOf) (after : PairOf) (later : List NotedOf) → IsAt w.nodes eid place → slice_get w.nodes place ≡ Some n
+pub world_step : (w : MessageWorldOf) (eid place : ℕ) (s : StepOf) (n : NodeOf) (after : PairOf) (later : List NotedOf) → IsAt w.nodes eid place → slice_get w.nodes place ≡ Some n
     → option_map (noted_on n.eid w.history) (pair_after w.packages n.pair s) ≡ Some (record { pair = after; history = later })
-    → world_after w (WorldStepOf.OfPair eid s) ≡ Some (record w { nodes = set w.nodes place (record n { pair = after }); history = later })
-unfolding world_after
+    → message_world_after w (WorldStepOf.OfPair eid s) ≡ Some (record w { nodes = set w.nodes place (record n { pair = after }); history = later })
+unfolding message_world_after
 world_step w eid place s n after later at found e =
     let is : n.eid ≡ eid = at_eid w.nodes eid place n at found in
     rw (at_node w.nodes eid place n at found)
     (rw (sym (at_put w.nodes eid place n after at found)) (went w eid n (pair_after w.packages n.pair s) after later (rw is at e)))
 
-pub world_refuses : (w : WorldOf) (eid place : ℕ) (s : StepOf) (n : NodeOf) → IsAt w.nodes eid place → slice_get w.nodes place ≡ Some n → pair_after w.packages n.pair s ≡ None
-    → world_after w (WorldStepOf.OfPair eid s) ≡ None
-unfolding world_after
+pub world_refuses : (w : MessageWorldOf) (eid place : ℕ) (s : StepOf) (n : NodeOf) → IsAt w.nodes eid place → slice_get w.nodes place ≡ Some n → pair_after w.packages n.pair s ≡ None
+    → message_world_after w (WorldStepOf.OfPair eid s) ≡ None
+unfolding message_world_after
 world_refuses w eid place s n at found e = rw (at_node w.nodes eid place n at found, e) refl
 
-pub world_allows : (w : WorldOf) (eid place : ℕ) (s : StepOf) (n : NodeOf) → IsAt w.nodes eid place → slice_get w.nodes place ≡ Some n → is_some (pair_after w.packages n.pair s) ≡ true
-    → is_some (world_after w (WorldStepOf.OfPair eid s)) ≡ true
-unfolding world_after
+pub world_allows : (w : MessageWorldOf) (eid place : ℕ) (s : StepOf) (n : NodeOf) → IsAt w.nodes eid place → slice_get w.nodes place ≡ Some n → is_some (pair_after w.packages n.pair s) ≡ true
+    → is_some (message_world_after w (WorldStepOf.OfPair eid s)) ≡ true
+unfolding message_world_after
 world_allows w eid place s n at found e = rw (at_node w.nodes eid place n at found) (some_map (went_on w eid) (pair_after w.packages n.pair s) e)

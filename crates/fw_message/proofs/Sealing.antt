@@ -2,7 +2,7 @@
 use Rattle.std.proofs.Common.{◌≡◌, ◌∷◌, ◌||◌, ℕ, Bool, true, false, is_some, length, List, [], Some, ap, map, refl, sym}
 use Rattle.std.specs.Prelude.{option_map}
 use Rattle.fd_core.specs.Banks.{has_key}
-use Rattle.fd_core.specs.Images.{ImageOf, RowOf, applied_of, key_of, row_of, same_key, sealed, sealed_if}
+use Rattle.fd_core.specs.Images.{ImageOf, RowOf, applied_of, key_of, row_of, same_key, rows_after_seal, sealed_if}
 use Rattle.fd_core.specs.States.{DeviceState, IsWhole, Phase, staged_of}
 use Rattle.fd_core.specs.Steps.{applied_by, device_verdict, verdict_after, verdict_at, written_image}
 use Rattle.fd_core.specs.declared.states.Progress.TheVariants as progress
@@ -11,12 +11,12 @@ use Rattle.fwup_wire.specs.declared.values.Key.{Key}
 use Rattle.fd_core.specs.Components.{HasComponents, IsOneOf}
 
 sealed_row : (b : Bool) (row : RowOf) (rows : List RowOf) (key : Key) (image : ImageOf) → same_key row.key key ≡ b → (b || has_key (map key_of rows) key) ≡ true
-    → (has_key (map key_of rows) key ≡ true → applied_of (row_of (sealed rows key image) key) ≡ Some image)
-    → applied_of (row_of (sealed_if b row image ∷ sealed rows key image) key) ≡ Some image
+    → (has_key (map key_of rows) key ≡ true → applied_of (row_of (rows_after_seal rows key image) key) ≡ Some image)
+    → applied_of (row_of (sealed_if b row image ∷ rows_after_seal rows key image) key) ≡ Some image
 sealed_row true row rows key image same has rest = rw same refl
 sealed_row false row rows key image same has rest = rw same (rest has)
 
-pub sealed_applied : (rows : List RowOf) (key : Key) (image : ImageOf) → has_key (map key_of rows) key ≡ true → applied_of (row_of (sealed rows key image) key) ≡ Some image
+pub sealed_applied : (rows : List RowOf) (key : Key) (image : ImageOf) → has_key (map key_of rows) key ≡ true → applied_of (row_of (rows_after_seal rows key image) key) ≡ Some image
 sealed_applied [] key image has = absurd (cc)
 sealed_applied (row ∷ rows) key image has =
     sealed_row (same_key row.key key) row rows key image refl has (λ h. sealed_applied rows key image h)

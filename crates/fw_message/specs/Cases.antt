@@ -4,7 +4,7 @@ use Rattle.std.specs.Prelude.{ℕ, ◌∷◌, [], List, None, Option, Some, take
 use Rattle.fw_package.specs.Choice.{no_text}
 use Rattle.fw_package.specs.Package.{ComponentOf, DescriptorOf, PackageText, RecordOf}
 use Rattle.fwup_wire.specs.declared.values.Key.{Key}
-use Rattle.fd_core.specs.Images.{ImageOf, Put, RowOf}
+use Rattle.fd_core.specs.Images.{ImageOf, KeyedImage, RowOf}
 use Rattle.ua_core.specs.declared.planned.Recorded.{Recorded}
 use Rattle.fw_message.specs.History.{EntryOf, IsSafe, IsTied}
 
@@ -39,25 +39,25 @@ packages =
     ∷ record { header_size = 100; records = first_alone ∷ []; components = component fabric new_fabric ∷ [] }
     ∷ []
 
-abbrev pub put : Key → List ℕ → Put
-put key bytes = record { key = key; bytes = bytes }
+abbrev pub keyed_image : Key → List ℕ → KeyedImage
+keyed_image key bytes = record { key = key; bytes = bytes }
 
 -- this component, counted from 0, of this package, counted from 1
-abbrev pub recorded : ℕ → ℕ → Recorded
-recorded number component = record { «package» = number; component = component }
+abbrev pub recorded_component : ℕ → ℕ → Recorded
+recorded_component number component = record { «package» = number; component = component }
 
 abbrev pub applies : Key → List ℕ → EntryOf
-applies key bytes = EntryOf.Applied (put key bytes)
+applies key bytes = EntryOf.Applied (keyed_image key bytes)
 
 abbrev pub activates : Key → List ℕ → EntryOf
-activates key bytes = EntryOf.Activated (put key bytes)
+activates key bytes = EntryOf.Activated (keyed_image key bytes)
 
 abbrev pub records : ℕ → ℕ → EntryOf
-records number component = EntryOf.Recording (recorded number component)
+records number component = EntryOf.Recording (recorded_component number component)
 
 -- the worked update: the device applies the image, the agent records it, the device activates it
-abbrev pub worked : List EntryOf
-worked = applies boot new_boot ∷ records 1 0 ∷ activates boot new_boot ∷ []
+abbrev pub worked_update : List EntryOf
+worked_update = applies boot new_boot ∷ records 1 0 ∷ activates boot new_boot ∷ []
 
 abbrev pub is_safe : List EntryOf → Type 0
 is_safe es = IsSafe packages board es
@@ -92,23 +92,23 @@ is_tied rows made es = IsTied (bank old_boot None) rows made es
 -- the bank and the records at each moment of the worked update
 pub record TiedAccepts : Type 0 where
   pub at_first : is_tied (bank old_boot None) [] []
-  pub when_applied : is_tied (bank old_boot (Some (image new_boot))) [] (take 1 worked)
-  pub when_recorded : is_tied (bank old_boot (Some (image new_boot))) (recorded 1 0 ∷ []) (take 2 worked)
-  pub when_activated : is_tied (bank new_boot None) (recorded 1 0 ∷ []) worked
+  pub when_applied : is_tied (bank old_boot (Some (image new_boot))) [] (take 1 worked_update)
+  pub when_recorded : is_tied (bank old_boot (Some (image new_boot))) (recorded_component 1 0 ∷ []) (take 2 worked_update)
+  pub when_activated : is_tied (bank new_boot None) (recorded_component 1 0 ∷ []) worked_update
 
 -- What isn't tied: another image that runs than the one that was activated last, or none yet; an applied image of before the last
 -- activation, or other bytes than those that were applied; a record that wasn't made, and one that was and isn't there.
 pub record TiedRefuses : Type 0 where
-  pub old_runs : is_tied (bank old_boot None) (recorded 1 0 ∷ []) worked → ⊥
-  pub runs_too_soon : is_tied (bank new_boot None) (recorded 1 0 ∷ []) (take 2 worked) → ⊥
-  pub applied_before : is_tied (bank new_boot (Some (image new_boot))) (recorded 1 0 ∷ []) worked → ⊥
-  pub other_applied : is_tied (bank old_boot (Some (image (7 ∷ [])))) [] (take 1 worked) → ⊥
-  pub not_made : is_tied (bank old_boot (Some (image new_boot))) (recorded 1 0 ∷ []) (take 1 worked) → ⊥
-  pub not_there : is_tied (bank new_boot None) [] worked → ⊥
+  pub old_runs : is_tied (bank old_boot None) (recorded_component 1 0 ∷ []) worked_update → ⊥
+  pub runs_too_soon : is_tied (bank new_boot None) (recorded_component 1 0 ∷ []) (take 2 worked_update) → ⊥
+  pub applied_before : is_tied (bank new_boot (Some (image new_boot))) (recorded_component 1 0 ∷ []) worked_update → ⊥
+  pub other_applied : is_tied (bank old_boot (Some (image (7 ∷ [])))) [] (take 1 worked_update) → ⊥
+  pub not_made : is_tied (bank old_boot (Some (image new_boot))) (recorded_component 1 0 ∷ []) (take 1 worked_update) → ⊥
+  pub not_there : is_tied (bank new_boot None) [] worked_update → ⊥
 
 -- The definitions of a safe and of a tied history accept the worked update at each moment, and refuse the rest.
 pub record HistoriesAreJudged : Type 0 where
-  pub safe : (n : ℕ) → is_safe (take n worked)
+  pub safe : (n : ℕ) → is_safe (take n worked_update)
   pub unsafe : SafeRefuses
   pub tied : TiedAccepts
   pub untied : TiedRefuses

@@ -10,6 +10,6 @@ answer_kept c None = None
 answer_kept c (Some bytes) = answer_in (command_code c) bytes
 
 -- they are an answer
-abbrev pub IsKept : CommandOf → Option (List ℕ) → Type 0
-IsKept c None = Unit {0}
-IsKept c (Some bytes) = IsSome (answer_in (command_code c) bytes)
+abbrev pub IsAnswerBytes : CommandOf → Option (List ℕ) → Type 0
+IsAnswerBytes c None = Unit {0}
+IsAnswerBytes c (Some bytes) = IsSome (answer_in (command_code c) bytes)

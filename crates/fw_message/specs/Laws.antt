@@ -4,7 +4,7 @@ use Rattle.fw_package.specs.Package.{PackageText}
 use Rattle.fd_core.specs.Images.{RowOf}
 use Rattle.fd_core.specs.States.{Phase}
 use Rattle.ua_core.specs.Calls.{new_session}
-use Rattle.ua_core.specs.Lent.{told_descriptor}
+use Rattle.ua_core.specs.Lent.{package_descriptor}
 use Rattle.fw_message.specs.History.{IsSafe, IsTied}
 use Rattle.fw_message.specs.Pairs.{PairRun, StepOf, message_along}
 
@@ -24,7 +24,7 @@ pub record IsOpening (r : PairRun) : Type 0 where
 
 -- the history is safe, and tied with the images that ran first
 pub record IsSafeAndTied (packages : List PackageText) (opening r : PairRun) : Type 0 where
-  pub safe : IsSafe packages (map told_descriptor opening.pair.device.descriptors) r.entries
+  pub safe : IsSafe packages (map package_descriptor opening.pair.device.descriptors) r.entries
   pub tied : IsTied opening.pair.device.rows r.pair.device.rows r.pair.session.records r.entries
 
 -- Message safety: every run of messages keeps the history of a device safe and tied.

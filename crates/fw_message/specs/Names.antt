@@ -8,6 +8,6 @@ abbrev pub HasName : StepOf → Type 0
 HasName (StepOf.Restart sides.Agent) = ⊥
 HasName s = Unit {0}
 
-abbrev pub IsNamed : WorldStepOf → Type 0
-IsNamed (WorldStepOf.OfPair device s) = HasName s
-IsNamed WorldStepOf.RestartAgent = Unit {0}
+abbrev pub IsNamedStep : WorldStepOf → Type 0
+IsNamedStep (WorldStepOf.OfPair device s) = HasName s
+IsNamedStep WorldStepOf.RestartAgent = Unit {0}

@@ -1,13 +1,13 @@
 -- A device with its session as the world keeps them.
 use Rattle.std.specs.Prelude.{◌&&◌, ◌==◌, ℕ, Bool, false, is_some, not, true, List, [], Option, Some, None}
 use Rattle.fd_core.specs.Commands.{may_activate}
-use Rattle.fd_core.specs.Images.{Put, puts}
+use Rattle.fd_core.specs.Images.{KeyedImage, applied_keyed_images}
 use Rattle.fd_core.specs.States.{DeviceState}
 use Rattle.fd_core.specs.declared.states.Verdict.{Verdict}
 use Rattle.fd_core.specs.declared.states.Verdict.TheVariants as verdicts
 use Rattle.ua_core.specs.declared.state.SessionState.{SessionState}
 use Rattle.ua_core.specs.declared.state.SessionState.TheVariants as stands
-use Rattle.fw_message.specs.Pairs.{HeldOf, PairOf, is_empty}
+use Rattle.fw_message.specs.Pairs.{CellContentOf, PairOf, is_empty}
 use Rattle.fwup_wire.specs.Values.{AnswerOf, CommandOf}
 use Rattle.fwup_wire.specs.declared.values.Key.{Key}
 use Rattle.fw_message.specs.Worlds.{NodeOf}
@@ -37,7 +37,7 @@ IsQuiet (steps.Verdict device verdict) = ⊥
 IsQuiet s = Unit {0}
 
 -- a command waits to be taken
-abbrev pub waits : Option HeldOf → Bool
+abbrev pub waits : Option CellContentOf → Bool
 waits None = false
 waits (Some h) = not (is_some h.reply)
 
@@ -50,7 +50,7 @@ abbrev pub follows : DeviceState → CommandOf → Bool
 follows v (CommandOf.ActivateFirmware self_contained) = may_activate v
 follows v c = false
 
-abbrev pub follows_cell : DeviceState → Option HeldOf → Bool
+abbrev pub follows_cell : DeviceState → Option CellContentOf → Bool
 follows_cell v None = false
 follows_cell v (Some h) = follows v h.command
 
@@ -59,7 +59,7 @@ abbrev pub is_completion : CommandOf → SessionState → Bool
 is_completion (CommandOf.ApplyComplete result method) stands.Apply = result == 0
 is_completion c state = false
 
-abbrev pub completes : SessionState → Option HeldOf → Bool
+abbrev pub completes : SessionState → Option CellContentOf → Bool
 completes state None = false
 completes state (Some h) = is_completion h.command state
 
@@ -69,31 +69,31 @@ room_of verdicts.ApplyOk (Some staged) = staged.1
 room_of verdict staged = 0
 
 -- what ActivateFirmware activates, if it is taken
-abbrev pub put_by : DeviceState → CommandOf → List Put
-put_by v (CommandOf.ActivateFirmware self_contained) = puts v.rows
-put_by v c = []
+abbrev pub activated_images_by : DeviceState → CommandOf → List KeyedImage
+activated_images_by v (CommandOf.ActivateFirmware self_contained) = applied_keyed_images v.rows
+activated_images_by v c = []
 
-abbrev pub put_by_cell : DeviceState → Option HeldOf → List Put
-put_by_cell v None = []
-put_by_cell v (Some h) = put_by v h.command
+abbrev pub activated_images_by_cell : DeviceState → Option CellContentOf → List KeyedImage
+activated_images_by_cell v None = []
+activated_images_by_cell v (Some h) = activated_images_by v h.command
 
-abbrev pub to_activate : PairOf → List Put
-to_activate m = put_by_cell m.device m.down
+abbrev pub to_activate : PairOf → List KeyedImage
+to_activate m = activated_images_by_cell m.device m.down
 
 -- an answer that tells that images were activated
 abbrev pub activates : Option AnswerOf → Bool
 activates (Some (AnswerOf.ActivateFirmware time)) = true
 activates reply = false
 
-abbrev pub is_activation : Option HeldOf → Bool
+abbrev pub is_activation : Option CellContentOf → Bool
 is_activation None = false
 is_activation (Some h) = activates h.reply
 
 -- the cell of a way
-abbrev pub cell_of : PairOf → Way → Option HeldOf
+abbrev pub cell_of : PairOf → Way → Option CellContentOf
 cell_of m ways.Down = m.down
 cell_of m ways.Up = m.up
 
-abbrev pub cell_in : Option NodeOf → Way → Option HeldOf
+abbrev pub cell_in : Option NodeOf → Way → Option CellContentOf
 cell_in None way = None
 cell_in (Some n) way = cell_of n.pair way

@@ -2,16 +2,16 @@
 use Rattle.std.specs.Prelude.{ℕ, ◌≡◌, ◌==◌, ◌+◌, ◌||◌, is_some, Bool, true, false, if◌then◌else◌, List, [], ◌∷◌, get_or, set, Option, Some, None, IfSome}
 use Rattle.fw_package.specs.Package.{PackageText}
 use Rattle.fw_message.specs.Nodes.{CountedOf}
-use Rattle.fd_core.specs.Banks.{Rose}
+use Rattle.fd_core.specs.Banks.{CountsFailure}
 use Rattle.fw_message.specs.BankCalls.{message_step_calls_bank}
-use Rattle.fw_message.specs.Worlds.{NodeOf, WorldOf, agent_restarted, device_of, named_step, needs_memory, node_at, refusal_of, restarts_agent, stepped_at, world_after}
+use Rattle.fw_message.specs.Worlds.{NodeOf, MessageWorldOf, agent_restarted, device_of, named_step, needs_memory, node_at, refusal_of, restarts_agent, stepped_at, message_world_after}
 use Rattle.fw_message.specs.declared.step.MessageStep.{MessageStep}
 use Rattle.fw_message.specs.declared.step.MessageStepFault.{MessageStepFault}
 use Rattle.fw_message.specs.declared.step.MessageStepFault.TheVariants as faults
 
 -- a world, and how often the bank of each device failed
 pub record CountedWorldOf : Type 0 where
-  pub world : WorldOf
+  pub world : MessageWorldOf
   pub faults : List ℕ
 
 -- where the device of this identifier stands, counted from this number on
@@ -29,31 +29,31 @@ counted_restarted packages p = record { node = agent_restarted packages p.node; 
 -- the bank of the device of this identifier failed: its count rose, or stands at its last value, and no other changed
 abbrev pub BankFailed : CountedWorldOf → CountedWorldOf → ℕ → Type 0
 BankFailed w v eid = IfSome (place_at w.world.nodes eid)
-    (λ place. Rose (get_or w.faults place 0) (get_or v.faults place 0) × (v.faults ≡ set w.faults place (get_or v.faults place 0)))
+    (λ place. CountsFailure (get_or w.faults place 0) (get_or v.faults place 0) × (v.faults ≡ set w.faults place (get_or v.faults place 0)))
 
 -- A step leads from one world to another. Its call of a bank fails only where the step has its device call the bank, and only
 -- where the bank's count of failures tells so. All other counts stay; where the call works, or there is none, all do.
-pub record LeadsCounted (w : CountedWorldOf) (s : MessageStep) (v : CountedWorldOf) : Type 0 where
+pub record StepsToCounted (w : CountedWorldOf) (s : MessageStep) (v : CountedWorldOf) : Type 0 where
   pub works : Bool
-  pub after : world_after w.world (named_step w.world.agent works s) ≡ Some v.world
+  pub after : message_world_after w.world (named_step w.world.agent works s) ≡ Some v.world
   pub worked : works ≡ true → v.faults ≡ w.faults
   pub failed : works ≡ false → BankFailed w v (device_of s)
   pub called : works ≡ false → message_step_calls_bank w.world s ≡ true
 
 -- each step leads on from where the one before it led
-abbrev pub Run : CountedWorldOf → List MessageStep → CountedWorldOf → Type 0
-Run w [] v = v ≡ w
-Run w (s ∷ ss) v = (mid : CountedWorldOf) × LeadsCounted w s mid × Run mid ss v
+abbrev pub MessageRun : CountedWorldOf → List MessageStep → CountedWorldOf → Type 0
+MessageRun w [] v = v ≡ w
+MessageRun w (s ∷ ss) v = (mid : CountedWorldOf) × StepsToCounted w s mid × MessageRun mid ss v
 
 -- whether the world has the node of a step
-abbrev pub HasNode : WorldOf → MessageStep → Type 0
+abbrev pub HasNode : MessageWorldOf → MessageStep → Type 0
 HasNode w s = (restarts_agent w.agent s || is_some (node_at w.nodes (device_of s))) ≡ true
 
 -- Why a step isn't taken: there is no such node; or there is and the step isn't allowed, whether the bank works or not; or
 -- it is allowed, and memory that it needs is refused.
-abbrev pub Refuses : WorldOf → MessageStep → MessageStepFault → Type 0
-Refuses w s faults.NoSuchNode = (restarts_agent w.agent s ≡ false) × (node_at w.nodes (device_of s) ≡ None)
-Refuses w s faults.Memory =
+abbrev pub RefusesMessageStep : MessageWorldOf → MessageStep → MessageStepFault → Type 0
+RefusesMessageStep w s faults.NoSuchNode = (restarts_agent w.agent s ≡ false) × (node_at w.nodes (device_of s) ≡ None)
+RefusesMessageStep w s faults.Memory =
     (needs_memory s (stepped_at w.packages s (node_at w.nodes (device_of s))) ≡ true) × HasNode w s
-    × ((works : Bool) → is_some (world_after w (named_step w.agent works s)) ≡ true)
-Refuses w s fault = (fault ≡ refusal_of s) × HasNode w s × ((works : Bool) → world_after w (named_step w.agent works s) ≡ None)
+    × ((works : Bool) → is_some (message_world_after w (named_step w.agent works s)) ≡ true)
+RefusesMessageStep w s fault = (fault ≡ refusal_of s) × HasNode w s × ((works : Bool) → message_world_after w (named_step w.agent works s) ≡ None)

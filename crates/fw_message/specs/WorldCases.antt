@@ -7,11 +7,11 @@ use Rattle.fd_core.specs.declared.states.Progress.TheVariants as progress
 use Rattle.fd_core.specs.declared.states.Verdict.TheVariants as verdicts
 use Rattle.ua_core.specs.declared.planned.Recorded.{Recorded}
 use Rattle.fw_message.specs.BankCalls.{message_step_calls_bank}
-use Rattle.fw_message.specs.Cases.{activates, bank, boot, image, new_boot, old_boot, packages, recorded, records, worked}
+use Rattle.fw_message.specs.Cases.{activates, bank, boot, image, new_boot, old_boot, packages, recorded_component, records, worked_update}
 use Rattle.fw_message.specs.History.{EntryOf}
-use Rattle.fw_message.specs.Pairs.{PairOf, Stepped, quietly}
-use Rattle.fw_message.specs.RunLaws.{IsTiedBetween}
-use Rattle.fw_message.specs.Worlds.{NodeOf, NotedOf, WorldOf, needs_memory, noted_of}
+use Rattle.fw_message.specs.Pairs.{PairOf, Stepped, step_without_entries}
+use Rattle.fw_message.specs.RunLaws.{IsMessageWorldTiedBetween}
+use Rattle.fw_message.specs.Worlds.{NodeOf, NotedOf, MessageWorldOf, needs_memory, noted_of}
 use Rattle.fw_message.specs.declared.side.Way.TheVariants as ways
 use Rattle.fw_message.specs.declared.step.MessageStep.{MessageStep}
 use Rattle.fw_message.specs.declared.step.MessageStep.TheVariants as steps
@@ -26,45 +26,45 @@ pair_with m rows made = record m { device = record m.device { rows = rows }; ses
 abbrev pub board_node : PairOf → List RowOf → List Recorded → NodeOf
 board_node m rows made = record { eid = 9; pair = pair_with m rows made }
 
-abbrev pub world_with : List NodeOf → List NotedOf → WorldOf
+abbrev pub world_with : List NodeOf → List NotedOf → MessageWorldOf
 world_with nodes history = record { agent = 8; packages = packages; nodes = nodes; history = history }
 
-abbrev pub world_of : PairOf → List RowOf → List Recorded → List NotedOf → WorldOf
+abbrev pub world_of : PairOf → List RowOf → List Recorded → List NotedOf → MessageWorldOf
 world_of m rows made history = world_with (board_node m rows made ∷ []) history
 
 -- the worlds of the worked update: before it, before its activation, and after it
-abbrev pub before_update : PairOf → WorldOf
+abbrev pub before_update : PairOf → MessageWorldOf
 before_update m = world_of m (bank old_boot None) [] []
 
-abbrev pub before_activation : PairOf → WorldOf
+abbrev pub before_activation : PairOf → MessageWorldOf
 before_activation m =
-    world_of m (bank old_boot (Some (image new_boot))) (recorded 1 0 ∷ []) (map (noted_of 9) (take 2 worked))
+    world_of m (bank old_boot (Some (image new_boot))) (recorded_component 1 0 ∷ []) (map (noted_of 9) (take 2 worked_update))
 
-abbrev pub after_update : PairOf → WorldOf
-after_update m = world_of m (bank new_boot None) (recorded 1 0 ∷ []) (map (noted_of 9) worked)
+abbrev pub after_update : PairOf → MessageWorldOf
+after_update m = world_of m (bank new_boot None) (recorded_component 1 0 ∷ []) (map (noted_of 9) worked_update)
 
 -- any two of these are tied, in order, and each with itself
 pub record TiedMoments : Type 0 where
-  pub whole : (m : PairOf) → IsTiedBetween (before_update m) (after_update m)
-  pub first : (m : PairOf) → IsTiedBetween (before_update m) (before_activation m)
-  pub rest : (m : PairOf) → IsTiedBetween (before_activation m) (after_update m)
-  pub same : (m : PairOf) → IsTiedBetween (after_update m) (after_update m)
+  pub whole : (m : PairOf) → IsMessageWorldTiedBetween (before_update m) (after_update m)
+  pub first : (m : PairOf) → IsMessageWorldTiedBetween (before_update m) (before_activation m)
+  pub rest : (m : PairOf) → IsMessageWorldTiedBetween (before_activation m) (after_update m)
+  pub same : (m : PairOf) → IsMessageWorldTiedBetween (after_update m) (after_update m)
 
 -- What isn't tied: the old image that still runs, an image that runs and wasn't activated since, a record that is missing, one
 -- that wasn't made since, an activation of another device, and a device that is gone.
 pub record UntiedMoments : Type 0 where
   pub old_runs : (m : PairOf) →
-      IsTiedBetween (before_update m) (world_of m (bank old_boot None) (recorded 1 0 ∷ []) (map (noted_of 9) worked)) → ⊥
+      IsMessageWorldTiedBetween (before_update m) (world_of m (bank old_boot None) (recorded_component 1 0 ∷ []) (map (noted_of 9) worked_update)) → ⊥
   pub runs_too_soon : (m : PairOf) →
-      IsTiedBetween (before_update m) (world_of m (bank new_boot None) (recorded 1 0 ∷ []) (map (noted_of 9) (take 2 worked))) → ⊥
+      IsMessageWorldTiedBetween (before_update m) (world_of m (bank new_boot None) (recorded_component 1 0 ∷ []) (map (noted_of 9) (take 2 worked_update))) → ⊥
   pub not_there : (m : PairOf) →
-      IsTiedBetween (before_update m) (world_of m (bank new_boot None) [] (map (noted_of 9) worked)) → ⊥
+      IsMessageWorldTiedBetween (before_update m) (world_of m (bank new_boot None) [] (map (noted_of 9) worked_update)) → ⊥
   pub not_made : (m : PairOf) →
-      IsTiedBetween (after_update m)
-      (world_of m (bank new_boot None) (recorded 1 0 ∷ recorded 1 0 ∷ []) (map (noted_of 9) worked)) → ⊥
+      IsMessageWorldTiedBetween (after_update m)
+      (world_of m (bank new_boot None) (recorded_component 1 0 ∷ recorded_component 1 0 ∷ []) (map (noted_of 9) worked_update)) → ⊥
   pub of_another : (m : PairOf) →
-      IsTiedBetween (before_update m) (world_of m (bank new_boot None) [] (noted_of 10 (activates boot new_boot) ∷ [])) → ⊥
-  pub gone : (m : PairOf) → IsTiedBetween (before_update m) (world_with [] []) → ⊥
+      IsMessageWorldTiedBetween (before_update m) (world_of m (bank new_boot None) [] (noted_of 10 (activates boot new_boot) ∷ [])) → ⊥
+  pub gone : (m : PairOf) → IsMessageWorldTiedBetween (before_update m) (world_with [] []) → ⊥
 
 -- WHAT NEEDS MEMORY
 
@@ -79,14 +79,14 @@ pub record NeedsMemory : Type 0 where
   pub recording : (m : PairOf) → needs_memory (steps.Take 9 ways.Up false) (adding m (records 1 0 ∷ [])) ≡ true
 
 pub record NeedsNoMemory : Type 0 where
-  pub take : (m : PairOf) → needs_memory (steps.Take 9 ways.Down true) (Some (quietly m)) ≡ false
+  pub take : (m : PairOf) → needs_memory (steps.Take 9 ways.Down true) (Some (step_without_entries m)) ≡ false
   pub untaken : needs_memory (steps.Take 9 ways.Down true) None ≡ false
-  pub cancel : (m : PairOf) → needs_memory (steps.Cancel 9) (Some (quietly m)) ≡ false
+  pub cancel : (m : PairOf) → needs_memory (steps.Cancel 9) (Some (step_without_entries m)) ≡ false
 
 -- WHICH STEP CALLS A BANK
 
 -- a world whose device is in this state, with this in its bank, and what the agent asked of it
-abbrev pub world_in : PairOf → Phase → List RowOf → CommandOf → WorldOf
+abbrev pub world_in : PairOf → Phase → List RowOf → CommandOf → MessageWorldOf
 world_in m phase rows command =
     world_with (record {
       eid = 9;

@@ -6,7 +6,7 @@ use Rattle.ua_core.specs.Calls.{new_session}
 use Rattle.fw_message.specs.History.{EntryOf}
 use Rattle.fw_message.specs.Laws.{IsOpening, IsSafeAndTied}
 use Rattle.fw_message.specs.Pairs.{PairRun}
-use Rattle.fw_message.specs.Worlds.{NodeOf, NotedOf, WorldOf, WorldStepOf, node_at, world_along}
+use Rattle.fw_message.specs.Worlds.{NodeOf, NotedOf, MessageWorldOf, WorldStepOf, node_at, world_along}
 
 -- what happened to one device, in order
 abbrev pub history_of : ℕ → List NotedOf → List EntryOf
@@ -21,7 +21,7 @@ abbrev pub IsOpeningNode : NodeOf → Type 0
 IsOpeningNode n = IsOpening (run_of n [])
 
 -- how a world begins: each device with its session begins, and nothing happened
-pub record IsOpeningWorld (w : WorldOf) : Type 0 where
+pub record IsOpeningMessageWorld (w : MessageWorldOf) : Type 0 where
   pub nodes : All IsOpeningNode w.nodes
   pub history : w.history ≡ []
 
@@ -34,16 +34,16 @@ new_node eid device =
     }
 
 -- each device that was there is there, and its history is safe, and tied with the images that ran on it first
-abbrev pub IsSafeWorld : WorldOf → WorldOf → Type 0
-IsSafeWorld opening w = (eid : ℕ) → IfSome (node_at opening.nodes eid)
+abbrev pub IsSafeMessageWorld : MessageWorldOf → MessageWorldOf → Type 0
+IsSafeMessageWorld opening w = (eid : ℕ) → IfSome (node_at opening.nodes eid)
     (λ n. IsSomeAnd (node_at w.nodes eid) (λ m. IsSafeAndTied opening.packages (run_of n []) (run_of m (history_of eid w.history))))
 
 -- Message safety: every run of messages keeps the history of each device safe and tied.
 abbrev pub WorldsAreSafe : Type 0
-WorldsAreSafe = (opening : WorldOf) (steps : List WorldStepOf) → IsOpeningWorld opening
-    → IfSome (world_along (Some opening) steps) (IsSafeWorld opening)
+WorldsAreSafe = (opening : MessageWorldOf) (steps : List WorldStepOf) → IsOpeningMessageWorld opening
+    → IfSome (world_along (Some opening) steps) (IsSafeMessageWorld opening)
 
 -- And so does each run that goes on where one ended.
 abbrev pub WorldsStaySafe : Type 0
-WorldsStaySafe = (opening old new : WorldOf) (before steps : List WorldStepOf) → IsOpeningWorld opening
-    → world_along (Some opening) before ≡ Some old → world_along (Some old) steps ≡ Some new → IsSafeWorld opening new
+WorldsStaySafe = (opening old new : MessageWorldOf) (before steps : List WorldStepOf) → IsOpeningMessageWorld opening
+    → world_along (Some opening) before ≡ Some old → world_along (Some old) steps ≡ Some new → IsSafeMessageWorld opening new

@@ -3,7 +3,7 @@ use Rattle.std.specs.Prelude.{ℕ, ◌≡◌, ◌⊎◌, ◌==◌, Bool, true, f
 use Rattle.std.specs.Option.{option_map}
 use Rattle.fw_package.specs.Package.{PackageText}
 use Rattle.fw_message.specs.History.{EntryOf}
-use Rattle.fw_message.specs.Pairs.{PairOf, StepOf, Stepped, adds, pair_after}
+use Rattle.fw_message.specs.Pairs.{PairOf, StepOf, Stepped, adds_entries, pair_after}
 use Rattle.fw_message.specs.declared.side.Side.TheVariants as sides
 use Rattle.fw_message.specs.declared.side.Way.TheVariants as ways
 use Rattle.fw_message.specs.declared.step.MessageStep.{MessageStep}
@@ -21,7 +21,7 @@ pub record NotedOf : Type 0 where
   pub device : ℕ
   pub entry : EntryOf
 
-pub record WorldOf : Type 0 where
+pub record MessageWorldOf : Type 0 where
   pub agent : ℕ
   pub packages : List PackageText
   pub nodes : List NodeOf
@@ -57,13 +57,13 @@ pub record PairNoted : Type 0 where
 abbrev pub noted_on : ℕ → List NotedOf → Stepped → PairNoted
 noted_on device history t = record { pair = t.after; history = history ++ map (noted_of device) t.noted }
 
-abbrev pub went_on : WorldOf → ℕ → Stepped → WorldOf
+abbrev pub went_on : MessageWorldOf → ℕ → Stepped → MessageWorldOf
 went_on w device t = record w {
   nodes = with_pair w.nodes device t.after;
   history = w.history ++ map (noted_of device) t.noted;
 }
 
-abbrev pub step_at : WorldOf → ℕ → StepOf → Option NodeOf → Option WorldOf
+abbrev pub step_at : MessageWorldOf → ℕ → StepOf → Option NodeOf → Option MessageWorldOf
 step_at w device s None = None
 step_at w device s (Some n) = option_map (went_on w device) (pair_after w.packages n.pair s)
 
@@ -78,15 +78,15 @@ agent_restarted packages n =
     record n { pair = after_or n.pair (pair_after packages n.pair (StepOf.Restart sides.Agent)) }
 
 -- A step of the world, if it may be taken.
-unfoldable pub world_after : WorldOf → WorldStepOf → Option WorldOf
-world_after w (WorldStepOf.OfPair device s) = step_at w device s (node_at w.nodes device)
-world_after w WorldStepOf.RestartAgent = Some (record w { nodes = map (agent_restarted w.packages) w.nodes })
+unfoldable pub message_world_after : MessageWorldOf → WorldStepOf → Option MessageWorldOf
+message_world_after w (WorldStepOf.OfPair device s) = step_at w device s (node_at w.nodes device)
+message_world_after w WorldStepOf.RestartAgent = Some (record w { nodes = map (agent_restarted w.packages) w.nodes })
 
 -- A run of the world: each step is taken where the one before it led.
-abbrev pub world_along : Option WorldOf → List WorldStepOf → Option WorldOf
+abbrev pub world_along : Option MessageWorldOf → List WorldStepOf → Option MessageWorldOf
 world_along None steps = None
 world_along (Some w) [] = Some w
-world_along (Some w) (s ∷ steps) = world_along (world_after w s) steps
+world_along (Some w) (s ∷ steps) = world_along (message_world_after w s) steps
 
 -- The device of a step. A restart names a node, which may be the agent.
 abbrev pub device_of : MessageStep → ℕ
@@ -143,11 +143,11 @@ refusal_of s = faults.NotNow
 -- and a step that adds to the history, for what it adds.
 abbrev pub needs_memory : MessageStep → Option Stepped → Bool
 needs_memory (steps.Start device number) stepped = true
-needs_memory s stepped = adds stepped
+needs_memory s stepped = adds_entries stepped
 
 -- Why a device's step isn't taken, by what it makes of the pair: it isn't allowed, whether the bank works or not; or it is,
 -- and memory that it needs is refused.
-abbrev pub IsRefusal : MessageStep → MessageStepFault → (Bool → Option Stepped) → Type 0
-IsRefusal s e after =
+abbrev pub IsPairRefusal : MessageStep → MessageStepFault → (Bool → Option Stepped) → Type 0
+IsPairRefusal s e after =
     ((e ≡ faults.Memory) × (needs_memory s (after true) ≡ true) × ((works : Bool) → is_some (after works) ≡ true))
     ⊎ ((e ≡ refusal_of s) × ((works : Bool) → after works ≡ None))

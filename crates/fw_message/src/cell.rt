@@ -4,7 +4,7 @@ ghost use Rattle.std.specs.Prelude.{◌≡◌, IsSome, None, Some, false, is_som
 ghost use Rattle.fwup_wire.specs.Answers.{answer_in};
 ghost use Rattle.fwup_wire.specs.Commands.{command_code};
 ghost use Rattle.fwup_wire.specs.Lent.{answer_of, command_of};
-ghost use Rattle.fw_message.specs.Pairs.{asked, closed_unless, fresh_cell};
+ghost use Rattle.fw_message.specs.Pairs.{cell_after_ask, closed_unless, fresh_cell};
 
 use fwup_wire::{Answer, Command, read_answer};
 use pldm_base::Reply;
@@ -12,19 +12,19 @@ use std::marker::Model;
 
 /// A command that was asked, its answer once it was taken, and whether its asker still waits for it.
 #[derive(Drop)]
-pub struct Held<'a> {
+pub struct CellContent<'a> {
     command: Command<'a>,
     reply: Option<Reply>,
     live: bool,
 }
 
-impl<'a> Model for Held<'a> {
+impl<'a> Model for CellContent<'a> {
     ghost use Rattle.std.specs.Prelude.{option_map};
-    ghost use Rattle.fw_message.specs.Cells.{IsKept, answer_kept};
-    ghost use Rattle.fw_message.specs.Pairs.{HeldOf};
+    ghost use Rattle.fw_message.specs.Cells.{IsAnswerBytes, answer_kept};
+    ghost use Rattle.fw_message.specs.Pairs.{CellContentOf};
     ghost use Rattle.fwup_wire.specs.Lent.{command_of};
 
-    ghost Value = { HeldOf };
+    ghost Value = { CellContentOf };
 
     ghost view = { λ h. record {
       command = command_of h.command;
@@ -32,15 +32,15 @@ impl<'a> Model for Held<'a> {
       live = h.live;
     } };
 
-    ghost invariant = { λ h. IsKept (command_of h.command) (option_map (λ r. r.items) h.reply) };
+    ghost invariant = { λ h. IsAnswerBytes (command_of h.command) (option_map (λ r. r.items) h.reply) };
 }
 
-impl<'a> Held<'a> {
+impl<'a> CellContent<'a> {
     /// A command that was asked just now.
-    pub(crate) fn new(command: Command<'a>) -> Held<'a>
+    pub(crate) fn new(command: Command<'a>) -> CellContent<'a>
         ensures { result ≡ fresh_cell (command_of command.entry) }
     {
-        Held {
+        CellContent {
             command,
             reply: None,
             live: true,

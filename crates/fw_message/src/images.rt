@@ -1,12 +1,12 @@
 //! The images that a device has applied, before it activates them.
 
 ghost use Rattle.std.specs.Prelude.{◌≡◌, ◌≤◌, OnOk, IfOk, length, map};
-ghost use Rattle.fd_core.specs.Images.{put_among, rises};
-ghost use Rattle.fw_message.specs.Entries.{applied_puts, place_in, put_of};
+ghost use Rattle.fd_core.specs.Images.{images_with, is_key_before};
+ghost use Rattle.fw_message.specs.Entries.{applied_images_among, place_in, keyed_image_of};
 
 use crate::entry::Image;
 use crate::lending::image_of;
-use fd_core::{Bank, Component, Key};
+use fd_core::{Bank, BankComponent, Key};
 use fw_package::Package;
 use std::alloc::{AllocError, Global};
 
@@ -15,9 +15,9 @@ pub fn applied_images<'a, B: Bank>(
     alloc: Global,
     packages: &'a [Package<'a>],
     bank: &B,
-    components: &[Component],
+    components: &[BankComponent],
 ) -> Result<Vec<Image<'a>>, AllocError>
-    ensures { IfOk result (λ images. map put_of images.items ≡ applied_puts (B.rows bank.now) components.now) }
+    ensures { IfOk result (λ images. map keyed_image_of images.items ≡ applied_images_among (B.rows bank.now) components.now) }
 {
     let [component, rest @ ..] = components else {
         return Ok(Vec::new(alloc));
@@ -34,7 +34,7 @@ pub fn applied_images<'a, B: Bank>(
 /// Puts an image among others, by rising key.
 #[tactic(auto, using(crate::proofs::Rising::put_in_place))]
 fn put_in<'a>(images: &mut Vec<Image<'a>>, image: Image<'a>) -> Result<(), AllocError>
-    ensures { OnOk result (map put_of images.new.items ≡ put_among (put_of image.entry) (map put_of images.old.items)) }
+    ensures { OnOk result (map keyed_image_of images.new.items ≡ images_with (keyed_image_of image.entry) (map keyed_image_of images.old.items)) }
 {
     let place = place_for(images, image.key);
     let Ok(()) = images.insert(place, image) else {
@@ -45,7 +45,7 @@ fn put_in<'a>(images: &mut Vec<Image<'a>>, image: Image<'a>) -> Result<(), Alloc
 
 /// How many images stand before one with this key.
 fn place_for(images: &[Image<'_>], key: Key) -> usize
-    ensures place { result ≡ place_in (map put_of images.now) key }
+    ensures place { result ≡ place_in (map keyed_image_of images.now) key }
     ensures within { result ≤ length images.now }
 {
     for (place, image) in images.iter().enumerate() {
@@ -58,7 +58,7 @@ fn place_for(images: &[Image<'_>], key: Key) -> usize
 
 /// Whether one key stands before another.
 fn rises(a: Key, b: Key) -> bool
-    ensures { result ≡ rises a b }
+    ensures { result ≡ is_key_before a b }
 {
     if a.classification == b.classification {
         a.identifier < b.identifier

@@ -2,7 +2,7 @@
 
 ghost use Rattle.fw_message.specs.Cases.{HistoriesAreJudged};
 ghost use Rattle.fw_message.specs.Laws.{MessagesAreSafe};
-ghost use Rattle.fw_message.specs.RunLaws.{RunsGrow, RunsJoin, RunsStayTied};
+ghost use Rattle.fw_message.specs.RunLaws.{MessageRunsGrow, MessageRunsJoin, MessageRunsStayTied};
 ghost use Rattle.fw_message.specs.WorldCases.{MessageWorldsAreJudged};
 ghost use Rattle.fw_message.specs.WorldLaws.{WorldsAreSafe, WorldsStaySafe};
 
@@ -31,9 +31,9 @@ pub fn worlds_are_safe()
 /// What holds of any two moments of a run: a run followed by a run is a run, the history only grows, and what runs on a device
 /// and what the agent recorded of it at the later moment are those of the earlier one, with what happened since.
 pub fn runs_stay_tied()
-    ensures join { RunsJoin }
-    ensures grow { RunsGrow }
-    ensures tied { RunsStayTied }
+    ensures join { MessageRunsJoin }
+    ensures grow { MessageRunsGrow }
+    ensures tied { MessageRunsStayTied }
 {
     worlds_are_safe();
 }

@@ -1,7 +1,7 @@
 //! Images for the history: lent by a package that has the same bytes, and else copied.
 
 ghost use Rattle.std.specs.Prelude.{[], ◌≡◌, ◌≤◌, ◌∷◌, IfOk, IfSome, is_some, length, map, option_to_list, vec_capacity};
-ghost use Rattle.fw_message.specs.Entries.{put_of};
+ghost use Rattle.fw_message.specs.Entries.{keyed_image_of};
 ghost use Rattle.fw_message.specs.Lending.{is_it, is_lent, is_lent_by};
 ghost use Rattle.fw_package.specs.Lent.{component_seen};
 
@@ -18,7 +18,7 @@ pub(crate) fn image_of<'a>(
     key: Key,
     bytes: &[u8],
 ) -> Result<Image<'a>, AllocError>
-    ensures { IfOk result (λ image. put_of image ≡ record { key = key; bytes = bytes.now }) }
+    ensures { IfOk result (λ image. keyed_image_of image ≡ record { key = key; bytes = bytes.now }) }
 {
     if let Some(lent) = lent(packages, key, bytes) {
         return Ok(lent);
@@ -36,7 +36,7 @@ pub(crate) fn image_in<'a>(
     room: Vec<u8>,
 ) -> Option<Image<'a>>
     requires { room.items ≡ [] }
-    ensures { length bytes.now ≤ vec_capacity room → map put_of (option_to_list result) ≡ record { key = key; bytes = bytes.now } ∷ [] }
+    ensures { length bytes.now ≤ vec_capacity room → map keyed_image_of (option_to_list result) ≡ record { key = key; bytes = bytes.now } ∷ [] }
 {
     if let Some(lent) = lent(packages, key, bytes) {
         return Some(lent);
@@ -51,7 +51,7 @@ pub(crate) fn image_in<'a>(
 
 /// The image of a component with these bytes, where one of the packages has it.
 fn lent<'a>(packages: &'a [Package<'a>], key: Key, bytes: &[u8]) -> Option<Image<'a>>
-    ensures same { IfSome result (λ image. put_of image ≡ record { key = key; bytes = bytes.now }) }
+    ensures same { IfSome result (λ image. keyed_image_of image ≡ record { key = key; bytes = bytes.now }) }
     ensures found { is_some result ≡ is_lent packages.now key bytes.now }
 {
     for package in packages {

@@ -14,8 +14,8 @@ mod side;
 mod step;
 mod verdicts;
 
-pub use cell::Held;
-pub use entry::{Entry, Event, Image};
+pub use cell::CellContent;
+pub use entry::{Entry, HistoryEvent, Image};
 pub use images::applied_images;
 pub use laws::{
     histories_are_judged, message_worlds_are_judged, messages_are_safe, runs_stay_tied,

@@ -5,11 +5,11 @@ ghost use Rattle.fw_message.specs.BankCalls.{message_step_calls_bank};
 ghost use Rattle.fw_message.specs.Entries.{entry_of};
 ghost use Rattle.fw_message.specs.Nodes.{cell_in};
 ghost use Rattle.fd_core.specs.Components.{HasComponents};
-ghost use Rattle.fw_message.specs.Replays.{BankFailed, Refuses, counted_restarted, place_at};
-ghost use Rattle.fw_message.specs.WorldLaws.{IsOpeningWorld, new_node};
-ghost use Rattle.fw_message.specs.Worlds.{device_of, named_step, node_at, world_after};
+ghost use Rattle.fw_message.specs.Replays.{BankFailed, RefusesMessageStep, counted_restarted, place_at};
+ghost use Rattle.fw_message.specs.WorldLaws.{IsOpeningMessageWorld, new_node};
+ghost use Rattle.fw_message.specs.Worlds.{device_of, named_step, node_at, message_world_after};
 
-use crate::cell::Held;
+use crate::cell::CellContent;
 use crate::entry::Entry;
 use crate::pair::Pair;
 use crate::side::Way;
@@ -62,7 +62,7 @@ impl<'a, B: Bank + Drop> MessageWorld<'a, B> {
     pub fn new(alloc: Global, agent: u8, packages: &'a [Package<'a>]) -> MessageWorld<'a, B>
         ensures world { result.world ≡ record { agent = agent; packages = packages.now; nodes = []; history = [] } }
         ensures faults { result.faults ≡ [] }
-        ensures opens { IsOpeningWorld result.world }
+        ensures opens { IsOpeningMessageWorld result.world }
     {
         MessageWorld {
             alloc,
@@ -84,7 +84,7 @@ impl<'a, B: Bank + Drop> MessageWorld<'a, B> {
         requires fresh { node_at self.old.world.nodes eid ≡ None }
         ensures nodes { OnOk result (self.new.world ≡ record self.old.world { nodes = self.old.world.nodes ++ new_node eid device.device ∷ [] }) }
         ensures faults { OnOk result (self.new.faults ≡ self.old.faults ++ device.faults ∷ []) }
-        ensures opens { OnOk result (IsOpeningWorld self.old.world → IsOpeningWorld self.new.world) }
+        ensures opens { OnOk result (IsOpeningMessageWorld self.old.world → IsOpeningMessageWorld self.new.world) }
         ensures same { OnErr result (self.new ≡ self.old) }
         ensures memory { IfErr result (λ e. e ≡ MessageStepFault.Memory) }
     {
@@ -121,7 +121,7 @@ impl<'a, B: Bank + Drop> MessageWorld<'a, B> {
 
     /// What the cell of a way of a device holds: the command that was asked, its answer once it was taken, and whether its
     /// asker waits for it. None where the cell is empty, or there is no such device.
-    pub fn cell(&self, eid: u8, way: Way) -> Option<&Held<'a>>
+    pub fn cell(&self, eid: u8, way: Way) -> Option<&CellContent<'a>>
         ensures { option_map (λ h. h.now) result ≡ cell_in (node_at self.now.world.nodes eid) way }
     {
         let pair = pair_of(&self.pairs, eid)?;
@@ -140,11 +140,11 @@ impl<'a, B: Bank + Drop> MessageWorld<'a, B> {
     /// # Errors
     /// As `message_replay`. Nothing has changed then.
     pub(crate) fn step(&mut self, step: MessageStep) -> Result<bool, MessageStepFault>
-        ensures step { IfOk result (λ works. world_after self.old.world (named_step self.old.world.agent works step) ≡ Some self.new.world) }
+        ensures step { IfOk result (λ works. message_world_after self.old.world (named_step self.old.world.agent works step) ≡ Some self.new.world) }
         ensures worked { result ≡ Ok true → self.new.faults ≡ self.old.faults }
         ensures failed { result ≡ Ok false → BankFailed self.old self.new (device_of step) }
         ensures called { result ≡ Ok false → message_step_calls_bank self.old.world step ≡ true }
-        ensures refused { IfErr result (λ e. Refuses self.old.world step e) }
+        ensures refused { IfErr result (λ e. RefusesMessageStep self.old.world step e) }
         ensures same { OnErr result (self.new ≡ self.old) }
     {
         if step.restarts(self.agent) {

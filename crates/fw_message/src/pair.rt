@@ -5,7 +5,7 @@ ghost use Rattle.fw_message.specs.Nodes.{cell_of};
 ghost use Rattle.fd_core.specs.Components.{HasComponents};
 ghost use Rattle.fw_message.specs.WorldLaws.{new_node};
 
-use crate::cell::Held;
+use crate::cell::CellContent;
 use crate::side::Way;
 use fd_core::{Bank, Device};
 use fw_package::Package;
@@ -32,9 +32,9 @@ pub struct Pair<'a, B: Bank> {
     /// The agent's session for it.
     session: Session,
     /// What the agent asked the device, with its answer where it was taken; none between exchanges.
-    down: Option<Held<'a>>,
+    down: Option<CellContent<'a>>,
     /// What the device asked the agent, likewise.
-    up: Option<Held<'a>>,
+    up: Option<CellContent<'a>>,
 }
 
 impl<'a, B: Bank> Model for Pair<'a, B> {
@@ -90,7 +90,7 @@ impl<'a, B: Bank> Pair<'a, B> {
     }
 
     /// What the cell of a way holds.
-    pub fn cell(&self, way: Way) -> Option<&Held<'a>>
+    pub fn cell(&self, way: Way) -> Option<&CellContent<'a>>
         ensures { option_map (λ h. h.now) result ≡ cell_of self.now.node.pair way }
     {
         match way {

@@ -1,9 +1,9 @@
 //! Replays of steps over whole messages.
 
 ghost use Rattle.std.specs.Prelude.{◌≡◌, ◌<◌, IfErr, IfSome, List, OnOk, length, slice_get, take};
-ghost use Rattle.fw_message.specs.Replays.{CountedWorldOf, Refuses, Run};
-ghost use Rattle.fw_message.specs.RunLaws.{IsGrown, IsTiedBetween};
-ghost use Rattle.fw_message.specs.WorldLaws.{IsOpeningWorld, IsSafeWorld};
+ghost use Rattle.fw_message.specs.Replays.{CountedWorldOf, RefusesMessageStep, MessageRun};
+ghost use Rattle.fw_message.specs.RunLaws.{GrowsMessageHistory, IsMessageWorldTiedBetween};
+ghost use Rattle.fw_message.specs.WorldLaws.{IsOpeningMessageWorld, IsSafeMessageWorld};
 ghost use Rattle.fw_message.specs.declared.step.MessageStep.{MessageStep};
 
 use crate::laws::{runs_stay_tied, worlds_are_safe};
@@ -23,11 +23,11 @@ pub fn message_replay<B: Bank + Drop>(
     world: &mut MessageWorld<'_, B>,
     steps: &[MessageStep],
 ) -> Result<(), (usize, MessageStepFault)>
-    ensures ok { OnOk result (Run world.old steps.now world.new) }
-    ensures stopped { IfErr result (λ e. (e.0 < length steps.now) × Run world.old (take e.0 steps.now) world.new × IfSome (slice_get steps.now e.0) (λ s. Refuses world.new.world s e.1)) }
-    ensures grown { IsGrown world.old.world world.new.world }
-    ensures tied { (opening : CountedWorldOf) (before : List MessageStep) → IsOpeningWorld opening.world → Run opening before world.old → IsTiedBetween world.old.world world.new.world }
-    ensures safe { (opening : CountedWorldOf) (before : List MessageStep) → IsOpeningWorld opening.world → Run opening before world.old → IsSafeWorld opening.world world.new.world }
+    ensures ok { OnOk result (MessageRun world.old steps.now world.new) }
+    ensures stopped { IfErr result (λ e. (e.0 < length steps.now) × MessageRun world.old (take e.0 steps.now) world.new × IfSome (slice_get steps.now e.0) (λ s. RefusesMessageStep world.new.world s e.1)) }
+    ensures grown { GrowsMessageHistory world.old.world world.new.world }
+    ensures tied { (opening : CountedWorldOf) (before : List MessageStep) → IsOpeningMessageWorld opening.world → MessageRun opening before world.old → IsMessageWorldTiedBetween world.old.world world.new.world }
+    ensures safe { (opening : CountedWorldOf) (before : List MessageStep) → IsOpeningMessageWorld opening.world → MessageRun opening before world.old → IsSafeMessageWorld opening.world world.new.world }
 {
     worlds_are_safe();
     runs_stay_tied();

@@ -5,7 +5,7 @@ ghost use Rattle.fd_core.specs.Images.{applied_of, row_of};
 ghost use Rattle.fd_core.specs.States.{staged_of};
 ghost use Rattle.fd_core.specs.Steps.{device_verdict};
 ghost use Rattle.fd_core.specs.Wishes.{has_failed};
-ghost use Rattle.fw_message.specs.Entries.{put_of};
+ghost use Rattle.fw_message.specs.Entries.{keyed_image_of};
 ghost use Rattle.fw_message.specs.Nodes.{room_of};
 
 use crate::entry::Image;
@@ -58,7 +58,7 @@ pub fn copied<'a, B: Bank>(
 ) -> Option<Image<'a>>
     requires { room.items ≡ [] }
     ensures whole { IfSome (applied_of (row_of (B.rows bank.now) key)) (λ image. length image.bytes ≤ vec_capacity room
-        → map put_of (option_to_list result) ≡ record { key = key; bytes = image.bytes } ∷ []) }
+        → map keyed_image_of (option_to_list result) ≡ record { key = key; bytes = image.bytes } ∷ []) }
     ensures none { applied_of (row_of (B.rows bank.now) key) ≡ None → result ≡ None }
 {
     let (_, image) = bank.applied(key)?;

@@ -8,12 +8,12 @@ use Rattle.pldm_exch.specs.Caller.{caller_tick}
 use Rattle.fw_package.specs.Package.{PackageText}
 use Rattle.sel_core.specs.Log.{LogOf, sel_restart}
 use Rattle.ua_core.specs.Session.{TimedOf}
-use Rattle.fw_node.specs.Agents.{AgentOf, IsAddressed, again_packets, agent_restarts, agent_tick_sends, agent_ticks, ended, ended_packets, grown, notes, waited}
+use Rattle.fw_node.specs.Agents.{AgentOf, IsAddressed, again_packets, agent_restarts, agent_tick_sends, agent_ticks, session_half_after, ended_packets, session_half_aged, log_after_part, session_half_idle}
 use Rattle.fw_node.specs.AgentViews.{agent_of, half_in, half_restarted}
 use Rattle.fw_node.specs.BothEnds.{EndsOf}
 use Rattle.fw_node.specs.Cores.{session_core}
 use Rattle.fw_node.specs.Halves.{HalfOf, half_grows, half_restarts, half_ticks, half_waits}
-use Rattle.fw_node.specs.Notes.{noted}
+use Rattle.fw_node.specs.Notes.{log_with_event}
 use Rattle.fw_node.specs.Packets.{all_packets, sent_by}
 use Rattle.fw_node.proofs.NodeTicks.{hearing_tick, packets_behind}
 use Rattle.fw_node.specs.declared.identity.Identity.{Identity}
@@ -21,32 +21,32 @@ use Rattle.fw_node.specs.declared.half.Half.{Half}
 
 -- the log after one half more
 notes_append : (part : HalfOf TimedOf → HalfOf TimedOf) (now : ℕ) (log : LogOf) (hs : List (HalfOf TimedOf)) (h : HalfOf TimedOf)
-    → notes part now log (hs ++ h ∷ []) ≡ noted (notes part now log hs) now h.peer h.core (part h).core
+    → log_after_part part now log (hs ++ h ∷ []) ≡ log_with_event (log_after_part part now log hs) now h.peer h.core (part h).core
 notes_append part now log [] h = refl
-notes_append part now log (g ∷ gs) h = notes_append part now (noted log now g.peer g.core (part g).core) gs h
+notes_append part now log (g ∷ gs) h = notes_append part now (log_with_event log now g.peer g.core (part g).core) gs h
 
 pub notes_more : (part : HalfOf TimedOf → HalfOf TimedOf) (now : ℕ) (log before after : LogOf) (hs : List (HalfOf TimedOf)) (i : ℕ) (h : HalfOf TimedOf) → i < length hs
-    → h ≡ get_or hs i h → before ≡ notes part now log (take i hs) → after ≡ noted before now h.peer h.core (part h).core → after ≡ notes part now log (take (i + 1) hs)
+    → h ≡ get_or hs i h → before ≡ log_after_part part now log (take i hs) → after ≡ log_with_event before now h.peer h.core (part h).core → after ≡ log_after_part part now log (take (i + 1) hs)
 notes_more part now log before after hs i h lt is was e =
-    e ∙ ap (λ l. noted l now h.peer h.core (part h).core) was
+    e ∙ ap (λ l. log_with_event l now h.peer h.core (part h).core) was
     ∙ sym (notes_append part now log (take i hs) h)
-    ∙ ap (λ x. notes part now log (take i hs ++ x ∷ [])) is
-    ∙ ap (notes part now log) (sym (take_more hs i h lt))
+    ∙ ap (λ x. log_after_part part now log (take i hs ++ x ∷ [])) is
+    ∙ ap (log_after_part part now log) (sym (take_more hs i h lt))
 
 -- what grows older doesn't depend on how long the agent was deaf
-pub grown_any : (packages : List PackageText) (a b : ℕ) (ps : List (Half TimedOf)) → map (grown packages) (map (half_in a) ps) ≡ map (grown packages) (map (half_in b) ps)
+pub grown_any : (packages : List PackageText) (a b : ℕ) (ps : List (Half TimedOf)) → map (session_half_aged packages) (map (half_in a) ps) ≡ map (session_half_aged packages) (map (half_in b) ps)
 grown_any packages a b [] = refl
-grown_any packages a b (p ∷ ps) = ap (λ hs. grown packages (half_in a p) ∷ hs) (grown_any packages a b ps)
+grown_any packages a b (p ∷ ps) = ap (λ hs. session_half_aged packages (half_in a p) ∷ hs) (grown_any packages a b ps)
 
 pub again_any : (a b : ℕ) (ps : List (Half TimedOf)) → flat_map again_packets (map (half_in a) ps) ≡ flat_map again_packets (map (half_in b) ps)
 again_any a b [] = refl
 again_any a b (p ∷ ps) = ap (λ xs. again_packets (half_in a p) ++ xs) (again_any a b ps)
 
 pub notes_any : (packages : List PackageText) (now a b : ℕ) (log : LogOf) (ps : List (Half TimedOf))
-    → notes (grown packages) now log (map (half_in a) ps) ≡ notes (grown packages) now log (map (half_in b) ps)
+    → log_after_part (session_half_aged packages) now log (map (half_in a) ps) ≡ log_after_part (session_half_aged packages) now log (map (half_in b) ps)
 notes_any packages now a b log [] = refl
 notes_any packages now a b log (p ∷ ps) =
-    notes_any packages now a b (noted log now p.ends.asking.peer p.core (grown packages (half_in a p)).core) ps
+    notes_any packages now a b (log_with_event log now p.ends.asking.peer p.core (session_half_aged packages (half_in a p)).core) ps
 
 -- a deaf agent counts the tick alone
 deaf_half : (packages : List PackageText) (deaf : ℕ) (p : Half TimedOf) → 1 < deaf → half_in (deaf - 1) p ≡ (half_ticks (session_core packages) true (half_in deaf p)).half
@@ -86,33 +86,33 @@ deaf_ticks packages now deaf d l ps more =
 
 -- a tick of an agent that hears, by what each loop leaves
 pub hearing_ticks : (packages : List PackageText) (now deaf : ℕ) (d : Identity) (l log last : LogOf) (ps qs rs : List (Half TimedOf)) → deaf ≤ 1
-    → map (half_in 0) qs ≡ map (grown packages) (map (half_in 0) ps) → map (half_in 0) rs ≡ map (ended packages) (map (half_in 0) qs)
-    → log ≡ notes (grown packages) now l (map (half_in 0) ps) → last ≡ notes (waited packages) now log (map (half_in 0) qs)
+    → map (half_in 0) qs ≡ map (session_half_aged packages) (map (half_in 0) ps) → map (half_in 0) rs ≡ map (session_half_after packages) (map (half_in 0) qs)
+    → log ≡ log_after_part (session_half_aged packages) now l (map (half_in 0) ps) → last ≡ log_after_part (session_half_idle packages) now log (map (half_in 0) qs)
     → ◌≡◌ {A = AgentOf} (record { endpoint = d.endpoint; tid = d.tid; deaf = 0; halves = map (half_in 0) rs; log = last }) (agent_ticks packages now (agent_of deaf d l ps))
 hearing_ticks packages now deaf d l log last ps qs rs few grows ends first second =
-    let all : map (half_in 0) qs ≡ map (grown packages) (map (half_in deaf) ps) = grows ∙ grown_any packages 0 deaf ps in
-    let noted_first : log ≡ notes (grown packages) now l (map (half_in deaf) ps) = first ∙ notes_any packages now 0 deaf l ps in
+    let all : map (half_in 0) qs ≡ map (session_half_aged packages) (map (half_in deaf) ps) = grows ∙ grown_any packages 0 deaf ps in
+    let noted_first : log ≡ log_after_part (session_half_aged packages) now l (map (half_in deaf) ps) = first ∙ notes_any packages now 0 deaf l ps in
     rw (le-leb deaf 1 few, ends, second, all, noted_first) refl
 
 pub hearing_sends : (packages : List PackageText) (deaf : ℕ) (d : Identity) (l : LogOf) (sent last : List (List ℕ)) (ps qs : List (Half TimedOf)) → deaf ≤ 1
-    → map (half_in 0) qs ≡ map (grown packages) (map (half_in 0) ps)
+    → map (half_in 0) qs ≡ map (session_half_aged packages) (map (half_in 0) ps)
     → sent ≡ [] ++ flat_map again_packets (map (half_in 0) ps) → last ≡ sent ++ flat_map (ended_packets packages) (map (half_in 0) qs)
     → last ≡ agent_tick_sends packages (agent_of deaf d l ps)
 hearing_sends packages deaf d l sent last ps qs few grows first second =
-    let all : map (half_in 0) qs ≡ map (grown packages) (map (half_in deaf) ps) = grows ∙ grown_any packages 0 deaf ps in
+    let all : map (half_in 0) qs ≡ map (session_half_aged packages) (map (half_in deaf) ps) = grows ∙ grown_any packages 0 deaf ps in
     let again : sent ≡ flat_map again_packets (map (half_in deaf) ps) = first ∙ again_any 0 deaf ps in
     rw (le-leb deaf 1 few, second, all, again) refl
 
 -- The parts of a tick, one after the other, are the tick of each half.
 ticked_half : (packages : List PackageText) (deaf : ℕ) (p : Half TimedOf) → deaf ≤ 1
-    → ended packages (grown packages (half_in deaf p)) ≡ (half_ticks (session_core packages) true (half_in deaf p)).half
+    → session_half_after packages (session_half_aged packages (half_in deaf p)) ≡ (half_ticks (session_core packages) true (half_in deaf p)).half
 ticked_half packages deaf p few = ap (λ t. t.half) (sym (hearing_tick (session_core packages) (half_in deaf p) few few))
 
 ticked_halves : (packages : List PackageText) (deaf : ℕ) (ps : List (Half TimedOf)) → deaf ≤ 1
-    → map (ended packages) (map (grown packages) (map (half_in deaf) ps)) ≡ map (λ h. (half_ticks (session_core packages) true h).half) (map (half_in deaf) ps)
+    → map (session_half_after packages) (map (session_half_aged packages) (map (half_in deaf) ps)) ≡ map (λ h. (half_ticks (session_core packages) true h).half) (map (half_in deaf) ps)
 ticked_halves packages deaf [] few = refl
 ticked_halves packages deaf (p ∷ ps) few =
-    ap (λ h. h ∷ map (ended packages) (map (grown packages) (map (half_in deaf) ps))) (ticked_half packages deaf p few)
+    ap (λ h. h ∷ map (session_half_after packages) (map (session_half_aged packages) (map (half_in deaf) ps))) (ticked_half packages deaf p few)
     ∙ ap (λ hs. (half_ticks (session_core packages) true (half_in deaf p)).half ∷ hs) (ticked_halves packages deaf ps few)
 
 pub ticks_halves : (packages : List PackageText) (now deaf : ℕ) (d : Identity) (l : LogOf) (ps : List (Half TimedOf))
@@ -123,7 +123,7 @@ ticks_halves packages now deaf d l ps = elim (cases_lt 1 deaf) [
 ]
 
 pub ticked_sent : (packages : List PackageText) (deaf : ℕ) (p : Half TimedOf) → deaf ≤ 1
-    → all_packets p.ends.asking.unit (half_ticks (session_core packages) true (half_in deaf p)).sent ≡ again_packets (half_in deaf p) ++ ended_packets packages (grown packages (half_in deaf p))
+    → all_packets p.ends.asking.unit (half_ticks (session_core packages) true (half_in deaf p)).sent ≡ again_packets (half_in deaf p) ++ ended_packets packages (session_half_aged packages (half_in deaf p))
 ticked_sent packages deaf p few =
     ap (λ t. all_packets p.ends.asking.unit t.sent) (hearing_tick (session_core packages) (half_in deaf p) few few)
     ∙ packets_behind p.ends.asking.unit (sent_by (caller_tick p.ends.asking.caller).1) (half_waits (session_core packages) (half_grows (session_core packages) (half_in deaf p))).sent

@@ -6,10 +6,10 @@ use Rattle.std.proofs.lemmas.Option.{slice_get-map}
 use Rattle.fw_package.specs.Package.{PackageText}
 use Rattle.sel_core.specs.Log.{LogOf}
 use Rattle.ua_core.specs.Session.{SessionOf, TimedOf}
-use Rattle.fw_node.specs.Agents.{AgentOf, activates, agent_becomes, becomes_at, free_for, free_in, half_at, half_for, place_of, ready_for, ready_in}
+use Rattle.fw_node.specs.Agents.{AgentOf, half_after_activate, agent_becomes, becomes_at, free_for, free_in, half_at, half_for, place_of, ready_for, ready_in}
 use Rattle.fw_node.specs.AgentViews.{agent_of, half_activated, half_free, half_in, half_noted, half_put, half_ready, halves_called, halves_noted}
 use Rattle.fw_node.specs.Halves.{HalfOf}
-use Rattle.fw_node.specs.Notes.{noted}
+use Rattle.fw_node.specs.Notes.{log_with_event}
 use Rattle.fw_node.specs.declared.identity.Identity.{Identity}
 use Rattle.fw_node.proofs.Places.{place_any}
 use Rattle.fw_node.specs.declared.half.Half.{Half}
@@ -36,8 +36,8 @@ put_there : (deaf now place : ℕ) (d : Identity) (l : LogOf) (ps : List (Half T
     (becomes_at (agent_of deaf d l ps) now step (Some place) (option_map (half_in deaf) o))
 put_there deaf now place d l ps call step None same = refl
 put_there deaf now place d l ps call step (Some p) same =
-    ap (λ hs. record { endpoint = d.endpoint; tid = d.tid; deaf = deaf; halves = hs; log = noted l now p.ends.asking.peer p.core (call p).core }) (map-set (half_in deaf) ps place (call p))
-    ∙ ap (λ h. record { endpoint = d.endpoint; tid = d.tid; deaf = deaf; halves = slice_set (map (half_in deaf) ps) place h; log = noted l now p.ends.asking.peer p.core h.core }) (same p)
+    ap (λ hs. record { endpoint = d.endpoint; tid = d.tid; deaf = deaf; halves = hs; log = log_with_event l now p.ends.asking.peer p.core (call p).core }) (map-set (half_in deaf) ps place (call p))
+    ∙ ap (λ h. record { endpoint = d.endpoint; tid = d.tid; deaf = deaf; halves = slice_set (map (half_in deaf) ps) place h; log = log_with_event l now p.ends.asking.peer p.core h.core }) (same p)
 
 called_there : (deaf now eid place : ℕ) (d : Identity) (l : LogOf) (ps : List (Half TimedOf)) (call : Half TimedOf → Half TimedOf) (step : HalfOf TimedOf → HalfOf TimedOf)
     → Some place ≡ place_of (map (half_in 0) ps) eid
@@ -90,20 +90,20 @@ activated_there : (packages : List PackageText) (deaf now eid place : ℕ) (d : 
     → Some place ≡ place_of (map (half_in 0) ps) eid
     → option_map (λ s. halves_called ps place (half_activated packages s)) o ≡ Some qs
     → option_map (λ s. halves_noted l now ps place (half_activated packages s)) o ≡ Some log
-    → option_map {U = AgentOf} (λ s. agent_becomes (agent_of deaf d l ps) now eid (λ h. activates packages h s)) o
+    → option_map {U = AgentOf} (λ s. agent_becomes (agent_of deaf d l ps) now eid (λ h. half_after_activate packages h s)) o
     ≡ Some (record { endpoint = d.endpoint; tid = d.tid; deaf = deaf; halves = map (half_in deaf) qs; log = log })
 activated_there packages deaf now eid place d l log ps qs None is parts notes = absurd (cc)
 activated_there packages deaf now eid place d l log ps qs (Some s) is parts notes =
     let new : qs ≡ halves_called ps place (half_activated packages s) = cc in
     let written : log ≡ halves_noted l now ps place (half_activated packages s) = cc in
-    ap (λ n. Some n) (sym (calls_place deaf now eid place d l log ps qs (half_activated packages s) (λ h. activates packages h s) is (λ p. refl) new written))
+    ap (λ n. Some n) (sym (calls_place deaf now eid place d l log ps qs (half_activated packages s) (λ h. half_after_activate packages h s) is (λ p. refl) new written))
 
 pub activates_place : (packages : List PackageText) (deaf now eid place : ℕ) (d : Identity) (l log : LogOf) (ps qs : List (Half TimedOf))
     → Some place ≡ place_of (map (half_in 0) ps) eid
     → option_map (λ s. halves_called ps place (half_activated packages s)) (half_ready (slice_get ps place)) ≡ Some qs
     → option_map (λ s. halves_noted l now ps place (half_activated packages s)) (half_ready (slice_get ps place)) ≡ Some log
-    → option_map {U = AgentOf} (λ s. agent_becomes (agent_of deaf d l ps) now eid (λ h. activates packages h s)) (ready_for (agent_of deaf d l ps) eid)
+    → option_map {U = AgentOf} (λ s. agent_becomes (agent_of deaf d l ps) now eid (λ h. half_after_activate packages h s)) (ready_for (agent_of deaf d l ps) eid)
     ≡ Some (record { endpoint = d.endpoint; tid = d.tid; deaf = deaf; halves = map (half_in deaf) qs; log = log })
 activates_place packages deaf now eid place d l log ps qs is parts notes =
-    ap (option_map {U = AgentOf} (λ s. agent_becomes (agent_of deaf d l ps) now eid (λ h. activates packages h s))) (ready_there deaf eid place d l ps is)
+    ap (option_map {U = AgentOf} (λ s. agent_becomes (agent_of deaf d l ps) now eid (λ h. half_after_activate packages h s))) (ready_there deaf eid place d l ps is)
     ∙ activated_there packages deaf now eid place d l log ps qs (half_ready (slice_get ps place)) is parts notes

@@ -10,7 +10,7 @@ use Rattle.pldm_exch.specs.Ends.{AnsweringOf, taker_of}
 use Rattle.pldm_exch.specs.Sides.{AskerRow, TakerRow, answering_row, asking_after, asking_row, taker_packet, taker_row}
 use Rattle.fw_node.specs.BankCalls.{incoming_calls_bank, packet_calls_bank}
 use Rattle.fw_node.specs.BothEnds.{EndsOf}
-use Rattle.fw_node.specs.Halves.{CoreOf, HalfOf, IncomingOf, answering_after, half_brings, half_hears, half_hears_by, incoming, read_by, takes_if, takes_read}
+use Rattle.fw_node.specs.Halves.{CoreOf, HalfOf, IncomingOf, answering_after, half_on_incoming, half_on_packet, half_on_rows, incoming, read_by, takes_if, takes_read}
 use Rattle.mctp_wire.specs.declared.unit.Unit.{«Unit»}
 use Rattle.fw_node.specs.Nodes.{half_of}
 
@@ -30,7 +30,7 @@ takes_alike true core works h requests m head body = read_alike core (is_quiet h
 takes_alike false core works h requests m head body = refl
 
 rows_bring : {C : Type 0} (core : CoreOf C) (works : Bool) (deaf : ℕ) (c : C) (e : EndsOf) (asker : AskerRow) (taker : TakerRow)
-    → half_hears_by core works (half_of deaf c e) asker taker ≡ half_brings core works (half_of deaf c (ends_after e asker taker)) (incoming asker taker)
+    → half_on_rows core works (half_of deaf c e) asker taker ≡ half_on_incoming core works (half_of deaf c (ends_after e asker taker)) (incoming asker taker)
 rows_bring core works deaf c e (AskerRow.Learns replies caller heard) taker = refl
 rows_bring core works deaf c e (AskerRow.Ignores replies) (TakerRow.Silent requests) = refl
 rows_bring core works deaf c e (AskerRow.Ignores replies) (TakerRow.Repeats requests answer) = refl
@@ -46,10 +46,10 @@ taker_is u own peer t bytes v o p =
 
 -- a half that hears
 pub hearing_brings : {C : Type 0} (core : CoreOf C) (works : Bool) (c : C) (e : EndsOf) (bytes : List ℕ) → e.answering.unit ≡ e.asking.unit → e.answering.own ≡ e.asking.own → e.answering.peer ≡ e.asking.peer
-    → half_hears core works (half_of 0 c e) bytes
-    ≡ half_brings core works (half_of 0 c (ends_after e (asking_row e.asking bytes) (answering_row e.answering bytes))) (incoming (asking_row e.asking bytes) (answering_row e.answering bytes))
+    → half_on_packet core works (half_of 0 c e) bytes
+    ≡ half_on_incoming core works (half_of 0 c (ends_after e (asking_row e.asking bytes) (answering_row e.answering bytes))) (incoming (asking_row e.asking bytes) (answering_row e.answering bytes))
 hearing_brings core works c e bytes unit own peer =
-    ap (half_hears_by core works (half_of 0 c e) (asking_row e.asking bytes)) (taker_is e.asking.unit e.asking.own e.asking.peer e.answering bytes unit own peer)
+    ap (half_on_rows core works (half_of 0 c e) (asking_row e.asking bytes)) (taker_is e.asking.unit e.asking.own e.asking.peer e.answering bytes unit own peer)
     ∙ rows_bring core works 0 c e (asking_row e.asking bytes) (answering_row e.answering bytes)
 
 -- the same, by what its ends say
@@ -58,14 +58,14 @@ pub hears_brings : {C : Type 0} (core : CoreOf C) (works : Bool) (c : C) (e new 
     → i ≡ incoming (asking_row e.asking bytes) (answering_row e.answering bytes)
     → new.asking ≡ asking_after e.asking (asking_row e.asking bytes)
     → new.answering ≡ answering_after (asking_row e.asking bytes) e.answering (answering_row e.answering bytes)
-    → half_hears core works (half_of 0 c e) bytes ≡ half_brings core works (half_of 0 c new) i
+    → half_on_packet core works (half_of 0 c e) bytes ≡ half_on_incoming core works (half_of 0 c new) i
 hears_brings core works c e new bytes i unit own peer brings asking answering =
     let arow = asking_row e.asking bytes in
     let trow = answering_row e.answering bytes in
     hearing_brings core works c e bytes unit own peer
-    ∙ ap (λ x. half_brings core works (half_of 0 c (record { asking = x; answering = answering_after arow e.answering trow })) (incoming arow trow)) (sym asking)
-    ∙ ap (λ y. half_brings core works (half_of 0 c (record { asking = new.asking; answering = y })) (incoming arow trow)) (sym answering)
-    ∙ ap (half_brings core works (half_of 0 c new)) (sym brings)
+    ∙ ap (λ x. half_on_incoming core works (half_of 0 c (record { asking = x; answering = answering_after arow e.answering trow })) (incoming arow trow)) (sym asking)
+    ∙ ap (λ y. half_on_incoming core works (half_of 0 c (record { asking = new.asking; answering = y })) (incoming arow trow)) (sym answering)
+    ∙ ap (half_on_incoming core works (half_of 0 c new)) (sym brings)
 
 -- Whether the bank is called doesn't depend on what the ends hold of packets.
 rows_call : {C : Type 0} (core : CoreOf C) (deaf : ℕ) (c : C) (e : EndsOf) (asker : AskerRow) (taker : TakerRow)

@@ -6,15 +6,15 @@ use Rattle.pldm_base.specs.declared.terminus.Role.{Role}
 use Rattle.pldm_exch.specs.Caller.{is_quiet}
 use Rattle.pldm_exch.specs.Requests.{RequestOf, reply_message}
 use Rattle.fwup_wire.specs.Values.{CommandOf}
-use Rattle.fw_node.specs.Halves.{CoreOf, HalfOf, IncomingOf, half_brings, read_by, reply_read, settled, takes_read}
-use Rattle.fw_node.specs.Nodes.{finished, replied}
+use Rattle.fw_node.specs.Halves.{CoreOf, HalfOf, IncomingOf, half_on_incoming, read_by, reply_read, half_after_settle, takes_read}
+use Rattle.fw_node.specs.Nodes.{node_outcome_of, half_after_reply}
 
 -- a half whose core took what was read, and answered it
 abbrev pub answered_half : {C : Type 0} → CoreOf C → HalfOf C → RequestOf → C → List ℕ → HalfOf C
-answered_half core h r c reply = settled core (replied (record h { core = c }) (reply_message r.message r.head reply))
+answered_half core h r c reply = half_after_settle core (half_after_reply (record h { core = c }) (reply_message r.message r.head reply))
 
 taken_read : {C : Type 0} (core : CoreOf C) (role : Role) (e : Endpoint) (tid : ℕ) (quiet works : Bool) (h : HalfOf C) (r : RequestOf) (read : Result CommandOf ℕ)
-    → finished role e tid (takes_read core quiet works h h.taker.requests r.message r.head read)
+    → node_outcome_of role e tid (takes_read core quiet works h h.taker.requests r.message r.head read)
     ≡ record {
       half = answered_half core h r (reply_read core quiet works h.core read).core (reply_read core quiet works h.core read).reply;
       tid = tid;
@@ -24,7 +24,7 @@ taken_read core role e tid quiet works h r (Ok c) = refl
 taken_read core role e tid quiet works h r (Err code) = refl
 
 pub taken : {C : Type 0} (core : CoreOf C) (role : Role) (e : Endpoint) (tid : ℕ) (works : Bool) (h : HalfOf C) (r : RequestOf) → r.head.pldm_type ≡ 5
-    → finished role e tid (half_brings core works h (IncomingOf.New r))
+    → node_outcome_of role e tid (half_on_incoming core works h (IncomingOf.New r))
     ≡ record {
       half = answered_half core h r (reply_read core (is_quiet h.asker.caller) works h.core (read_by core r.head.command r.body)).core (reply_read core (is_quiet h.asker.caller) works h.core (read_by core r.head.command r.body)).reply;
       tid = tid;

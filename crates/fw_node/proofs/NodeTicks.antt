@@ -7,7 +7,7 @@ use Rattle.mctp_reasm.specs.Pieces.{MessageOf}
 use Rattle.pldm_exch.specs.Caller.{CallTickOf, caller_tick, may_begin}
 use Rattle.fwup_wire.specs.Values.{CommandOf}
 use Rattle.pldm_exch.specs.Sides.{asker_called}
-use Rattle.fw_node.specs.Halves.{CoreOf, HalfOf, Ticked, aged, begins_if, begins_wish, called, half_grows, half_ticks, half_waits, idled, last_part, silenced, unwished_abandoned, with_caller}
+use Rattle.fw_node.specs.Halves.{CoreOf, HalfOf, Ticked, half_with_older_ends, begins_if, begins_wish, half_tick_by_row, half_grows, half_ticks, half_waits, half_with_ticked_core, last_part, core_after_give_up, unwished_abandoned, with_caller}
 use Rattle.mctp_wire.specs.declared.unit.Unit.{«Unit»}
 use Rattle.fw_node.specs.Packets.{all_packets, packets_of, sent_by}
 
@@ -27,7 +27,7 @@ pub last_behind : {C : Type 0} (f : CoreOf C) (h : HalfOf C) (ms : List MessageO
 last_behind f h ms = wished_behind (f.wish h.core) (with_caller h (unwished_abandoned (f.wish h.core) h.asker.caller)) ms
 
 by_call : {C : Type 0} (core : CoreOf C) (h : HalfOf C) (t : CallTickOf)
-    → called core (aged h) (asker_called (aged h).asker t) ≡ last_part core (idled core (record (aged h) { core = silenced core t h.core })) (sent_by t)
+    → half_tick_by_row core (half_with_older_ends h) (asker_called (half_with_older_ends h).asker t) ≡ last_part core (half_with_ticked_core core (record (half_with_older_ends h) { core = core_after_give_up core t h.core })) (sent_by t)
 by_call core h CallTickOf.Nothing = refl
 by_call core h (CallTickOf.Send m) = refl
 by_call core h CallTickOf.GaveUp = refl
@@ -36,7 +36,7 @@ pub hearing_tick : {C : Type 0} (core : CoreOf C) (h : HalfOf C) → h.asker.dea
     → half_ticks core true h ≡ behind (sent_by (caller_tick h.asker.caller).1) (half_waits core (half_grows core h))
 hearing_tick core h ask take =
     rw (le-leb h.asker.deaf 1 ask, le-leb h.taker.deaf 1 take) (by_call core h (caller_tick h.asker.caller).1)
-    ∙ last_behind core (idled core (half_grows core h)) (sent_by (caller_tick h.asker.caller).1)
+    ∙ last_behind core (half_with_ticked_core core (half_grows core h)) (sent_by (caller_tick h.asker.caller).1)
 
 pub packets_behind : (u : «Unit») (ms ns : List MessageOf) → all_packets u (ms ++ ns) ≡ all_packets u ms ++ all_packets u ns
 packets_behind u ms ns = flat_map-append (packets_of u) ms ns

@@ -5,12 +5,12 @@ use Rattle.std.proofs.lemmas.List.{get_or-set_same, length-map, length-set}
 use Rattle.mctp_reasm.specs.declared.outcomes.Fed.{Fed}
 use Rattle.mctp_reasm.specs.declared.outcomes.Fed.TheVariants as outcomes
 use Rattle.mctp_reasm.specs.Held.{Held}
-use Rattle.mctp_reasm.specs.Inboxes.{fed_at, held_with, packet_for}
+use Rattle.mctp_reasm.specs.Inboxes.{feed_outcome_at, held_with, packet_for}
 use Rattle.mctp_reasm.specs.Pieces.{MessageOf, PacketOf}
 use Rattle.fwup_wire.specs.Values.{CommandOf}
-use Rattle.pldm_exch.specs.Caller.{CallTickOf, CallerState, Heard, Open, answer_body, answer_heard, begun, caller_tick, closed_by, fresh, heard_as, last_tag, may_begin, next_tag, older, rest_at, sends_at, ticked}
+use Rattle.pldm_exch.specs.Caller.{CallTickOf, CallerState, ReplyInOf, Open, answer_body, answer_outcome, begin_outcome, caller_tick, closed_by, new_caller, answer_outcome_for, last_tag, may_begin, next_tag, open_after_tick, rest_at, sends_at, caller_tick_for}
 use Rattle.pldm_exch.specs.Ends.{AskingOf, asker_of}
-use Rattle.pldm_exch.specs.Rests.{fallen}
+use Rattle.pldm_exch.specs.Rests.{rests_after_tick}
 use Rattle.pldm_exch.specs.Sides.{asker_answered, asker_fed, asker_packet, asking_after, asking_row}
 use Rattle.fw_node.specs.BothEnds.{IsAsking}
 use Rattle.fw_node.specs.Halves.{CoreOf, HalfOf, begins_if, begins_wish, kept_if, last_part, still_wished, unwished_abandoned, unwished_for, with_caller}
@@ -24,32 +24,32 @@ bool_cases false = inr refl
 tag_of : (n : ℕ) → n % 8 ≡ ((n + 1) % 32 + 31) % 32 % 8
 tag_of n = omega arith
 
-pub fresh_is : (own peer : ℕ) → IsAsking peer (fresh own peer)
+pub fresh_is : (own peer : ℕ) → IsAsking peer (new_caller own peer)
 fresh_is own peer = record { rests = refl; tag = tt; unanswered = tt; asks = refl; message = tt }
 
-pub begun_is : {peer : ℕ} (c : CallerState) (pldm_type command : ℕ) (body : List ℕ) → IsAsking peer c → IsAsking peer (begun c pldm_type command body).0
+pub begun_is : {peer : ℕ} (c : CallerState) (pldm_type command : ℕ) (body : List ℕ) → IsAsking peer c → IsAsking peer (begin_outcome c pldm_type command body).0
 begun_is c pldm_type command body h = record { rests = length-set c.rests (next_tag c) 40 ∙ h.rests; tag = tag_of c.number; unanswered = refl; asks = h.asks; message = h.asks }
 
 closed_is : {peer : ℕ} (c : CallerState) (o : Open) (answer : Option (List ℕ)) → IsAsking peer c → IsAsking peer (closed_by c o answer).0
 closed_is c o None h = h
 closed_is c o (Some body) h = record { rests = h.rests; tag = tt; unanswered = tt; asks = h.asks; message = tt }
 
-heard_as_is : {peer : ℕ} (c : CallerState) (o : Option Open) (m : MessageOf) → IsAsking peer c → IsAsking peer (heard_as c o m).0
+heard_as_is : {peer : ℕ} (c : CallerState) (o : Option Open) (m : MessageOf) → IsAsking peer c → IsAsking peer (answer_outcome_for c o m).0
 heard_as_is c None m h = h
 heard_as_is c (Some o) m h = closed_is c o (answer_body o m) h
 
-learnt_is : {peer : ℕ} (a : AskingOf) (replies : List (Option Held)) (c : CallerState) (o : Option Heard) → IsAsking peer a.caller → IsAsking peer c → IsAsking peer (asking_after a (asker_answered replies c o)).caller
+learnt_is : {peer : ℕ} (a : AskingOf) (replies : List (Option Held)) (c : CallerState) (o : Option ReplyInOf) → IsAsking peer a.caller → IsAsking peer c → IsAsking peer (asking_after a (asker_answered replies c o)).caller
 learnt_is a replies c None h is = h
 learnt_is a replies c (Some heard) h is = is
 
 fed_is : {peer : ℕ} (a : AskingOf) (replies : List (Option Held)) (fed : Fed) → IsAsking peer a.caller → IsAsking peer (asking_after a (asker_fed replies a.caller fed)).caller
-fed_is a replies (outcomes.Whole m) h = learnt_is a replies (answer_heard a.caller m).0 (answer_heard a.caller m).1 h (heard_as_is a.caller a.caller.asked m h)
+fed_is a replies (outcomes.Whole m) h = learnt_is a replies (answer_outcome a.caller m).0 (answer_outcome a.caller m).1 h (heard_as_is a.caller a.caller.asked m h)
 fed_is a replies outcomes.Open h = h
 fed_is a replies (outcomes.Dropped cause) h = h
 
 packet_is : {peer : ℕ} (a : AskingOf) (p : Option PacketOf) → IsAsking peer a.caller → IsAsking peer (asking_after a (asker_packet a.unit (asker_of 0 a) p)).caller
 packet_is a None h = h
-packet_is a (Some p) h = fed_is a (held_with a.unit a.replies p) (fed_at a.unit a.replies p) h
+packet_is a (Some p) h = fed_is a (held_with a.unit a.replies p) (feed_outcome_at a.unit a.replies p) h
 
 pub hears_is : {peer : ℕ} (a : AskingOf) (bytes : List ℕ) → IsAsking peer a.caller → IsAsking peer (asking_after a (asking_row a bytes)).caller
 hears_is a bytes h = packet_is a (packet_for a.unit a.own a.peer false bytes) h
@@ -67,15 +67,15 @@ settled_is wish c h = wished_is wish c c.asked h
 
 -- a tick: the request is sent again, is given up, or waits
 abbrev pub again : CallerState → Open → CallerState
-again c o = record c { rests = slice_set (fallen c.rests) o.tag 40; asked = Some (older o) }
+again c o = record c { rests = slice_set (rests_after_tick c.rests) o.tag 40; asked = Some (open_after_tick o) }
 
-fallen_long : {peer : ℕ} (c : CallerState) → IsAsking peer c → length (fallen c.rests) ≡ 8
+fallen_long : {peer : ℕ} (c : CallerState) → IsAsking peer c → length (rests_after_tick c.rests) ≡ 8
 fallen_long c h = length-map c.rests (λ rest. rest - 1) ∙ h.rests
 
-ticked_is : {peer : ℕ} (c : CallerState) (o : Option Open) → IsAsking peer c → c.asked ≡ o → IsAsking peer (ticked c o).0
+ticked_is : {peer : ℕ} (c : CallerState) (o : Option Open) → IsAsking peer c → c.asked ≡ o → IsAsking peer (caller_tick_for c o).0
 ticked_is c None h e = record { rests = fallen_long c h; tag = rw e tt; unanswered = rw e tt; asks = h.asks; message = rw e tt }
 ticked_is c (Some o) h e = elim (bool_cases (sends_at (o.age + 1))) [
-  | inl due ↦ rw due (record { rests = length-set (fallen c.rests) o.tag 40 ∙ fallen_long c h; tag = rw e at h.tag; unanswered = rw e at h.unanswered; asks = h.asks; message = rw e at h.message })
+  | inl due ↦ rw due (record { rests = length-set (rests_after_tick c.rests) o.tag 40 ∙ fallen_long c h; tag = rw e at h.tag; unanswered = rw e at h.unanswered; asks = h.asks; message = rw e at h.message })
   | inr other ↦ elim (eqb_tells (o.age + 1) 18) [
     | inl last ↦ rw (other, last.0) (record { rests = fallen_long c h; tag = tt; unanswered = tt; asks = h.asks; message = tt })
     | inr more ↦ rw (other, more.0) (record { rests = fallen_long c h; tag = rw e at h.tag; unanswered = rw e at h.unanswered; asks = h.asks; message = rw e at h.message })
@@ -95,9 +95,9 @@ busy false c waits rest asked = rw (waits, rest) refl
 again_busy : {peer : ℕ} (wish : Option CommandOf) (c : CallerState) (o : Open) → IsAsking peer c → o.tag ≡ last_tag c → c.answered ≡ false → may_begin (unwished_abandoned wish (again c o)) ≡ false
 again_busy wish c o h tag waits =
     let long = fallen_long c h in
-    let low : last_tag c < length (fallen c.rests) = omega (arith, long) in
-    busy (still_wished wish (older o)) (again c o) waits
-    (ap (λ t. get_or (slice_set (fallen c.rests) t 40) (last_tag c) 0) tag ∙ get_or-set_same (fallen c.rests) (last_tag c) 40 0 low) refl
+    let low : last_tag c < length (rests_after_tick c.rests) = omega (arith, long) in
+    busy (still_wished wish (open_after_tick o)) (again c o) waits
+    (ap (λ t. get_or (slice_set (rests_after_tick c.rests) t 40) (last_tag c) 0) tag ∙ get_or-set_same (rests_after_tick c.rests) (last_tag c) 40 0 low) refl
 
 -- then nothing is sent at last
 none_begun : {C : Type 0} (wish : Option CommandOf) (h : HalfOf C) → may_begin h.asker.caller ≡ false → length (begins_wish wish h []).sent ≡ 0
@@ -126,8 +126,8 @@ none_last core h c o is tag waits e =
     none_begun (core.wish h.core) (with_caller h (unwished_abandoned (core.wish h.core) h.asker.caller))
     (ap (λ x. may_begin (unwished_abandoned (core.wish h.core) x)) e ∙ again_busy (core.wish h.core) c o is tag waits)
 
-one_by : {C : Type 0} {peer : ℕ} (core : CoreOf C) (h : HalfOf C) (c : CallerState) (o : Option Open) → IsAsking peer c → c.asked ≡ o → h.asker.caller ≡ (ticked c o).0
-    → length (sent_by (ticked c o).1) + length (last_part core h []).sent ≤ 1
+one_by : {C : Type 0} {peer : ℕ} (core : CoreOf C) (h : HalfOf C) (c : CallerState) (o : Option Open) → IsAsking peer c → c.asked ≡ o → h.asker.caller ≡ (caller_tick_for c o).0
+    → length (sent_by (caller_tick_for c o).1) + length (last_part core h []).sent ≤ 1
 one_by core h c None is asked e = let one = one_last core h in omega (arith, one)
 one_by core h c (Some o) is asked e = elim (bool_cases (sends_at (o.age + 1))) [
   | inl due ↦ let silent = none_last core h c o is (rw asked at is.tag) (rw asked at is.unanswered) (rw due at e) in rw due (omega (arith, silent))

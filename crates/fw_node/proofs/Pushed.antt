@@ -5,12 +5,12 @@ use Rattle.std.proofs.lemmas.List.{take_all, take_more}
 use Rattle.std.proofs.lemmas.Option.{get_or_from_slice_get, slice_get_within}
 use Rattle.mctp_wire.specs.declared.unit.Unit.{«Unit»}
 use Rattle.mctp_wire.specs.Units.{bytes_of}
-use Rattle.mctp_reasm.specs.Pieces.{MessageOf, Route, message_route, pieces_from, spelled}
+use Rattle.mctp_reasm.specs.Pieces.{MessageOf, Route, message_route, pieces_from, spelling_of}
 use Rattle.mctp_wire.specs.declared.unit.TheConstants.{MAX_PACKETS}
 use Rattle.fw_node.specs.Packets.{packets_of}
 
 -- a message has at most four packets
-few_from : (u : «Unit») (most : ℕ) (r : Route) (n : ℕ) (bytes : List ℕ) → length (map spelled (pieces_from u most r n bytes)) ≤ most
+few_from : (u : «Unit») (most : ℕ) (r : Route) (n : ℕ) (bytes : List ℕ) → length (map spelling_of (pieces_from u most r n bytes)) ≤ most
 unfolding pieces_from
 few_from u zero r n bytes = omega arith
 few_from u (suc most) r n bytes = elim (cases_lt (bytes_of u) (length bytes)) [

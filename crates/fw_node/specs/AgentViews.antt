@@ -9,7 +9,7 @@ use Rattle.fw_node.specs.BothEnds.{ends_new}
 use Rattle.fw_node.specs.Cores.{session_core}
 use Rattle.fw_node.specs.Halves.{HalfOf, unwished_abandoned}
 use Rattle.fw_node.specs.Nodes.{half_of}
-use Rattle.fw_node.specs.Notes.{noted}
+use Rattle.fw_node.specs.Notes.{log_with_event}
 use Rattle.fw_node.specs.declared.half.Half.{Half}
 use Rattle.fw_node.specs.declared.identity.Identity.{Identity}
 
@@ -70,7 +70,7 @@ halves_called ps place call = half_put ps place call (slice_get ps place)
 -- the log after it: what happened to that session is noted
 abbrev pub half_noted : LogOf → (now : ℕ) → (Half TimedOf → Half TimedOf) → Option (Half TimedOf) → LogOf
 half_noted log now call None = log
-half_noted log now call (Some p) = noted log now p.ends.asking.peer p.core (call p).core
+half_noted log now call (Some p) = log_with_event log now p.ends.asking.peer p.core (call p).core
 
 abbrev pub halves_noted : LogOf → (now : ℕ) → List (Half TimedOf) → (place : ℕ) → (Half TimedOf → Half TimedOf) → LogOf
 halves_noted log now ps place call = half_noted log now call (slice_get ps place)

@@ -16,9 +16,9 @@ use Rattle.ua_core.specs.Calls.{agent_activated, agent_cancelled, agent_started,
 use Rattle.ua_core.specs.Session.{SessionOf, TimedOf}
 use Rattle.fw_node.specs.BothEnds.{ends_new}
 use Rattle.fw_node.specs.Cores.{session_core}
-use Rattle.fw_node.specs.Halves.{HalfOf, half_grows, half_hears, half_restarts, half_ticks, half_waits, idled, recast, silenced}
-use Rattle.fw_node.specs.Nodes.{NodeHeard, finished, half_of}
-use Rattle.fw_node.specs.Notes.{noted}
+use Rattle.fw_node.specs.Halves.{HalfOf, half_grows, half_on_packet, half_restarts, half_ticks, half_waits, half_with_ticked_core, half_with_core, core_after_give_up}
+use Rattle.fw_node.specs.Nodes.{NodeOutcome, node_outcome_of, half_of}
+use Rattle.fw_node.specs.Notes.{log_with_event}
 use Rattle.fw_node.specs.Packets.{all_packets, sent_by}
 
 -- The agent: its endpoint, its terminus identifier, the ticks that it is still deaf, its halves, and the event log.
@@ -62,57 +62,57 @@ half_for n eid = half_at n.halves (place_of n.halves eid)
 -- an agent whose half at a place is this one now; what happened to its session is noted
 abbrev pub half_becomes : AgentOf → (now place : ℕ) → (before after : HalfOf TimedOf) → AgentOf
 half_becomes n now place before after =
-    record n { halves = slice_set n.halves place after; log = noted n.log now before.peer before.core after.core }
+    record n { halves = slice_set n.halves place after; log = log_with_event n.log now before.peer before.core after.core }
 
 -- an agent after a call, and the packets that it sends
-pub record AgentHeard : Type 0 where
+pub record AgentOutcome : Type 0 where
   pub agent : AgentOf
   pub sent : List (List ℕ)
 
-abbrev pub agent_unmoved : AgentOf → AgentHeard
+abbrev pub agent_unmoved : AgentOf → AgentOutcome
 agent_unmoved n = record { agent = n; sent = [] }
 
-abbrev pub half_heard : AgentOf → (now place : ℕ) → HalfOf TimedOf → NodeHeard TimedOf → AgentHeard
-half_heard n now place h heard =
+abbrev pub agent_outcome_of : AgentOf → (now place : ℕ) → HalfOf TimedOf → NodeOutcome TimedOf → AgentOutcome
+agent_outcome_of n now place h heard =
     record { agent = record (half_becomes n now place h heard.half) { tid = heard.tid }; sent = all_packets h.unit heard.sent }
 
-abbrev pub hears_at : List PackageText → AgentOf → List ℕ → (now : ℕ) → Option ℕ → Option (HalfOf TimedOf) → AgentHeard
-hears_at packages n bytes now (Some place) (Some h) =
-    half_heard n now place h (finished roles.Agent n.endpoint n.tid (half_hears (session_core packages) true h bytes))
-hears_at packages n bytes now place h = agent_unmoved n
+abbrev pub agent_on_packet_at : List PackageText → AgentOf → List ℕ → (now : ℕ) → Option ℕ → Option (HalfOf TimedOf) → AgentOutcome
+agent_on_packet_at packages n bytes now (Some place) (Some h) =
+    agent_outcome_of n now place h (node_outcome_of roles.Agent n.endpoint n.tid (half_on_packet (session_core packages) true h bytes))
+agent_on_packet_at packages n bytes now place h = agent_unmoved n
 
 -- a packet of either transmission unit: who sent it can be read of both, and the half for that device drops what is too long
 abbrev pub any_packet : List ℕ → Result (Head × List ℕ) WireFault
 any_packet bytes = wire.packet_of U128 bytes
 
 -- the place of the half that hears a packet: that of the device that sent it
-abbrev pub place_heard : List (HalfOf TimedOf) → Result (Head × List ℕ) WireFault → Option ℕ
-place_heard hs (Ok p) = place_of hs p.0.source
-place_heard hs (Err fault) = None
+abbrev pub place_of_sender : List (HalfOf TimedOf) → Result (Head × List ℕ) WireFault → Option ℕ
+place_of_sender hs (Ok p) = place_of hs p.0.source
+place_of_sender hs (Err fault) = None
 
 -- that half
-abbrev pub hearer : AgentOf → List ℕ → Option (HalfOf TimedOf)
-hearer n bytes = half_at n.halves (place_heard n.halves (any_packet bytes))
+abbrev pub receiving_half : AgentOf → List ℕ → Option (HalfOf TimedOf)
+receiving_half n bytes = half_at n.halves (place_of_sender n.halves (any_packet bytes))
 
 -- What a packet is for the agent: the half of the device that sent it hears it; a deaf agent drops every packet.
-abbrev pub agent_hears : List PackageText → AgentOf → List ℕ → (now : ℕ) → AgentHeard
-agent_hears packages n bytes now =
+abbrev pub agent_on_packet : List PackageText → AgentOf → List ℕ → (now : ℕ) → AgentOutcome
+agent_on_packet packages n bytes now =
     if n.deaf == 0 then
-    hears_at packages n bytes now (place_heard n.halves (any_packet bytes)) (half_at n.halves (place_heard n.halves (any_packet bytes)))
+    agent_on_packet_at packages n bytes now (place_of_sender n.halves (any_packet bytes)) (half_at n.halves (place_of_sender n.halves (any_packet bytes)))
     else agent_unmoved n
 
 -- The parts of a tick of one of its halves, each in the general words of a half.
 abbrev pub silent_by : CallTickOf → TimedOf → List PackageText → TimedOf
-silent_by call s packages = silenced (session_core packages) call s
+silent_by call s packages = core_after_give_up (session_core packages) call s
 
-abbrev pub grown : List PackageText → HalfOf TimedOf → HalfOf TimedOf
-grown packages h = half_grows (session_core packages) h
+abbrev pub session_half_aged : List PackageText → HalfOf TimedOf → HalfOf TimedOf
+session_half_aged packages h = half_grows (session_core packages) h
 
-abbrev pub waited : List PackageText → HalfOf TimedOf → HalfOf TimedOf
-waited packages h = idled (session_core packages) h
+abbrev pub session_half_idle : List PackageText → HalfOf TimedOf → HalfOf TimedOf
+session_half_idle packages h = half_with_ticked_core (session_core packages) h
 
-abbrev pub ended : List PackageText → HalfOf TimedOf → HalfOf TimedOf
-ended packages h = (half_waits (session_core packages) h).half
+abbrev pub session_half_after : List PackageText → HalfOf TimedOf → HalfOf TimedOf
+session_half_after packages h = (half_waits (session_core packages) h).half
 
 -- the packets of each part
 abbrev pub again_packets : HalfOf TimedOf → List (List ℕ)
@@ -122,27 +122,27 @@ abbrev pub ended_packets : List PackageText → HalfOf TimedOf → List (List �
 ended_packets packages h = all_packets h.unit (half_waits (session_core packages) h).sent
 
 -- a packet is for this endpoint
-abbrev pub IsFor : ℕ → List ℕ → Type 0
-IsFor eid packet = slice_get packet 1 ≡ Some eid
+abbrev pub IsPacketFor : ℕ → List ℕ → Type 0
+IsPacketFor eid packet = slice_get packet 1 ≡ Some eid
 
 -- what a half sends in a tick: the packets of both parts, which go to its peer
 pub record IsAddressed (packages : List PackageText) (h : HalfOf TimedOf) : Type 0 where
-  pub sent : all_packets h.unit (half_ticks (session_core packages) true h).sent ≡ again_packets h ++ ended_packets packages (grown packages h)
-  pub again : AllByRecursion (IsFor h.peer) (again_packets h)
-  pub begun : AllByRecursion (IsFor h.peer) (ended_packets packages (grown packages h))
+  pub sent : all_packets h.unit (half_ticks (session_core packages) true h).sent ≡ again_packets h ++ ended_packets packages (session_half_aged packages h)
+  pub again : AllByRecursion (IsPacketFor h.peer) (again_packets h)
+  pub begun : AllByRecursion (IsPacketFor h.peer) (ended_packets packages (session_half_aged packages h))
 
 -- the messages of the requests that begin then
-abbrev pub begins : List PackageText → HalfOf TimedOf → List MessageOf
-begins packages h = (half_waits (session_core packages) h).sent
+abbrev pub begin_messages : List PackageText → HalfOf TimedOf → List MessageOf
+begin_messages packages h = (half_waits (session_core packages) h).sent
 
 -- The log after a part of a tick, which is done for all halves in order: what happened to each session is noted.
-abbrev pub notes : (HalfOf TimedOf → HalfOf TimedOf) → (now : ℕ) → LogOf → List (HalfOf TimedOf) → LogOf
-notes part now log [] = log
-notes part now log (h ∷ hs) = notes part now (noted log now h.peer h.core (part h).core) hs
+abbrev pub log_after_part : (HalfOf TimedOf → HalfOf TimedOf) → (now : ℕ) → LogOf → List (HalfOf TimedOf) → LogOf
+log_after_part part now log [] = log
+log_after_part part now log (h ∷ hs) = log_after_part part now (log_with_event log now h.peer h.core (part h).core) hs
 
 -- the halves after the first part
 abbrev pub all_grown : List PackageText → AgentOf → List (HalfOf TimedOf)
-all_grown packages n = map (grown packages) n.halves
+all_grown packages n = map (session_half_aged packages) n.halves
 
 -- An agent after a tick: each part is done for all halves before the next begins.
 abbrev pub agent_ticks : List PackageText → (now : ℕ) → AgentOf → AgentOf
@@ -150,8 +150,8 @@ agent_ticks packages now n =
     if nat_le n.deaf 1 then
     record n {
       deaf = 0;
-      halves = map (ended packages) (all_grown packages n);
-      log = notes (waited packages) now (notes (grown packages) now n.log n.halves) (all_grown packages n);
+      halves = map (session_half_after packages) (all_grown packages n);
+      log = log_after_part (session_half_idle packages) now (log_after_part (session_half_aged packages) now n.log n.halves) (all_grown packages n);
     }
     else record n { deaf = n.deaf - 1; halves = map (λ h. (half_ticks (session_core packages) true h).half) n.halves }
 
@@ -167,19 +167,19 @@ agent_restarts packages n =
     record n { tid = 0; deaf = 40; halves = map (half_restarts (session_core packages)) n.halves; log = sel_restart n.log }
 
 -- The operator's calls, of the session for one device: each ends by giving up what is no longer wished.
-abbrev pub starts : List PackageText → HalfOf TimedOf → (number : ℕ) → HalfOf TimedOf
-starts packages h number =
-    recast (session_core packages) h (record { session = agent_started h.core.session number; idle = 0 })
+abbrev pub half_after_start : List PackageText → HalfOf TimedOf → (number : ℕ) → HalfOf TimedOf
+half_after_start packages h number =
+    half_with_core (session_core packages) h (record { session = agent_started h.core.session number; idle = 0 })
 
-abbrev pub cancels : List PackageText → HalfOf TimedOf → HalfOf TimedOf
-cancels packages h =
-    recast
+abbrev pub half_after_cancel : List PackageText → HalfOf TimedOf → HalfOf TimedOf
+half_after_cancel packages h =
+    half_with_core
     (session_core packages)
     h
     (record { session = agent_cancelled h.core.session; idle = if may_cancel h.core.session.stage then 0 else h.core.idle })
 
-abbrev pub activates : List PackageText → HalfOf TimedOf → SessionOf → HalfOf TimedOf
-activates packages h s = recast (session_core packages) h (record { session = s; idle = 0 })
+abbrev pub half_after_activate : List PackageText → HalfOf TimedOf → SessionOf → HalfOf TimedOf
+half_after_activate packages h s = half_with_core (session_core packages) h (record { session = s; idle = 0 })
 
 abbrev pub becomes_at : AgentOf → (now : ℕ) → (HalfOf TimedOf → HalfOf TimedOf) → Option ℕ → Option (HalfOf TimedOf) → AgentOf
 becomes_at n now call (Some place) (Some h) = half_becomes n now place h (call h)

@@ -24,8 +24,8 @@ pub record TimedDevice : Type 0 where
   pub idle : ℕ
 
 -- the device without its bank's count of failures
-abbrev pub timed : DeviceOf → TimedDevice
-timed d = record { device = d.device; idle = d.idle }
+abbrev pub timed_device : DeviceOf → TimedDevice
+timed_device d = record { device = d.device; idle = d.idle }
 
 -- an answer, and none where it was malformed
 abbrev pub answer_or : Result AnswerOf Malformed → Option AnswerOf

@@ -11,11 +11,11 @@ use Rattle.fwup_wire.specs.Commands.{command_bytes, command_code, command_read}
 use Rattle.fwup_wire.specs.Same.{same_command}
 use Rattle.fwup_wire.specs.Values.{AnswerOf, CommandOf}
 use Rattle.fwup_wire.specs.declared.answer.Malformed.{Malformed}
-use Rattle.pldm_exch.specs.Caller.{CallTickOf, CallerState, Heard, Open, abandoned, begun, caller_tick, is_quiet, may_begin}
+use Rattle.pldm_exch.specs.Caller.{CallTickOf, CallerState, ReplyInOf, Open, caller_after_abandon, begin_outcome, caller_tick, is_quiet, may_begin}
 use Rattle.pldm_exch.specs.Ends.{AnsweringOf, AskerOf, TakerOf, asker_new, taker_new}
 use Rattle.pldm_exch.specs.Kept.{answerer_tick, kept_with}
 use Rattle.pldm_exch.specs.Requests.{RequestOf, reply_message}
-use Rattle.pldm_exch.specs.Sides.{AskerRow, AskerTick, BroughtOf, TakerRow, asker_counts, asker_row, brought_in, requests_in, taker_counts, taker_row}
+use Rattle.pldm_exch.specs.Sides.{AskerRow, AskerTick, ReceivedOf, TakerRow, asker_counts, asker_row, received_in, requests_in, taker_counts, taker_row}
 
 -- what a core makes of a command
 pub record TakenBy (C : Type 0) : Type 0 where
@@ -74,7 +74,7 @@ wished_or wish (Some o) = still_wished wish o
 -- the requests, which go on where that holds, and else are given up
 abbrev pub kept_if : Bool → CallerState → CallerState
 kept_if true c = c
-kept_if false c = abandoned c
+kept_if false c = caller_after_abandon c
 
 abbrev pub unwished_for : Option CommandOf → CallerState → Option Open → CallerState
 unwished_for wish c None = c
@@ -89,8 +89,8 @@ with_caller h c = record h { asker = record h.asker { caller = c } }
 
 abbrev pub begins_if : {C : Type 0} → Bool → HalfOf C → CommandOf → List MessageOf → Ticked C
 begins_if true h c sent = record {
-  half = with_caller h (begun h.asker.caller 5 (command_code c) (command_bytes c)).0;
-  sent = sent ++ (begun h.asker.caller 5 (command_code c) (command_bytes c)).1 ∷ [];
+  half = with_caller h (begin_outcome h.asker.caller 5 (command_code c) (command_bytes c)).0;
+  sent = sent ++ (begin_outcome h.asker.caller 5 (command_code c) (command_bytes c)).1 ∷ [];
 }
 begins_if false h c sent = record { half = h; sent = sent }
 
@@ -102,107 +102,107 @@ begins_wish (Some c) h sent = begins_if (may_begin h.asker.caller) h c sent
 abbrev pub last_part : {C : Type 0} → CoreOf C → HalfOf C → List MessageOf → Ticked C
 last_part core h sent = begins_wish (core.wish h.core) (with_caller h (unwished_abandoned (core.wish h.core) h.asker.caller)) sent
 
-abbrev pub hears_if : {C : Type 0} → Bool → CoreOf C → HalfOf C → List MessageOf → Ticked C
-hears_if true core h sent = last_part core (record h { core = core.ticked h.core }) sent
-hears_if false core h sent = record { half = h; sent = sent }
+abbrev pub tick_if : {C : Type 0} → Bool → CoreOf C → HalfOf C → List MessageOf → Ticked C
+tick_if true core h sent = last_part core (record h { core = core.ticked h.core }) sent
+tick_if false core h sent = record { half = h; sent = sent }
 
-abbrev pub goes_on : {C : Type 0} → CoreOf C → HalfOf C → List MessageOf → Ticked C
-goes_on core h sent = hears_if (h.asker.deaf == 0) core h sent
+abbrev pub tick_if_not_deaf : {C : Type 0} → CoreOf C → HalfOf C → List MessageOf → Ticked C
+tick_if_not_deaf core h sent = tick_if (h.asker.deaf == 0) core h sent
 
-abbrev pub called : {C : Type 0} → CoreOf C → HalfOf C → AskerTick → Ticked C
-called core h (AskerTick.Waits a) = goes_on core (record h { asker = a }) []
-called core h (AskerTick.Resends a m) = goes_on core (record h { asker = a }) (m ∷ [])
-called core h (AskerTick.GivesUp a) = goes_on core (record h { asker = a; core = core.silent h.core }) []
+abbrev pub half_tick_by_row : {C : Type 0} → CoreOf C → HalfOf C → AskerTick → Ticked C
+half_tick_by_row core h (AskerTick.Waits a) = tick_if_not_deaf core (record h { asker = a }) []
+half_tick_by_row core h (AskerTick.Resends a m) = tick_if_not_deaf core (record h { asker = a }) (m ∷ [])
+half_tick_by_row core h (AskerTick.GivesUp a) = tick_if_not_deaf core (record h { asker = a; core = core.silent h.core }) []
 
 -- a tick that the half counts
 abbrev pub half_counts : {C : Type 0} → CoreOf C → HalfOf C → Ticked C
-half_counts core h = called core (record h { taker = taker_counts h.taker }) (asker_counts h.asker)
+half_counts core h = half_tick_by_row core (record h { taker = taker_counts h.taker }) (asker_counts h.asker)
 
 abbrev pub half_ticks : {C : Type 0} → CoreOf C → Bool → HalfOf C → Ticked C
 half_ticks core true h = half_counts core h
 half_ticks core false h = record { half = h; sent = [] }
 
 -- a half that hears, after its assemblies, its answers and its requests grew older
-abbrev pub aged : {C : Type 0} → HalfOf C → HalfOf C
-aged h = record h {
+abbrev pub half_with_older_ends : {C : Type 0} → HalfOf C → HalfOf C
+half_with_older_ends h = record h {
   asker = record h.asker { deaf = 0; caller = (caller_tick h.asker.caller).0; replies = map held_tick h.asker.replies };
   taker = record h.taker { deaf = 0; kept = answerer_tick h.taker.kept; requests = map held_tick h.taker.requests };
 }
 
-abbrev pub idled : {C : Type 0} → CoreOf C → HalfOf C → HalfOf C
-idled core h = record h { core = core.ticked h.core }
+abbrev pub half_with_ticked_core : {C : Type 0} → CoreOf C → HalfOf C → HalfOf C
+half_with_ticked_core core h = record h { core = core.ticked h.core }
 
 -- A tick's parts of a half that hears. First what is held and kept grows older, and the open request is sent again or given
 -- up; the core is told of one that was given up.
-abbrev pub silenced : {C : Type 0} → CoreOf C → CallTickOf → C → C
-silenced core CallTickOf.GaveUp c = core.silent c
-silenced core call c = c
+abbrev pub core_after_give_up : {C : Type 0} → CoreOf C → CallTickOf → C → C
+core_after_give_up core CallTickOf.GaveUp c = core.silent c
+core_after_give_up core call c = c
 
 abbrev pub half_grows : {C : Type 0} → CoreOf C → HalfOf C → HalfOf C
-half_grows core h = record (aged h) { core = silenced core (caller_tick h.asker.caller).1 h.core }
+half_grows core h = record (half_with_older_ends h) { core = core_after_give_up core (caller_tick h.asker.caller).1 h.core }
 
 -- Then comes the core's own tick; at last what isn't wished is given up, and what is wished begins.
 abbrev pub half_waits : {C : Type 0} → CoreOf C → HalfOf C → Ticked C
-half_waits core h = last_part core (idled core h) []
+half_waits core h = last_part core (half_with_ticked_core core h) []
 
 -- What a packet is for a half: it went through, and these messages are sent; the core took this command, likewise; a new
 -- request of another PLDM type is to be answered; or a whole message is no PLDM request.
-pub data HalfHeard (C : Type 0) : Type 0 where
-  Went : (half : HalfOf C) → (sent : List MessageOf) → HalfHeard C
-  Took : (half : HalfOf C) → (sent : List MessageOf) → (command : CommandOf) → (answer : AnswerOf) → HalfHeard C
-  Asks : (half : HalfOf C) → (request : MessageOf) → (head : PldmHead) → (body : List ℕ) → HalfHeard C
-  Strayed : (half : HalfOf C) → (message : MessageOf) → HalfHeard C
+pub data HalfOutcome (C : Type 0) : Type 0 where
+  Went : (half : HalfOf C) → (sent : List MessageOf) → HalfOutcome C
+  Took : (half : HalfOf C) → (sent : List MessageOf) → (command : CommandOf) → (answer : AnswerOf) → HalfOutcome C
+  Asks : (half : HalfOf C) → (request : MessageOf) → (head : PldmHead) → (body : List ℕ) → HalfOutcome C
+  Strayed : (half : HalfOf C) → (message : MessageOf) → HalfOutcome C
 
 -- each call ends so: what is no longer wished is given up
-abbrev pub settled : {C : Type 0} → CoreOf C → HalfOf C → HalfOf C
-settled core h = with_caller h (unwished_abandoned (core.wish h.core) h.asker.caller)
+abbrev pub half_after_settle : {C : Type 0} → CoreOf C → HalfOf C → HalfOf C
+half_after_settle core h = with_caller h (unwished_abandoned (core.wish h.core) h.asker.caller)
 
 -- a half after it answered a new request
-abbrev pub answers : {C : Type 0} → HalfOf C → List (Option Held) → MessageOf → PldmHead → List ℕ → HalfOf C
-answers h requests m head reply = record h { taker = record h.taker { kept = kept_with h.taker.kept (reply_message m head reply); requests = requests } }
+abbrev pub half_after_answer : {C : Type 0} → HalfOf C → List (Option Held) → MessageOf → PldmHead → List ℕ → HalfOf C
+half_after_answer h requests m head reply = record h { taker = record h.taker { kept = kept_with h.taker.kept (reply_message m head reply); requests = requests } }
 
-abbrev pub takes_read : {C : Type 0} → CoreOf C → (quiet works : Bool) → HalfOf C → List (Option Held) → MessageOf → PldmHead → Result CommandOf ℕ → HalfHeard C
+abbrev pub takes_read : {C : Type 0} → CoreOf C → (quiet works : Bool) → HalfOf C → List (Option Held) → MessageOf → PldmHead → Result CommandOf ℕ → HalfOutcome C
 takes_read core quiet works h requests m head (Ok c) =
-    HalfHeard.Took
-    (settled core (answers (record h { core = (core.take h.core c quiet works).core }) requests m head (answer_bytes (core.take h.core c quiet works).answer)))
+    HalfOutcome.Took
+    (half_after_settle core (half_after_answer (record h { core = (core.take h.core c quiet works).core }) requests m head (answer_bytes (core.take h.core c quiet works).answer)))
     (reply_message m head (answer_bytes (core.take h.core c quiet works).answer) ∷ [])
     c
     (core.take h.core c quiet works).answer
 takes_read core quiet works h requests m head (Err code) =
-    HalfHeard.Went (settled core (answers h requests m head (code ∷ []))) (reply_message m head (code ∷ []) ∷ [])
+    HalfOutcome.Went (half_after_settle core (half_after_answer h requests m head (code ∷ []))) (reply_message m head (code ∷ []) ∷ [])
 
 -- what request data say to a core: commands that the other kind of core answers aren't read
 abbrev pub read_by : {C : Type 0} → CoreOf C → ℕ → List ℕ → Result CommandOf ℕ
 read_by core command body = if core.serves command then command_read command body else Err unsupported_command
 
-abbrev pub takes_if : {C : Type 0} → Bool → CoreOf C → (works : Bool) → HalfOf C → List (Option Held) → MessageOf → PldmHead → List ℕ → HalfHeard C
+abbrev pub takes_if : {C : Type 0} → Bool → CoreOf C → (works : Bool) → HalfOf C → List (Option Held) → MessageOf → PldmHead → List ℕ → HalfOutcome C
 takes_if true core works h requests m head body =
     takes_read core (is_quiet h.asker.caller) works h requests m head (read_by core head.command body)
-takes_if false core works h requests m head body = HalfHeard.Asks (record h { taker = record h.taker { requests = requests } }) m head body
+takes_if false core works h requests m head body = HalfOutcome.Asks (record h { taker = record h.taker { requests = requests } }) m head body
 
-abbrev pub half_takes : {C : Type 0} → CoreOf C → (works : Bool) → HalfOf C → TakerRow → HalfHeard C
-half_takes core works h (TakerRow.Silent requests) = HalfHeard.Went (record h { taker = record h.taker { requests = requests } }) []
-half_takes core works h (TakerRow.Repeats requests answer) = HalfHeard.Went (record h { taker = record h.taker { requests = requests } }) (answer ∷ [])
+abbrev pub half_takes : {C : Type 0} → CoreOf C → (works : Bool) → HalfOf C → TakerRow → HalfOutcome C
+half_takes core works h (TakerRow.Silent requests) = HalfOutcome.Went (record h { taker = record h.taker { requests = requests } }) []
+half_takes core works h (TakerRow.Repeats requests answer) = HalfOutcome.Went (record h { taker = record h.taker { requests = requests } }) (answer ∷ [])
 half_takes core works h (TakerRow.TakesUp requests m head body) = takes_if (head.pldm_type == 5) core works h requests m head body
-half_takes core works h (TakerRow.Strays requests m) = HalfHeard.Strayed (record h { taker = record h.taker { requests = requests } }) m
+half_takes core works h (TakerRow.Strays requests m) = HalfOutcome.Strayed (record h { taker = record h.taker { requests = requests } }) m
 
 -- a packet, by the rows of both ends: it is for one of them at most
-abbrev pub half_hears_by : {C : Type 0} → CoreOf C → (works : Bool) → HalfOf C → AskerRow → TakerRow → HalfHeard C
-half_hears_by core works h (AskerRow.Ignores replies) row = half_takes core works (record h { asker = record h.asker { replies = replies } }) row
-half_hears_by core works h (AskerRow.Learns replies caller heard) row =
-    HalfHeard.Went
-    (settled core (record h {
+abbrev pub half_on_rows : {C : Type 0} → CoreOf C → (works : Bool) → HalfOf C → AskerRow → TakerRow → HalfOutcome C
+half_on_rows core works h (AskerRow.Ignores replies) row = half_takes core works (record h { asker = record h.asker { replies = replies } }) row
+half_on_rows core works h (AskerRow.Learns replies caller heard) row =
+    HalfOutcome.Went
+    (half_after_settle core (record h {
       core = core.learn h.core (answer_read heard.command heard.reply) works;
       asker = record h.asker { caller = caller; replies = replies };
     }))
     []
 
-abbrev pub half_hears : {C : Type 0} → CoreOf C → (works : Bool) → HalfOf C → List ℕ → HalfHeard C
-half_hears core works h bytes = half_hears_by core works h (asker_row h.unit h.own h.peer h.asker bytes) (taker_row h.unit h.own h.peer h.taker bytes)
+abbrev pub half_on_packet : {C : Type 0} → CoreOf C → (works : Bool) → HalfOf C → List ℕ → HalfOutcome C
+half_on_packet core works h bytes = half_on_rows core works h (asker_row h.unit h.own h.peer h.asker bytes) (taker_row h.unit h.own h.peer h.taker bytes)
 
 -- A local call leaves this core; a request that is no longer wished is given up.
-abbrev pub recast : {C : Type 0} → CoreOf C → HalfOf C → C → HalfOf C
-recast core h c = settled core (record h { core = c })
+abbrev pub half_with_core : {C : Type 0} → CoreOf C → HalfOf C → C → HalfOf C
+half_with_core core h c = half_after_settle core (record h { core = c })
 
 -- A node starts anew, and is deaf for 40 ticks.
 abbrev pub half_restarts : {C : Type 0} → CoreOf C → HalfOf C → HalfOf C
@@ -213,20 +213,20 @@ half_restarts core h =
 -- again, a new request, or a stray.
 pub data IncomingOf : Type 0 where
   Nothing : IncomingOf
-  Learnt : (heard : Heard) → IncomingOf
+  Learnt : (heard : ReplyInOf) → IncomingOf
   Again : (answer : MessageOf) → IncomingOf
   New : (request : RequestOf) → IncomingOf
   Strays : (message : MessageOf) → IncomingOf
 
-abbrev pub brought_as : BroughtOf → IncomingOf
-brought_as BroughtOf.Nothing = IncomingOf.Nothing
-brought_as (BroughtOf.Again answer) = IncomingOf.Again answer
-brought_as (BroughtOf.New request) = IncomingOf.New request
-brought_as (BroughtOf.Strays message) = IncomingOf.Strays message
+abbrev pub incoming_from : ReceivedOf → IncomingOf
+incoming_from ReceivedOf.Nothing = IncomingOf.Nothing
+incoming_from (ReceivedOf.Again answer) = IncomingOf.Again answer
+incoming_from (ReceivedOf.New request) = IncomingOf.New request
+incoming_from (ReceivedOf.Strays message) = IncomingOf.Strays message
 
 -- by the rows of both ends
 abbrev pub incoming : AskerRow → TakerRow → IncomingOf
-incoming (AskerRow.Ignores replies) row = brought_as (brought_in row)
+incoming (AskerRow.Ignores replies) row = incoming_from (received_in row)
 incoming (AskerRow.Learns replies caller heard) row = IncomingOf.Learnt heard
 
 -- what the node that answers holds then
@@ -245,11 +245,11 @@ reply_read core quiet works c (Ok command) =
 reply_read core quiet works c (Err code) = record { core = c; reply = code ∷ [] }
 
 -- What each of these is for the half.
-abbrev pub half_brings : {C : Type 0} → CoreOf C → (works : Bool) → HalfOf C → IncomingOf → HalfHeard C
-half_brings core works h IncomingOf.Nothing = HalfHeard.Went h []
-half_brings core works h (IncomingOf.Learnt heard) =
-    HalfHeard.Went (settled core (record h { core = core.learn h.core (answer_read heard.command heard.reply) works })) []
-half_brings core works h (IncomingOf.Again answer) = HalfHeard.Went h (answer ∷ [])
-half_brings core works h (IncomingOf.New r) =
+abbrev pub half_on_incoming : {C : Type 0} → CoreOf C → (works : Bool) → HalfOf C → IncomingOf → HalfOutcome C
+half_on_incoming core works h IncomingOf.Nothing = HalfOutcome.Went h []
+half_on_incoming core works h (IncomingOf.Learnt heard) =
+    HalfOutcome.Went (half_after_settle core (record h { core = core.learn h.core (answer_read heard.command heard.reply) works })) []
+half_on_incoming core works h (IncomingOf.Again answer) = HalfOutcome.Went h (answer ∷ [])
+half_on_incoming core works h (IncomingOf.New r) =
     takes_if (r.head.pldm_type == 5) core works h h.taker.requests r.message r.head r.body
-half_brings core works h (IncomingOf.Strays m) = HalfHeard.Strayed h m
+half_on_incoming core works h (IncomingOf.Strays m) = HalfOutcome.Strayed h m

@@ -18,15 +18,15 @@ use Rattle.fwup_wire.specs.Answers.{answer_bytes, answer_in}
 use Rattle.fwup_wire.specs.Commands.{command_code}
 use Rattle.fwup_wire.specs.Values.{AnswerOf, CommandOf}
 use Rattle.fd_core.specs.BankCalls.{verdict_calls_bank}
-use Rattle.fd_core.specs.Banks.{Rose}
+use Rattle.fd_core.specs.Banks.{CountsFailure}
 use Rattle.fd_core.specs.States.{DeviceOf}
 use Rattle.fd_core.specs.Steps.{device_verdict, verdict_after}
 use Rattle.fd_core.specs.declared.states.Verdict.{Verdict}
 use Rattle.fw_node.specs.BankCalls.{packet_calls_bank}
 use Rattle.fw_node.specs.BothEnds.{EndsOf, ends_new}
-use Rattle.fw_node.specs.Cores.{TimedDevice, device_core, timed}
+use Rattle.fw_node.specs.Cores.{TimedDevice, device_core, timed_device}
 use Rattle.fw_node.specs.Packets.{all_packets}
-use Rattle.fw_node.specs.Halves.{HalfHeard, HalfOf, half_hears, half_restarts, recast}
+use Rattle.fw_node.specs.Halves.{HalfOutcome, HalfOf, half_on_packet, half_restarts, half_with_core}
 
 -- a half of a node that is deaf for so long
 abbrev pub half_of : {C : Type 0} → (deaf : ℕ) → C → EndsOf → HalfOf C
@@ -34,7 +34,7 @@ half_of deaf core e =
     record { unit = e.asking.unit; own = e.asking.own; peer = e.asking.peer; core = core; asker = asker_of deaf e.asking; taker = taker_of deaf e.answering }
 
 -- a half after a packet, the node's terminus identifier, and the messages that are sent
-pub record NodeHeard (C : Type 0) : Type 0 where
+pub record NodeOutcome (C : Type 0) : Type 0 where
   pub half : HalfOf C
   pub tid : ℕ
   pub sent : List MessageOf
@@ -49,8 +49,8 @@ abbrev pub other_tid : ℕ → PldmHead → List ℕ → ℕ
 other_tid tid head body = if head.pldm_type == 0 then tid_after tid head.command body else tid
 
 -- such a request is answered, and the answer is kept
-abbrev pub replied : {C : Type 0} → HalfOf C → MessageOf → HalfOf C
-replied h answer = record h { taker = record h.taker { kept = kept_with h.taker.kept answer } }
+abbrev pub half_after_reply : {C : Type 0} → HalfOf C → MessageOf → HalfOf C
+half_after_reply h answer = record h { taker = record h.taker { kept = kept_with h.taker.kept answer } }
 
 -- The answer to a control message, which is sent back and not kept.
 abbrev pub control_message : MessageOf → List ℕ → MessageOf
@@ -62,27 +62,27 @@ control_sent m (Some []) = []
 control_sent m (Some (byte ∷ bytes)) = control_message m (byte ∷ bytes) ∷ []
 
 -- What the node does with what a packet is for a half.
-abbrev pub finished : {C : Type 0} → Role → Endpoint → (tid : ℕ) → HalfHeard C → NodeHeard C
-finished role endpoint tid (HalfHeard.Went half sent) = record { half = half; tid = tid; sent = sent }
-finished role endpoint tid (HalfHeard.Took half sent command answer) = record { half = half; tid = tid; sent = sent }
-finished role endpoint tid (HalfHeard.Asks half m head body) =
+abbrev pub node_outcome_of : {C : Type 0} → Role → Endpoint → (tid : ℕ) → HalfOutcome C → NodeOutcome C
+node_outcome_of role endpoint tid (HalfOutcome.Went half sent) = record { half = half; tid = tid; sent = sent }
+node_outcome_of role endpoint tid (HalfOutcome.Took half sent command answer) = record { half = half; tid = tid; sent = sent }
+node_outcome_of role endpoint tid (HalfOutcome.Asks half m head body) =
     record {
-      half = replied half (reply_message m head (other_reply role tid head body));
+      half = half_after_reply half (reply_message m head (other_reply role tid head body));
       tid = other_tid tid head body;
       sent = reply_message m head (other_reply role tid head body) ∷ [];
     }
-finished role endpoint tid (HalfHeard.Strayed half m) =
+node_outcome_of role endpoint tid (HalfOutcome.Strayed half m) =
     record { half = half; tid = tid; sent = control_sent m (answer_of endpoint m.bytes) }
 
 -- an answer to a command can be read again, and fits a message of this transmission unit
-pub record IsHeardAgain (u : «Unit») (command : CommandOf) (answer : AnswerOf) : Type 0 where
+pub record AnswerRoundTrips (u : «Unit») (command : CommandOf) (answer : AnswerOf) : Type 0 where
   pub reads : answer_in (command_code command) (answer_bytes answer) ≡ Some answer
   pub fits : length (answer_bytes answer) ≤ reply_limit u
 
 -- The answer of a core that took a command is such a one.
-abbrev pub IsTold : {C : Type 0} → «Unit» → HalfHeard C → Type 0
-IsTold u (HalfHeard.Took half sent command answer) = IsHeardAgain u command answer
-IsTold u heard = Prim.Unit {0}
+abbrev pub TakenAnswerRoundTrips : {C : Type 0} → «Unit» → HalfOutcome C → Type 0
+TakenAnswerRoundTrips u (HalfOutcome.Took half sent command answer) = AnswerRoundTrips u command answer
+TakenAnswerRoundTrips u heard = Prim.Unit {0}
 
 -- A device node: its endpoint, its terminus identifier, its half for the agent, and its bank's count of failures.
 pub record DeviceNodeOf : Type 0 where
@@ -92,13 +92,13 @@ pub record DeviceNodeOf : Type 0 where
   pub faults : ℕ
 
 -- what a packet is for a device node
-abbrev pub device_hears : (works : Bool) → DeviceNodeOf → List ℕ → NodeHeard TimedDevice
-device_hears works n bytes = finished roles.Device n.endpoint n.tid (half_hears device_core works n.half bytes)
+abbrev pub device_on_packet : (works : Bool) → DeviceNodeOf → List ℕ → NodeOutcome TimedDevice
+device_on_packet works n bytes = node_outcome_of roles.Device n.endpoint n.tid (half_on_packet device_core works n.half bytes)
 
 -- a device node after a verdict that counts
-abbrev pub device_judges : (works : Bool) → DeviceNodeOf → Verdict → HalfOf TimedDevice
-device_judges works n verdict =
-    recast device_core n.half (record { device = verdict_after n.half.core.device verdict works; idle = 0 })
+abbrev pub device_on_verdict : (works : Bool) → DeviceNodeOf → Verdict → HalfOf TimedDevice
+device_on_verdict works n verdict =
+    half_with_core device_core n.half (record { device = verdict_after n.half.core.device verdict works; idle = 0 })
 
 -- a device node after a restart
 abbrev pub device_restarts : DeviceNodeOf → DeviceNodeOf
@@ -107,24 +107,24 @@ device_restarts n = record n { tid = 0; half = half_restarts device_core n.half 
 -- a device node as it is made
 abbrev pub new_device_node : Endpoint → (agent : ℕ) → DeviceOf → DeviceNodeOf
 new_device_node endpoint agent d =
-    record { endpoint = endpoint; tid = 0; half = half_of 0 (timed d) (ends_new d.device.unit endpoint.eid agent); faults = d.faults }
+    record { endpoint = endpoint; tid = 0; half = half_of 0 (timed_device d) (ends_new d.device.unit endpoint.eid agent); faults = d.faults }
 
 -- What a packet makes of a device node, and what is sent: `works` says whether its bank's one call succeeded. A call fails only
 -- where the packet has the node call its bank, and only where the bank's count of failures tells so.
-pub record HearsIt (old : DeviceNodeOf) (bytes : List ℕ) (new : DeviceNodeOf) (sent : List (List ℕ)) : Type 0 where
+pub record HandlesPacket (old : DeviceNodeOf) (bytes : List ℕ) (new : DeviceNodeOf) (sent : List (List ℕ)) : Type 0 where
   pub works : Bool
-  pub half : new.half ≡ (device_hears works old bytes).half
-  pub tid : new.tid ≡ (device_hears works old bytes).tid
-  pub packets : sent ≡ all_packets old.half.unit (device_hears works old bytes).sent
+  pub half : new.half ≡ (device_on_packet works old bytes).half
+  pub tid : new.tid ≡ (device_on_packet works old bytes).tid
+  pub packets : sent ≡ all_packets old.half.unit (device_on_packet works old bytes).sent
   pub worked : works ≡ true → new.faults ≡ old.faults
-  pub failed : works ≡ false → Rose old.faults new.faults
+  pub failed : works ≡ false → CountsFailure old.faults new.faults
   pub called : works ≡ false → packet_calls_bank device_core old.half bytes ≡ true
 
 -- What a verdict that counts makes of a device node. Only ApplyOk calls the bank.
-pub record JudgesIt (old : DeviceNodeOf) (verdict : Verdict) (new : DeviceNodeOf) : Type 0 where
+pub record HandlesVerdict (old : DeviceNodeOf) (verdict : Verdict) (new : DeviceNodeOf) : Type 0 where
   pub works : Bool
   pub counts : is_some (device_verdict old.half.core.device verdict works) ≡ true
-  pub half : new.half ≡ device_judges works old verdict
+  pub half : new.half ≡ device_on_verdict works old verdict
   pub worked : works ≡ true → new.faults ≡ old.faults
-  pub failed : works ≡ false → Rose old.faults new.faults
+  pub failed : works ≡ false → CountsFailure old.faults new.faults
   pub called : works ≡ false → verdict_calls_bank old.half.core.device verdict ≡ true

@@ -4,7 +4,7 @@ ghost use Rattle.std.specs.Prelude.{◌≡◌, ◌≤◌, ◌<◌, ◌↔◌, �
 ghost use Rattle.fw_package.specs.Package.{PackageText};
 ghost use Rattle.mctp_wire.specs.Packet.{IsRead, spelling};
 ghost use Rattle.sel_core.specs.Log.{sel_after, sel_reply};
-ghost use Rattle.fw_node.specs.Agents.{AgentOf, any_packet, IsAddressed, IsDeafFor, activates, free_for, ready_for, again_packets, agent_becomes, agent_hears, agent_restarts, agent_tick_sends, agent_ticks, begins, cancels, ended, ended_packets, grown, half_at, half_for, hears_at, new_agent, new_half, notes, place_heard, place_of, starts, waited};
+ghost use Rattle.fw_node.specs.Agents.{AgentOf, any_packet, IsAddressed, IsDeafFor, half_after_activate, free_for, ready_for, again_packets, agent_becomes, agent_on_packet, agent_restarts, agent_tick_sends, agent_ticks, begin_messages, half_after_cancel, session_half_after, ended_packets, session_half_aged, half_at, half_for, agent_on_packet_at, new_agent, new_half, log_after_part, place_of_sender, place_of, half_after_start, session_half_idle};
 ghost use Rattle.fw_node.specs.AgentViews.{agent_of, half_in, half_activated, half_cancelled, half_free, half_ready, half_restarted, half_started, halves_called, halves_noted};
 ghost use Rattle.fw_node.specs.Cores.{session_core};
 ghost use Rattle.fw_node.specs.Halves.{half_ticks};
@@ -12,7 +12,7 @@ ghost use Rattle.std.specs.List.{AllByRecursion};
 
 use crate::half::Half;
 use crate::identity::Identity;
-use crate::noting::{activate, cancel, grow, hear, start, wait};
+use crate::noting::{activate, cancel, grow, handle_and_note, start, wait};
 use crate::outbox::Outbox;
 use fw_package::Package;
 use mctp_ctl::Endpoint;
@@ -123,18 +123,18 @@ impl AgentNode {
         outbox: &mut Outbox,
     )
         requires { outbox.old ≡ [] }
-        ensures after { self.new ≡ (agent_hears packages.now self.old bytes.now now).agent }
-        ensures sent { outbox.new ≡ (agent_hears packages.now self.old bytes.now now).sent }
+        ensures after { self.new ≡ (agent_on_packet packages.now self.old bytes.now now).agent }
+        ensures sent { outbox.new ≡ (agent_on_packet packages.now self.old bytes.now now).sent }
     {
         let Ok(packet) = mctp_wire::decode(Unit::U128, bytes) else {
             return;
         };
-        self.hear(packages, &packet, now, outbox);
+        self.accept(packages, &packet, now, outbox);
     }
 
     /// Hears a packet of either transmission unit, and puts what it sends into an empty outbox.
     #[tactic(auto, using(crate::proofs::Places::places))]
-    fn hear<'p>(
+    fn accept<'p>(
         &mut self,
         packages: &'p [Package<'p>],
         packet: &Packet<'_>,
@@ -143,8 +143,8 @@ impl AgentNode {
     )
         requires read { IsRead packet.now }
         requires outbox { outbox.old ≡ [] }
-        ensures after { self.new ≡ (agent_hears packages.now self.old (spelling packet.now) now).agent }
-        ensures sent { outbox.new ≡ (agent_hears packages.now self.old (spelling packet.now) now).sent }
+        ensures after { self.new ≡ (agent_on_packet packages.now self.old (spelling packet.now) now).agent }
+        ensures sent { outbox.new ≡ (agent_on_packet packages.now self.old (spelling packet.now) now).sent }
     {
         if self.deaf > 0 {
             return;
@@ -152,7 +152,7 @@ impl AgentNode {
         let Some(place) = sender_of(self.halves.as_slice(), packet) else {
             return;
         };
-        hear_at(
+        accept_at(
             self.halves.as_mut_slice(),
             place,
             &mut self.identity,
@@ -208,7 +208,7 @@ impl AgentNode {
         now: u32,
     ) -> Result<(), StartFault>
         requires { is_some (half_for self.old eid) ≡ true }
-        ensures started { OnOk result (self.new ≡ agent_becomes self.old now eid (λ h. starts packages.now h number)) }
+        ensures started { OnOk result (self.new ≡ agent_becomes self.old now eid (λ h. half_after_start packages.now h number)) }
         ensures free { OnOk result (free_for self.old eid ≡ Some true) }
         ensures busy { IfErr result (λ e. (e ≡ StartFault.Busy) ↔ (free_for self.old eid ≡ Some false)) }
         ensures kept { OnErr result (self.new ≡ self.old) }
@@ -233,7 +233,7 @@ impl AgentNode {
     /// Cancels the update of a device; nothing changes where it is none of the agent's. It is noted at `now`; a deaf agent
     /// takes it too.
     pub fn cancel<'p>(&mut self, packages: &'p [Package<'p>], eid: u8, now: u32)
-        ensures cancelled { self.new ≡ agent_becomes self.old now eid (cancels packages.now) }
+        ensures cancelled { self.new ≡ agent_becomes self.old now eid (half_after_cancel packages.now) }
     {
         let Some(place) = place_of(self.halves.as_slice(), eid) else {
             return;
@@ -257,7 +257,7 @@ impl AgentNode {
         eid: u8,
         now: u32,
     ) -> Result<(), NotReady>
-        ensures ready { OnOk result (option_map (λ s. agent_becomes self.old now eid (λ h. activates packages.now h s)) (ready_for self.old eid) ≡ Some self.new) }
+        ensures ready { OnOk result (option_map (λ s. agent_becomes self.old now eid (λ h. half_after_activate packages.now h s)) (ready_for self.old eid) ≡ Some self.new) }
         ensures not { OnErr result (ready_for self.old eid ≡ None) }
         ensures kept { OnErr result (self.new ≡ self.old) }
     {
@@ -342,7 +342,7 @@ fn session_in(halves: &[Half<Session>], eid: u8) -> Option<&Session>
 #[tactic(auto, using(crate::proofs::Readings::readings))]
 fn sender_of(halves: &[Half<Session>], packet: &Packet<'_>) -> Option<usize>
     requires { IsRead packet.now }
-    ensures place { result ≡ place_heard (map (half_in 0) halves.now) (any_packet (spelling packet.now)) }
+    ensures place { result ≡ place_of_sender (map (half_in 0) halves.now) (any_packet (spelling packet.now)) }
     ensures within { IfSome result (λ place. place < length halves.now) }
 {
     place_of(halves, packet.head.source)
@@ -350,7 +350,7 @@ fn sender_of(halves: &[Half<Session>], packet: &Packet<'_>) -> Option<usize>
 
 /// The half at a place hears a packet.
 #[tactic(auto, using(crate::proofs::Places::places))]
-fn hear_at<'p>(
+fn accept_at<'p>(
     halves: &mut [Half<Session>],
     place: usize,
     identity: &mut Identity,
@@ -363,11 +363,11 @@ fn hear_at<'p>(
     requires read { IsRead packet.now }
     requires place { place < length halves.old }
     requires outbox { outbox.old ≡ [] }
-    ensures after { agent_of 0 identity.new log.new halves.new ≡ (hears_at packages.now (agent_of 0 identity.old log.old halves.old) (spelling packet.now) now (Some place) (slice_get (map (half_in 0) halves.old) place)).agent }
-    ensures sent { outbox.new ≡ (hears_at packages.now (agent_of 0 identity.old log.old halves.old) (spelling packet.now) now (Some place) (slice_get (map (half_in 0) halves.old) place)).sent }
+    ensures after { agent_of 0 identity.new log.new halves.new ≡ (agent_on_packet_at packages.now (agent_of 0 identity.old log.old halves.old) (spelling packet.now) now (Some place) (slice_get (map (half_in 0) halves.old) place)).agent }
+    ensures sent { outbox.new ≡ (agent_on_packet_at packages.now (agent_of 0 identity.old log.old halves.old) (spelling packet.now) now (Some place) (slice_get (map (half_in 0) halves.old) place)).sent }
     ensures count { length halves.new ≡ length halves.old }
 {
-    hear(
+    handle_and_note(
         &mut halves[place],
         identity,
         log,
@@ -451,10 +451,10 @@ fn grow_all<'p>(
     outbox: &mut Outbox,
 )
     requires { length outbox.old + 4 * length halves.old ≤ 64 }
-    ensures halves { map (half_in 0) halves.new ≡ map (grown packages.now) (map (half_in 0) halves.old) }
+    ensures halves { map (half_in 0) halves.new ≡ map (session_half_aged packages.now) (map (half_in 0) halves.old) }
     ensures sent { outbox.new ≡ outbox.old ++ flat_map again_packets (map (half_in 0) halves.old) }
-    ensures few { length outbox.new + 4 * length (flat_map (begins packages.now) (map (grown packages.now) (map (half_in 0) halves.old))) ≤ length outbox.old + 4 * length halves.old }
-    ensures log { log.new ≡ notes (grown packages.now) now log.old (map (half_in 0) halves.old) }
+    ensures few { length outbox.new + 4 * length (flat_map (begin_messages packages.now) (map (session_half_aged packages.now) (map (half_in 0) halves.old))) ≤ length outbox.old + 4 * length halves.old }
+    ensures log { log.new ≡ log_after_part (session_half_aged packages.now) now log.old (map (half_in 0) halves.old) }
     ensures addressed { AllByRecursion (IsAddressed packages.now) (map (half_in 0) halves.old) }
     ensures count { length halves.new ≡ length halves.old }
 {
@@ -471,10 +471,10 @@ fn wait_all<'p>(
     now: u32,
     outbox: &mut Outbox,
 )
-    requires { length outbox.old + 4 * length (flat_map (begins packages.now) (map (half_in 0) halves.old)) ≤ 64 }
-    ensures halves { map (half_in 0) halves.new ≡ map (ended packages.now) (map (half_in 0) halves.old) }
+    requires { length outbox.old + 4 * length (flat_map (begin_messages packages.now) (map (half_in 0) halves.old)) ≤ 64 }
+    ensures halves { map (half_in 0) halves.new ≡ map (session_half_after packages.now) (map (half_in 0) halves.old) }
     ensures sent { outbox.new ≡ outbox.old ++ flat_map (ended_packets packages.now) (map (half_in 0) halves.old) }
-    ensures log { log.new ≡ notes (waited packages.now) now log.old (map (half_in 0) halves.old) }
+    ensures log { log.new ≡ log_after_part (session_half_idle packages.now) now log.old (map (half_in 0) halves.old) }
     ensures count { length halves.new ≡ length halves.old }
 {
     for half in halves.iter_mut() {

@@ -2,14 +2,14 @@
 
 ghost use Rattle.std.specs.Prelude.{◌≡◌, IfSome, None, false, not, option_map, true, ℕ};
 ghost use Rattle.std.specs.Result.{result_map_both};
-ghost use Rattle.fd_core.specs.Banks.{Rose};
+ghost use Rattle.fd_core.specs.Banks.{CountsFailure};
 ghost use Rattle.fd_core.specs.Wishes.{has_failed};
 ghost use Rattle.fwup_wire.specs.Answers.{answer_bytes};
-ghost use Rattle.fwup_wire.specs.Commands.{IsSpoken};
+ghost use Rattle.fwup_wire.specs.Commands.{CommandRoundTrips};
 ghost use Rattle.fwup_wire.specs.Lent.{answer_of, command_of};
 ghost use Rattle.ua_core.specs.Calls.{agent_restart};
 ghost use Rattle.ua_core.specs.Session.{TimedOf};
-ghost use Rattle.fw_node.specs.Cores.{TimedDevice, device_core, session_core, timed};
+ghost use Rattle.fw_node.specs.Cores.{TimedDevice, device_core, session_core, timed_device};
 ghost use Rattle.fw_node.specs.Halves.{CoreOf};
 
 use fd_core::{Bank, Device, Progress, State};
@@ -39,7 +39,7 @@ pub(crate) trait Core<'p> {
     /// The command that it wishes to ask.
     fn wish(&self, given: Self::Given) -> Option<Command<'p>>
         ensures wish { option_map command_of result ≡ (does given).wish (seen self.now) }
-        ensures spoken { IfSome ((does given).wish (seen self.now)) IsSpoken };
+        ensures spoken { IfSome ((does given).wish (seen self.now)) CommandRoundTrips };
 
     /// Whether it may wish a command: where not, it wishes none. It is asked before `wish`, which makes room for a command.
     fn may_wish(&self, given: Self::Given) -> bool
@@ -54,14 +54,14 @@ pub(crate) trait Core<'p> {
         ensures core { seen self.new ≡ ((does given).take (seen self.old) (command_of command.now) quiet result.1).core }
         ensures reply { result.0.items ≡ answer_bytes ((does given).take (seen self.old) (command_of command.now) quiet result.1).answer }
         ensures worked { result.1 ≡ true → faults self.new ≡ faults self.old }
-        ensures failed { result.1 ≡ false → Rose (faults self.old) (faults self.new) }
+        ensures failed { result.1 ≡ false → CountsFailure (faults self.old) (faults self.new) }
         ensures called { result.1 ≡ false → (does given).take_calls_bank (seen self.old) (command_of command.now) quiet ≡ true };
 
     /// Learns the answer to the command that was wished. Whether its bank worked.
     fn learn(&mut self, given: Self::Given, answer: Result<&Answer<'_>, Malformed>) -> bool
         ensures core { seen self.new ≡ (does given).learn (seen self.old) (result_map_both (λ a. answer_of a.now) (λ e. e) answer.entry) result }
         ensures worked { result ≡ true → faults self.new ≡ faults self.old }
-        ensures failed { result ≡ false → Rose (faults self.old) (faults self.new) }
+        ensures failed { result ≡ false → CountsFailure (faults self.old) (faults self.new) }
         ensures called { result ≡ false
             → (does given).learn_calls_bank (seen self.old) (result_map_both (λ a. answer_of a.now) (λ e. e) answer.entry) ≡ true };
 
@@ -155,7 +155,7 @@ impl<'p, B: Bank> Core<'p> for Device<B> {
 
     ghost Seen = { TimedDevice };
 
-    ghost seen = { timed };
+    ghost seen = { timed_device };
 
     ghost does = { λ _. device_core };
 

@@ -3,12 +3,12 @@
 ghost use Rattle.std.specs.Prelude.{◌≡◌, ◌==◌, [], Bool, IfNone, IfSome, None, OnErr, OnOk, false, is_some, not, true};
 ghost use Rattle.mctp_wire.specs.Packet.{IsRead, spelling};
 ghost use Rattle.fd_core.specs.BankCalls.{verdict_calls_bank};
-ghost use Rattle.fd_core.specs.Banks.{Rose};
+ghost use Rattle.fd_core.specs.Banks.{CountsFailure};
 ghost use Rattle.fd_core.specs.Steps.{device_verdict, verdict_after};
 ghost use Rattle.fw_node.specs.BankCalls.{packet_calls_bank};
-ghost use Rattle.fw_node.specs.Cores.{device_core, timed};
+ghost use Rattle.fw_node.specs.Cores.{device_core, timed_device};
 ghost use Rattle.fw_node.specs.Halves.{half_ticks};
-ghost use Rattle.fw_node.specs.Nodes.{DeviceNodeOf, HearsIt, JudgesIt, device_hears, device_restarts, half_of, new_device_node};
+ghost use Rattle.fw_node.specs.Nodes.{DeviceNodeOf, HandlesPacket, HandlesVerdict, device_on_packet, device_restarts, half_of, new_device_node};
 ghost use Rattle.fw_node.specs.Packets.{all_packets};
 
 use crate::cores::has_failed;
@@ -35,7 +35,7 @@ pub struct DeviceNode<B: Bank> {
 
 impl<B: Bank> Model for DeviceNode<B> {
     ghost use Rattle.std.specs.Prelude.{◌≡◌};
-    ghost use Rattle.fw_node.specs.Cores.{timed};
+    ghost use Rattle.fw_node.specs.Cores.{timed_device};
     ghost use Rattle.fw_node.specs.Nodes.{DeviceNodeOf, half_of};
 
     ghost Value = { DeviceNodeOf };
@@ -43,7 +43,7 @@ impl<B: Bank> Model for DeviceNode<B> {
     ghost view = { λ n. record {
       endpoint = n.identity.endpoint;
       tid = n.identity.tid;
-      half = half_of n.deaf (timed n.half.core) n.half.ends;
+      half = half_of n.deaf (timed_device n.half.core) n.half.ends;
       faults = n.half.core.faults;
     } };
 
@@ -99,7 +99,7 @@ impl<B: Bank> DeviceNode<B> {
 
     /// The device.
     pub fn device(&self) -> &Device<B>
-        ensures device { timed result.now ≡ self.now.half.core }
+        ensures device { timed_device result.now ≡ self.now.half.core }
         ensures faults { result.now.faults ≡ self.now.faults }
     {
         &self.half.core
@@ -109,7 +109,7 @@ impl<B: Bank> DeviceNode<B> {
     /// agent changes nothing, and a deaf node drops every packet.
     pub fn on_packet(&mut self, bytes: &[u8], outbox: &mut Outbox)
         requires { outbox.old ≡ [] }
-        ensures heard { HearsIt self.old bytes.now self.new outbox.new }
+        ensures heard { HandlesPacket self.old bytes.now self.new outbox.new }
         ensures endpoint { self.new.endpoint ≡ self.old.endpoint }
     {
         let _works = self.read(bytes, outbox);
@@ -137,7 +137,7 @@ impl<B: Bank> DeviceNode<B> {
     /// # Errors
     /// `NotNow` where no such verdict is waited for. Then nothing changes.
     pub fn verdict(&mut self, verdict: Verdict) -> Result<(), NotNow>
-        ensures judged { OnOk result (JudgesIt self.old verdict self.new) }
+        ensures judged { OnOk result (HandlesVerdict self.old verdict self.new) }
         ensures refused { OnErr result ((works : Bool) → device_verdict self.old.half.core.device verdict works ≡ None) }
         ensures kept { OnErr result (self.new ≡ self.old) }
         ensures tid { self.new.tid ≡ self.old.tid }
@@ -156,7 +156,7 @@ impl<B: Bank> DeviceNode<B> {
         ensures counts { IfSome result (λ works. is_some (device_verdict self.old.half.core.device verdict works) ≡ true) }
         ensures half { IfSome result (λ works. self.new ≡ record self.new { half = record self.old.half { core = record { device = verdict_after self.old.half.core.device verdict works; idle = 0 } } }) }
         ensures worked { IfSome result (λ works. works ≡ true → self.new.faults ≡ self.old.faults) }
-        ensures failed { IfSome result (λ works. works ≡ false → Rose self.old.faults self.new.faults) }
+        ensures failed { IfSome result (λ works. works ≡ false → CountsFailure self.old.faults self.new.faults) }
         ensures called { IfSome result (λ works. works ≡ false → verdict_calls_bank self.old.half.core.device verdict ≡ true) }
         ensures refused { IfNone result ((works : Bool) → device_verdict self.old.half.core.device verdict works ≡ None) }
         ensures kept { result ≡ None → self.new ≡ self.old }
@@ -181,29 +181,29 @@ impl<B: Bank> DeviceNode<B> {
     /// Reads the bytes of a packet and hears it, and tells whether the one call of its bank that it made succeeded.
     fn read(&mut self, bytes: &[u8], outbox: &mut Outbox) -> bool
         requires { outbox.old ≡ [] }
-        ensures half { self.new.half ≡ (device_hears result self.old bytes.now).half }
-        ensures tid { self.new.tid ≡ (device_hears result self.old bytes.now).tid }
-        ensures packets { outbox.new ≡ all_packets self.old.half.unit (device_hears result self.old bytes.now).sent }
+        ensures half { self.new.half ≡ (device_on_packet result self.old bytes.now).half }
+        ensures tid { self.new.tid ≡ (device_on_packet result self.old bytes.now).tid }
+        ensures packets { outbox.new ≡ all_packets self.old.half.unit (device_on_packet result self.old bytes.now).sent }
         ensures worked { result ≡ true → self.new.faults ≡ self.old.faults }
-        ensures failed { result ≡ false → Rose self.old.faults self.new.faults }
+        ensures failed { result ≡ false → CountsFailure self.old.faults self.new.faults }
         ensures called { result ≡ false → packet_calls_bank device_core self.old.half bytes.now ≡ true }
         ensures endpoint { self.new.endpoint ≡ self.old.endpoint }
     {
         let Ok(packet) = mctp_wire::decode(self.unit(), bytes) else {
             return true;
         };
-        self.hear(&packet, outbox)
+        self.accept(&packet, outbox)
     }
 
     /// Hears a packet, and tells whether the one call of its bank that it made succeeded.
-    fn hear(&mut self, packet: &Packet<'_>, outbox: &mut Outbox) -> bool
+    fn accept(&mut self, packet: &Packet<'_>, outbox: &mut Outbox) -> bool
         requires read { IsRead packet.now }
         requires outbox { outbox.old ≡ [] }
-        ensures half { self.new.half ≡ (device_hears result self.old (spelling packet.now)).half }
-        ensures tid { self.new.tid ≡ (device_hears result self.old (spelling packet.now)).tid }
-        ensures packets { outbox.new ≡ all_packets self.old.half.unit (device_hears result self.old (spelling packet.now)).sent }
+        ensures half { self.new.half ≡ (device_on_packet result self.old (spelling packet.now)).half }
+        ensures tid { self.new.tid ≡ (device_on_packet result self.old (spelling packet.now)).tid }
+        ensures packets { outbox.new ≡ all_packets self.old.half.unit (device_on_packet result self.old (spelling packet.now)).sent }
         ensures worked { result ≡ true → self.new.faults ≡ self.old.faults }
-        ensures failed { result ≡ false → Rose self.old.faults self.new.faults }
+        ensures failed { result ≡ false → CountsFailure self.old.faults self.new.faults }
         ensures called { result ≡ false → packet_calls_bank device_core self.old.half (spelling packet.now) ≡ true }
         ensures endpoint { self.new.endpoint ≡ self.old.endpoint }
     {
@@ -211,6 +211,6 @@ impl<B: Bank> DeviceNode<B> {
             return true;
         }
         self.half
-            .hear(&mut self.identity, Role::Device, (), packet, outbox)
+            .handle_packet(&mut self.identity, Role::Device, (), packet, outbox)
     }
 }

@@ -4,7 +4,7 @@ ghost use Rattle.std.specs.Prelude.{◌≡◌, ◌≤◌, None, length, option_m
 ghost use Rattle.mctp_wire.specs.Packet.{IsRead, spelling};
 ghost use Rattle.fwup_wire.specs.Commands.{IsWritable, command_bytes, command_code};
 ghost use Rattle.fwup_wire.specs.Lent.{command_of};
-ghost use Rattle.pldm_exch.specs.Caller.{begun, caller_tick, is_quiet, may_begin, tick_of, tick_word};
+ghost use Rattle.pldm_exch.specs.Caller.{begin_outcome, caller_tick, is_quiet, may_begin, tick_of, tick_word};
 ghost use Rattle.pldm_exch.specs.Requests.{reply_message};
 ghost use Rattle.pldm_exch.specs.Sides.{answered_with, answering_row, asking_after, asking_row};
 ghost use Rattle.fw_node.specs.BothEnds.{IsAsking, ends_new, ends_older};
@@ -123,8 +123,8 @@ impl Ends {
     pub(crate) fn begin(&mut self, command: &Command<'_>) -> Message
         requires may { may_begin self.old.asking.caller ≡ true }
         requires fits { IsWritable (command_of command.now) }
-        ensures request { result ≡ (begun self.old.asking.caller 5 (command_code (command_of command.now)) (command_bytes (command_of command.now))).1 }
-        ensures after { self.new ≡ record self.old { asking = record self.old.asking { caller = (begun self.old.asking.caller 5 (command_code (command_of command.now)) (command_bytes (command_of command.now))).0 } } }
+        ensures request { result ≡ (begin_outcome self.old.asking.caller 5 (command_code (command_of command.now)) (command_bytes (command_of command.now))).1 }
+        ensures after { self.new ≡ record self.old { asking = record self.old.asking { caller = (begin_outcome self.old.asking.caller 5 (command_code (command_of command.now)) (command_bytes (command_of command.now))).0 } } }
     {
         let body = fwup_wire::write(command);
         self.asker.begin(command.code(), body.as_slice())
@@ -139,7 +139,7 @@ impl Ends {
 
     /// Hears a packet, and writes the message that the answer speaks of into `message`.
     #[tactic(auto, using(crate::proofs::Rows::rows, crate::proofs::OneATick::callers_stay))]
-    pub(crate) fn hear(&mut self, packet: &Packet<'_>, message: &mut Message) -> Incoming
+    pub(crate) fn receive(&mut self, packet: &Packet<'_>, message: &mut Message) -> Incoming
         requires read { IsRead packet.now }
         ensures head { HasHead result }
         ensures incoming { incoming_of result message.new ≡ incoming (asking_row self.old.asking (spelling packet.now)) (answering_row self.old.answering (spelling packet.now)) }
@@ -148,10 +148,10 @@ impl Ends {
         ensures lawful { (self.old.answering.unit ≡ self.old.asking.unit) × (self.old.answering.own ≡ self.old.asking.own) × (self.old.answering.peer ≡ self.old.asking.peer) }
         ensures answering { self.new.answering ≡ answering_after (asking_row self.old.asking (spelling packet.now)) self.old.answering (answering_row self.old.answering (spelling packet.now)) }
     {
-        if let Some(command) = self.asker.hear(packet, message) {
+        if let Some(command) = self.asker.on_reply(packet, message) {
             return Incoming::Learnt(command);
         }
-        Incoming::Brought(self.taker.hear(packet, message))
+        Incoming::Brought(self.taker.on_request(packet, message))
     }
 
     /// Answers a new request with a completion code and fields: the message to send, which is kept.

@@ -3,7 +3,7 @@
 ghost use Rattle.std.specs.Prelude.{◌≡◌, ◌≤◌, ◌++◌, ◌+◌, ◌*◌, [], ◌∷◌, Bool, false, length, true};
 ghost use Rattle.mctp_wire.specs.Packet.{IsRead, spelling};
 ghost use Rattle.pldm_base.specs.declared.terminus.Role.{Role};
-ghost use Rattle.fd_core.specs.Banks.{Rose};
+ghost use Rattle.fd_core.specs.Banks.{CountsFailure};
 ghost use Rattle.fwup_wire.specs.Answers.{answer_read};
 ghost use Rattle.pldm_exch.specs.Caller.{caller_tick, is_quiet};
 ghost use Rattle.pldm_exch.specs.Requests.{reply_message};
@@ -11,8 +11,8 @@ ghost use Rattle.pldm_exch.specs.Sides.{answered_with};
 ghost use Rattle.fw_node.specs.BankCalls.{incoming_calls_bank, packet_calls_bank, read_calls_bank};
 ghost use Rattle.fw_node.specs.BothEnds.{IsAsking, ends_new};
 ghost use Rattle.fw_node.specs.Brings.{HasHead, incoming_of};
-ghost use Rattle.fw_node.specs.Halves.{IncomingOf, half_brings, half_grows, half_hears, half_waits, last_part, read_by, recast, reply_read, settled, unwished_abandoned};
-ghost use Rattle.fw_node.specs.Nodes.{finished, half_of, replied};
+ghost use Rattle.fw_node.specs.Halves.{IncomingOf, half_on_incoming, half_grows, half_on_packet, half_waits, last_part, read_by, half_with_core, reply_read, half_after_settle, unwished_abandoned};
+ghost use Rattle.fw_node.specs.Nodes.{node_outcome_of, half_of, half_after_reply};
 ghost use Rattle.fw_node.specs.Packets.{all_packets, sent_by};
 
 use crate::cores::Core;
@@ -25,7 +25,7 @@ use mctp_reasm::Message;
 use mctp_wire::{Packet, Unit};
 use pldm_base::completion::ERROR_UNSUPPORTED_PLDM_CMD;
 use pldm_base::{MAX_REPLY, Reply, Role, TYPE_FIRMWARE_UPDATE, code_alone};
-use pldm_exch::{Brought, CallTick, Request, body_of};
+use pldm_exch::{CallTick, Received, Request, body_of};
 
 /// One half of a pair: both ends for a peer, and the core.
 #[derive(Drop)]
@@ -80,7 +80,7 @@ impl<'p, C: Core<'p>> Half<C> {
     }
 
     /// Hears a packet, and sends what the node answers. Whether the core's bank worked.
-    pub(crate) fn hear(
+    pub(crate) fn handle_packet(
         &mut self,
         identity: &mut Identity,
         role: Role,
@@ -90,11 +90,11 @@ impl<'p, C: Core<'p>> Half<C> {
     ) -> bool
         requires read { IsRead packet.now }
         requires outbox { outbox.old ≡ [] }
-        ensures half { half_of 0 (C.seen self.new.core) self.new.ends ≡ (finished role identity.old.endpoint identity.old.tid (half_hears (C.does given) result (half_of 0 (C.seen self.old.core) self.old.ends) (spelling packet.now))).half }
-        ensures tid { identity.new.tid ≡ (finished role identity.old.endpoint identity.old.tid (half_hears (C.does given) result (half_of 0 (C.seen self.old.core) self.old.ends) (spelling packet.now))).tid }
-        ensures packets { outbox.new ≡ all_packets self.old.ends.asking.unit (finished role identity.old.endpoint identity.old.tid (half_hears (C.does given) result (half_of 0 (C.seen self.old.core) self.old.ends) (spelling packet.now))).sent }
+        ensures half { half_of 0 (C.seen self.new.core) self.new.ends ≡ (node_outcome_of role identity.old.endpoint identity.old.tid (half_on_packet (C.does given) result (half_of 0 (C.seen self.old.core) self.old.ends) (spelling packet.now))).half }
+        ensures tid { identity.new.tid ≡ (node_outcome_of role identity.old.endpoint identity.old.tid (half_on_packet (C.does given) result (half_of 0 (C.seen self.old.core) self.old.ends) (spelling packet.now))).tid }
+        ensures packets { outbox.new ≡ all_packets self.old.ends.asking.unit (node_outcome_of role identity.old.endpoint identity.old.tid (half_on_packet (C.does given) result (half_of 0 (C.seen self.old.core) self.old.ends) (spelling packet.now))).sent }
         ensures worked { result ≡ true → C.faults self.new.core ≡ C.faults self.old.core }
-        ensures failed { result ≡ false → Rose (C.faults self.old.core) (C.faults self.new.core) }
+        ensures failed { result ≡ false → CountsFailure (C.faults self.old.core) (C.faults self.new.core) }
         ensures called { result ≡ false
             → packet_calls_bank (C.does given) (half_of 0 (C.seen self.old.core) self.old.ends) (spelling packet.now) ≡ true }
         ensures endpoint { identity.new.endpoint ≡ identity.old.endpoint }
@@ -104,16 +104,16 @@ impl<'p, C: Core<'p>> Half<C> {
         let mut message = Message::blank();
         match self.incoming(packet, &mut message) {
             Incoming::Learnt(command) => self.learn(given, command, body_of(&message)),
-            Incoming::Brought(Brought::Nothing) => true,
-            Incoming::Brought(Brought::Again) => {
+            Incoming::Brought(Received::Nothing) => true,
+            Incoming::Brought(Received::Again) => {
                 outbox.send(self.ends.unit(), &message);
                 true
             }
-            Incoming::Brought(Brought::New(head)) => {
+            Incoming::Brought(Received::New(head)) => {
                 let request = Request::new(&message, head);
                 self.serve(identity, role, given, &request, outbox)
             }
-            Incoming::Brought(Brought::Strays) => {
+            Incoming::Brought(Received::Strays) => {
                 send_control(self.ends.unit(), &identity.endpoint, &message, outbox);
                 true
             }
@@ -123,7 +123,7 @@ impl<'p, C: Core<'p>> Half<C> {
     /// What a packet brings; the message that the answer speaks of is written into `message`.
     fn incoming(&mut self, packet: &Packet<'_>, message: &mut Message) -> Incoming
         requires read { IsRead packet.now }
-        ensures brings { (given : C.Given) (works : Bool) → half_hears (C.does given) works (half_of 0 (C.seen self.old.core) self.old.ends) (spelling packet.now) ≡ half_brings (C.does given) works (half_of 0 (C.seen self.new.core) self.new.ends) (incoming_of result message.new) }
+        ensures brings { (given : C.Given) (works : Bool) → half_on_packet (C.does given) works (half_of 0 (C.seen self.old.core) self.old.ends) (spelling packet.now) ≡ half_on_incoming (C.does given) works (half_of 0 (C.seen self.new.core) self.new.ends) (incoming_of result message.new) }
         ensures calls { (given : C.Given) → packet_calls_bank (C.does given) (half_of 0 (C.seen self.old.core) self.old.ends) (spelling packet.now)
             ≡ incoming_calls_bank (C.does given) (half_of 0 (C.seen self.new.core) self.new.ends) (incoming_of result message.new) }
         ensures head { HasHead result }
@@ -131,14 +131,14 @@ impl<'p, C: Core<'p>> Half<C> {
         ensures own { self.new.ends.asking.own ≡ self.old.ends.asking.own }
         ensures unit { self.new.ends.asking.unit ≡ self.old.ends.asking.unit }
     {
-        self.ends.hear(packet, message)
+        self.ends.receive(packet, message)
     }
 
     /// The core learns the answer to its request. Whether its bank worked.
     fn learn(&mut self, given: C::Given, command: u8, reply: &[u8]) -> bool
-        ensures half { half_of 0 (C.seen self.new.core) self.new.ends ≡ recast (C.does given) (half_of 0 (C.seen self.old.core) self.old.ends) ((C.does given).learn (C.seen self.old.core) (answer_read command reply.now) result) }
+        ensures half { half_of 0 (C.seen self.new.core) self.new.ends ≡ half_with_core (C.does given) (half_of 0 (C.seen self.old.core) self.old.ends) ((C.does given).learn (C.seen self.old.core) (answer_read command reply.now) result) }
         ensures worked { result ≡ true → C.faults self.new.core ≡ C.faults self.old.core }
-        ensures failed { result ≡ false → Rose (C.faults self.old.core) (C.faults self.new.core) }
+        ensures failed { result ≡ false → CountsFailure (C.faults self.old.core) (C.faults self.new.core) }
         ensures called { result ≡ false
             → (C.does given).learn_calls_bank (C.seen self.old.core) (answer_read command reply.now) ≡ true }
         ensures own { self.new.ends.asking.own ≡ self.old.ends.asking.own }
@@ -154,7 +154,7 @@ impl<'p, C: Core<'p>> Half<C> {
         ensures core { C.seen self.new.core ≡ (C.does given).learn (C.seen self.old.core) (answer_read command reply.now) result }
         ensures ends { self.new.ends ≡ self.old.ends }
         ensures worked { result ≡ true → C.faults self.new.core ≡ C.faults self.old.core }
-        ensures failed { result ≡ false → Rose (C.faults self.old.core) (C.faults self.new.core) }
+        ensures failed { result ≡ false → CountsFailure (C.faults self.old.core) (C.faults self.new.core) }
         ensures called { result ≡ false
             → (C.does given).learn_calls_bank (C.seen self.old.core) (answer_read command reply.now) ≡ true }
     {
@@ -175,11 +175,11 @@ impl<'p, C: Core<'p>> Half<C> {
         outbox: &mut Outbox,
     ) -> bool
         requires { outbox.old ≡ [] }
-        ensures half { half_of 0 (C.seen self.new.core) self.new.ends ≡ (finished role identity.old.endpoint identity.old.tid (half_brings (C.does given) result (half_of 0 (C.seen self.old.core) self.old.ends) (IncomingOf.New request.now))).half }
-        ensures tid { identity.new.tid ≡ (finished role identity.old.endpoint identity.old.tid (half_brings (C.does given) result (half_of 0 (C.seen self.old.core) self.old.ends) (IncomingOf.New request.now))).tid }
-        ensures packets { outbox.new ≡ all_packets self.old.ends.asking.unit (finished role identity.old.endpoint identity.old.tid (half_brings (C.does given) result (half_of 0 (C.seen self.old.core) self.old.ends) (IncomingOf.New request.now))).sent }
+        ensures half { half_of 0 (C.seen self.new.core) self.new.ends ≡ (node_outcome_of role identity.old.endpoint identity.old.tid (half_on_incoming (C.does given) result (half_of 0 (C.seen self.old.core) self.old.ends) (IncomingOf.New request.now))).half }
+        ensures tid { identity.new.tid ≡ (node_outcome_of role identity.old.endpoint identity.old.tid (half_on_incoming (C.does given) result (half_of 0 (C.seen self.old.core) self.old.ends) (IncomingOf.New request.now))).tid }
+        ensures packets { outbox.new ≡ all_packets self.old.ends.asking.unit (node_outcome_of role identity.old.endpoint identity.old.tid (half_on_incoming (C.does given) result (half_of 0 (C.seen self.old.core) self.old.ends) (IncomingOf.New request.now))).sent }
         ensures worked { result ≡ true → C.faults self.new.core ≡ C.faults self.old.core }
-        ensures failed { result ≡ false → Rose (C.faults self.old.core) (C.faults self.new.core) }
+        ensures failed { result ≡ false → CountsFailure (C.faults self.old.core) (C.faults self.new.core) }
         ensures called { result ≡ false
             → incoming_calls_bank (C.does given) (half_of 0 (C.seen self.old.core) self.old.ends) (IncomingOf.New request.now) ≡ true }
         ensures endpoint { identity.new.endpoint ≡ identity.old.endpoint }
@@ -208,10 +208,10 @@ impl<'p, C: Core<'p>> Half<C> {
     /// Takes a firmware update command, and answers it. Whether the core's bank worked.
     fn take(&mut self, given: C::Given, request: &Request<'_>, outbox: &mut Outbox) -> bool
         requires { outbox.old ≡ [] }
-        ensures half { half_of 0 (C.seen self.new.core) self.new.ends ≡ settled (C.does given) (replied (half_of 0 (reply_read (C.does given) (is_quiet self.old.ends.asking.caller) result (C.seen self.old.core) (read_by (C.does given) request.now.head.command request.now.body)).core self.old.ends) (reply_message request.now.message request.now.head (reply_read (C.does given) (is_quiet self.old.ends.asking.caller) result (C.seen self.old.core) (read_by (C.does given) request.now.head.command request.now.body)).reply)) }
+        ensures half { half_of 0 (C.seen self.new.core) self.new.ends ≡ half_after_settle (C.does given) (half_after_reply (half_of 0 (reply_read (C.does given) (is_quiet self.old.ends.asking.caller) result (C.seen self.old.core) (read_by (C.does given) request.now.head.command request.now.body)).core self.old.ends) (reply_message request.now.message request.now.head (reply_read (C.does given) (is_quiet self.old.ends.asking.caller) result (C.seen self.old.core) (read_by (C.does given) request.now.head.command request.now.body)).reply)) }
         ensures packets { outbox.new ≡ all_packets self.old.ends.asking.unit (reply_message request.now.message request.now.head (reply_read (C.does given) (is_quiet self.old.ends.asking.caller) result (C.seen self.old.core) (read_by (C.does given) request.now.head.command request.now.body)).reply ∷ []) }
         ensures worked { result ≡ true → C.faults self.new.core ≡ C.faults self.old.core }
-        ensures failed { result ≡ false → Rose (C.faults self.old.core) (C.faults self.new.core) }
+        ensures failed { result ≡ false → CountsFailure (C.faults self.old.core) (C.faults self.new.core) }
         ensures called { result ≡ false → read_calls_bank (C.does given) (is_quiet self.old.ends.asking.caller) (C.seen self.old.core)
             (read_by (C.does given) request.now.head.command request.now.body) ≡ true }
         ensures own { self.new.ends.asking.own ≡ self.old.ends.asking.own }
@@ -230,7 +230,7 @@ impl<'p, C: Core<'p>> Half<C> {
         ensures ends { self.new.ends ≡ self.old.ends }
         ensures reply { result.0.items ≡ (reply_read (C.does given) (is_quiet self.old.ends.asking.caller) result.1 (C.seen self.old.core) (read_by (C.does given) request.now.head.command request.now.body)).reply }
         ensures worked { result.1 ≡ true → C.faults self.new.core ≡ C.faults self.old.core }
-        ensures failed { result.1 ≡ false → Rose (C.faults self.old.core) (C.faults self.new.core) }
+        ensures failed { result.1 ≡ false → CountsFailure (C.faults self.old.core) (C.faults self.new.core) }
         ensures called { result.1 ≡ false → read_calls_bank (C.does given) (is_quiet self.old.ends.asking.caller) (C.seen self.old.core)
             (read_by (C.does given) request.now.head.command request.now.body) ≡ true }
     {

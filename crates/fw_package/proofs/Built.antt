@@ -5,11 +5,11 @@ use Rattle.std.proofs.lemmas.Bool.{eqb-true}
 use Rattle.std.proofs.lemmas.List.{length-append, length-take-le, take-append-drop, drop-drop}
 use Rattle.std.specs.Option.{option_and_then}
 use Rattle.byteorder.specs.Endian.{little_number}
-use Rattle.fw_package.specs.Components.{component_of, components_of, place_of, placed}
+use Rattle.fw_package.specs.Components.{component_of, components_of, place_of, component_at_place}
 use Rattle.fw_package.specs.Grammar.{AreInTurn, IsComponent, IsDescriptor, IsRecord, four_bytes}
 use Rattle.fw_package.specs.Layout.{after_components, after_records}
 use Rattle.fw_package.specs.Package.{ComponentOf, DescriptorOf, RecordOf}
-use Rattle.fw_package.specs.Records.{◌>>=◌, descriptor_split, descriptors_split, named, record_of, records_of, split_after}
+use Rattle.fw_package.specs.Records.{◌>>=◌, descriptor_split, descriptors_split, components_named, record_of, records_of, split_after}
 use Rattle.fw_package.specs.declared.fault.PackageFault.{PackageFault}
 use Rattle.fw_package.specs.declared.fault.PackageFault.TheVariants as faults
 
@@ -130,12 +130,12 @@ record_built size count bytes r h long =
     let mapped = split_is size head.value.1 bitmap.value bitmap.is in
     let named_text = split_is (slice_index head.value.0 8) bitmap.value.1 text.value text.is in
     let described = descriptors_built (slice_index head.value.0 2) text.value.1 descriptors.value descriptors.is in
-    let last = if_ok (length descriptors.value.1 == little_number 2 (drop 9 head.value.0)) (record_from head.value.0 text.value.0 descriptors.value.0 (named bitmap.value.0 count)) r faults.RecordLength descriptors.gives in
+    let last = if_ok (length descriptors.value.1 == little_number 2 (drop 9 head.value.0)) (record_from head.value.0 text.value.0 descriptors.value.0 (components_named bitmap.value.0 count)) r faults.RecordLength descriptors.gives in
     let rest_is : head.value.1 ≡ bitmap.value.0 ++ (text.value.0 ++ (described.first.front ++ descriptors.value.1)) =
     mapped.is ∙ ap (λ xs. bitmap.value.0 ++ xs) (named_text.is ∙ ap (λ xs. text.value.0 ++ xs) described.first.is) in
-    let built : IsRecord size count (head.value.0 ++ head.value.1) (record_from head.value.0 text.value.0 descriptors.value.0 (named bitmap.value.0 count)) =
+    let built : IsRecord size count (head.value.0 ++ head.value.1) (record_from head.value.0 text.value.0 descriptors.value.0 (components_named bitmap.value.0 count)) =
     eleven (λ xs. little_number 2 (xs ++ head.value.1) ≡ length (xs ++ head.value.1) → length text.value.0 ≡ slice_index xs 8 → length descriptors.value.0 ≡ slice_index xs 2 → length descriptors.value.1 ≡ little_number 2 (drop 9 xs)
-    → IsRecord size count (xs ++ head.value.1) (record_from xs text.value.0 descriptors.value.0 (named bitmap.value.0 count)))
+    → IsRecord size count (xs ++ head.value.1) (record_from xs text.value.0 descriptors.value.0 (components_named bitmap.value.0 count)))
     (λ l0 l1 n f0 f1 f2 f3 kind t d0 d1 whole texted counted sized. (
       omega (arith, whole),
       refl,
@@ -154,7 +154,7 @@ record_built size count bytes r h long =
       },
     ))
     head.value.0 fixed.fits (rw fixed.is at long) named_text.fits described.counted (eqb-true (length descriptors.value.1) (little_number 2 (drop 9 head.value.0)) last.0) in
-    subst (IsRecord size count bytes) last.1 (subst (λ xs. IsRecord size count xs (record_from head.value.0 text.value.0 descriptors.value.0 (named bitmap.value.0 count))) (sym fixed.is) built)
+    subst (IsRecord size count bytes) last.1 (subst (λ xs. IsRecord size count xs (record_from head.value.0 text.value.0 descriptors.value.0 (components_named bitmap.value.0 count))) (sym fixed.is) built)
 
 -- the walk over one more record, and what is left
 record_walked_from : (short cut : Bool) (n : ℕ) (bytes rest : List ℕ) → nat_lt (length bytes) 2 ≡ short → nat_lt (length bytes) (little_number 2 bytes) ≡ cut
@@ -234,7 +234,7 @@ component_built file bytes c h long =
     (λ c0 c1 i0 i1 s0 s1 s2 s3 o0 o1 m0 m1 f0 f1 f2 f3 z0 z1 z2 z3 kind t xs h long.
     let offset : ℕ = four_bytes f0 f1 f2 f3 in
     let size : ℕ = four_bytes z0 z1 z2 z3 in
-    let split = unless_ok (nat_lt (length file) (offset + size)) (placed file (place_of (c0 ∷ c1 ∷ i0 ∷ i1 ∷ s0 ∷ s1 ∷ s2 ∷ s3 ∷ o0 ∷ o1 ∷ m0 ∷ m1 ∷ f0 ∷ f1 ∷ f2 ∷ f3 ∷ z0 ∷ z1 ∷ z2 ∷ z3 ∷ kind ∷ t ∷ xs))) c faults.ImageRange h in
+    let split = unless_ok (nat_lt (length file) (offset + size)) (component_at_place file (place_of (c0 ∷ c1 ∷ i0 ∷ i1 ∷ s0 ∷ s1 ∷ s2 ∷ s3 ∷ o0 ∷ o1 ∷ m0 ∷ m1 ∷ f0 ∷ f1 ∷ f2 ∷ f3 ∷ z0 ∷ z1 ∷ z2 ∷ z3 ∷ kind ∷ t ∷ xs))) c faults.ImageRange h in
     let texted = length-take-le t xs (omega (arith, long)) in
     record {
       part = c0 ∷ c1 ∷ i0 ∷ i1 ∷ s0 ∷ s1 ∷ s2 ∷ s3 ∷ o0 ∷ o1 ∷ m0 ∷ m1 ∷ f0 ∷ f1 ∷ f2 ∷ f3 ∷ z0 ∷ z1 ∷ z2 ∷ z3 ∷ kind ∷ t ∷ take t xs;

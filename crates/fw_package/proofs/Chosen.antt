@@ -7,7 +7,7 @@ use Rattle.std.proofs.lemmas.Bool.{eq-eqb, eqb-true}
 use Rattle.std.proofs.lemmas.List.Elements.{All-cons}
 use Rattle.std.proofs.lemmas.List.Quantifiers.{position-Some}
 use Rattle.fw_package.specs.Choice.{component_at, has_key, has_large_image, has_long_text, has_twin, is_among, is_for, no_record, plan_of, record_at, record_number, same_descriptor}
-use Rattle.fw_package.specs.Laws.{ChoosesFirst, IsFor, PlansKeysOnce, PlansNamedImages}
+use Rattle.fw_package.specs.Laws.{ChoosesFirst, IsRecordFor, PlansKeysOnce, PlansNamedImages}
 use Rattle.fw_package.specs.Package.{ComponentOf, DescriptorOf, PackageText, RecordOf}
 use Rattle.fw_package.specs.declared.fault.PlanFault.{PlanFault}
 use Rattle.fw_package.specs.declared.fault.PlanFault.TheVariants as faults
@@ -88,17 +88,17 @@ not_none : (n : ℕ) → not (n == 0) ≡ true → 1 ≤ n
 not_none zero h = absurd (cc)
 not_none (suc n) h = omega arith
 
-is_for_is : (device : List DescriptorOf) (r : RecordOf) → is_for device r ≡ true → IsFor device r
+is_for_is : (device : List DescriptorOf) (r : RecordOf) → is_for device r ≡ true → IsRecordFor device r
 is_for_is device r h =
     let t = both (not (length r.descriptors == 0)) (list_all (is_among device) r.descriptors) h in
     record { some = not_none (length r.descriptors) t.0; among = all_among device r.descriptors t.1 }
 
-is_for_there : (device : List DescriptorOf) (r : RecordOf) → IsFor device r → is_for device r ≡ true
+is_for_there : (device : List DescriptorOf) (r : RecordOf) → IsRecordFor device r → is_for device r ≡ true
 is_for_there device r h =
     let more = h.some in
     rw (ne_eqb (length r.descriptors) 0 (λ e. absurd (omega (arith, e))), all_among_there device r.descriptors h.among) refl
 
-not_for : (device : List DescriptorOf) (r : RecordOf) → is_for device r ≡ false → IsFor device r → ⊥
+not_for : (device : List DescriptorOf) (r : RecordOf) → is_for device r ≡ false → IsRecordFor device r → ⊥
 not_for device r h is = let true_too = is_for_there device r is in absurd (cc)
 
 -- a search that finds nothing passes over each
@@ -119,8 +119,8 @@ passes_over : (test : RecordOf → Bool) (rs : List RecordOf) (k : ℕ) (d : Rec
 passes_over test rs k d none lt h = found_from (nat_lt (position_or_len test rs) (length rs)) (position_or_len test rs) (length rs) refl none (passed test rs k d lt h)
 
 chosen : (p : PackageText) (device : List DescriptorOf) (o : Option ℕ) → record_number p device ≡ o
-    → MatchOption o ((k : ℕ) → k < length p.records → ¬ IsFor device (record_at p k))
-    (λ n. (n < length p.records) × IsFor device (record_at p n) × ((k : ℕ) → k < n → ¬ IsFor device (record_at p k)))
+    → MatchOption o ((k : ℕ) → k < length p.records → ¬ IsRecordFor device (record_at p k))
+    (λ n. (n < length p.records) × IsRecordFor device (record_at p n) × ((k : ℕ) → k < n → ¬ IsRecordFor device (record_at p k)))
 chosen p device None e = λ k lt is. passes_over (is_for device) p.records k no_record e lt (is_for_there device (record_at p k) is)
 chosen p device (Some n) e =
     let found = position-Some (is_for device) p.records n no_record e in

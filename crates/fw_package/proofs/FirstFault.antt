@@ -7,12 +7,12 @@ use Rattle.std.proofs.lemmas.List.{take-append-drop}
 use Rattle.std.proofs.lemmas.Slice.Eq.{starts_is}
 use Rattle.std.specs.List.{starts_with}
 use Rattle.byteorder.specs.Endian.{little_number}
-use Rattle.fw_package.specs.Components.{component_of, components_of, place_of, placed}
+use Rattle.fw_package.specs.Components.{component_of, components_of, place_of, component_at_place}
 use Rattle.fw_package.specs.Crc.{crc_of}
-use Rattle.fw_package.specs.Faults.{HasBitmaps, HasImages, HasRecords, IsFirstFault, IsIdentified, IsLaidOut, IsRevised, IsSigned, bits_in, header_in, size_in}
+use Rattle.fw_package.specs.Faults.{HasBitmaps, HasImages, HasRecords, IsFirstPackageFault, IsIdentified, IsLaidOut, IsRevised, IsSigned, bits_in, header_in, size_in}
 use Rattle.fw_package.specs.Layout.{LayoutOf, layout_of, text_size_of}
 use Rattle.fw_package.specs.Package.{ComponentOf}
-use Rattle.fw_package.specs.Reading.{bitmap_size_of, checked, header_of, package_identifier, package_of, parts_of}
+use Rattle.fw_package.specs.Reading.{bitmap_size_of, header_before_checksum, header_of, package_identifier, package_of, parts_of}
 use Rattle.fw_package.specs.Records.{◌>>=◌, descriptor_split, descriptors_split, record_of, records_of, split_after}
 use Rattle.fw_package.specs.declared.fault.PackageFault.{PackageFault}
 use Rattle.fw_package.specs.declared.fault.PackageFault.TheVariants as faults
@@ -45,20 +45,20 @@ unnamed bytes h is =
 named : (bytes : List ℕ) → starts_with nat_eq bytes package_identifier ≡ true → take 16 bytes ≡ package_identifier
 named bytes h = ap (take 16) ((starts_is Decides-eqb bytes package_identifier (starts_with nat_eq bytes package_identifier) refl).0 h)
 
-header_fault : (bytes : List ℕ) (e : PackageFault) → header_of bytes ≡ Err e → IsFirstFault bytes e
+header_fault : (bytes : List ℕ) (e : PackageFault) → header_of bytes ≡ Err e → IsFirstPackageFault bytes e
 unfolding header_of
 header_fault bytes e h =
-    stops_if (IsFirstFault bytes) (nat_lt (length bytes) 36) faults.Short e _ h (λ short. ltb-true (length bytes) 36 short) (λ long h1.
-    stops_if (IsFirstFault bytes) (not (starts_with nat_eq bytes package_identifier)) faults.Identifier e _ h1
+    stops_if (IsFirstPackageFault bytes) (nat_lt (length bytes) 36) faults.Short e _ h (λ short. ltb-true (length bytes) 36 short) (λ long h1.
+    stops_if (IsFirstPackageFault bytes) (not (starts_with nat_eq bytes package_identifier)) faults.Identifier e _ h1
     (λ other. (ltb-false (length bytes) 36 long, unnamed bytes (not_true (starts_with nat_eq bytes package_identifier) other))) (λ same h2.
     let begins : IsIdentified bytes = record {
       long = ltb-false (length bytes) 36 long;
       identified = named bytes (not_false (starts_with nat_eq bytes package_identifier) same);
     } in
-    stops_if (IsFirstFault bytes) (not (slice_index bytes 16 == 1)) faults.Revision e _ h2
+    stops_if (IsFirstPackageFault bytes) (not (slice_index bytes 16 == 1)) faults.Revision e _ h2
     (λ other. (begins, not_equal (slice_index bytes 16) 1 (not_true (slice_index bytes 16 == 1) other))) (λ same h3.
     let revised : IsRevised bytes = record { begins = begins; revised = eqb-true (slice_index bytes 16) 1 (not_false (slice_index bytes 16 == 1) same) } in
-    stops_if (IsFirstFault bytes) (nat_lt (length bytes) (size_in bytes)) faults.HeaderSize e _ h3
+    stops_if (IsFirstPackageFault bytes) (nat_lt (length bytes) (size_in bytes)) faults.HeaderSize e _ h3
     (λ short. (revised, λ fits. let less = ltb-true (length bytes) (size_in bytes) short in absurd (omega (arith, less, fits)))) (λ fits h4. absurd (cc)))))
 
 -- a header that is read
@@ -154,8 +154,8 @@ unsigned_from true header before e is h = absurd (cc)
 unsigned_from false header before e is h =
     (cc, not_equal (crc_of (take (length header - 4) header)) (little_number 4 (drop (length header - 4) header)) is)
 
-unsigned : (header : List ℕ) (e : PackageFault) → checked header ≡ Err e → (faults.Checksum ≡ e) × ¬ IsSigned header
-unfolding checked
+unsigned : (header : List ℕ) (e : PackageFault) → header_before_checksum header ≡ Err e → (faults.Checksum ≡ e) × ¬ IsSigned header
+unfolding header_before_checksum
 unsigned header e h = unsigned_from _ header (take (length header - 4) header) e refl h
 
 signed_from : (b : Bool) (header before x : List ℕ) → (crc_of (take (length header - 4) header) == little_number 4 (drop (length header - 4) header)) ≡ b
@@ -163,8 +163,8 @@ signed_from : (b : Bool) (header before x : List ℕ) → (crc_of (take (length 
 signed_from true header before x is h = eqb-true (crc_of (take (length header - 4) header)) (little_number 4 (drop (length header - 4) header)) is
 signed_from false header before x is h = absurd (cc)
 
-signed : (header x : List ℕ) → checked header ≡ Ok x → IsSigned header
-unfolding checked
+signed : (header x : List ℕ) → header_before_checksum header ≡ Ok x → IsSigned header
+unfolding header_before_checksum
 signed header x h = signed_from _ header (take (length header - 4) header) x refl h
 
 -- the images
@@ -177,7 +177,7 @@ past_end false file bytes c e is h = absurd (cc)
 component_past : (file bytes : List ℕ) (e : PackageFault) → component_of file bytes ≡ Err e
     → (faults.ImageRange ≡ e) × ¬ ((place_of bytes).offset + (place_of bytes).size ≤ length file)
 unfolding component_of
-component_past file bytes e h = past_end _ file bytes (placed file (place_of bytes)) e refl h
+component_past file bytes e h = past_end _ file bytes (component_at_place file (place_of bytes)) e refl h
 
 no_images : (file : List ℕ) (n : ℕ) (bytes : List ℕ) (e : PackageFault) → components_of file n bytes ≡ Err e → (faults.ImageRange ≡ e) × ¬ HasImages file n bytes
 unfolding components_of
@@ -189,31 +189,31 @@ no_images file (suc n) bytes e h =
     (λ others. let past = no_images file n (drop (22 + text_size_of 21 bytes) bytes) e others in (past.0, λ all. past.1 all.1))
     (λ others others_is h2. absurd (cc)))
 
-pub first_fault : (bytes : List ℕ) (e : PackageFault) → package_of bytes ≡ Err e → IsFirstFault bytes e
+pub first_fault : (bytes : List ℕ) (e : PackageFault) → package_of bytes ≡ Err e → IsFirstPackageFault bytes e
 unfolding package_of
 first_fault bytes e h =
-    stops (IsFirstFault bytes e) (header_of bytes) _ e h (header_fault bytes e) (λ header header_is h1.
+    stops (IsFirstPackageFault bytes e) (header_of bytes) _ e h (header_fault bytes e) (λ header header_is h1.
     let built = header_built bytes header header_is in
     let begins = revised_header bytes header header_is in
-    stops (IsFirstFault bytes e) (parts_of (layout_of header)) _ e h1
+    stops (IsFirstPackageFault bytes e) (parts_of (layout_of header)) _ e h1
     (λ none. let no = no_parts (layout_of header) e none in
-    subst (IsFirstFault bytes) no.0 (begins, λ fits. ap layout_of built.is ∙ no.1)) (λ l l_is h2.
+    subst (IsFirstPackageFault bytes) no.0 (begins, λ fits. ap layout_of built.is ∙ no.1)) (λ l l_is h2.
     let laid : IsLaidOut bytes l = record { begins = begins; fits = built.fits; ends = ap layout_of built.is ∙ some_layout (layout_of header) l l_is } in
     let bits_are : little_number 2 (drop 32 header) ≡ bits_in bytes = ap (λ xs. little_number 2 (drop 32 xs)) (sym built.is) in
-    stops (IsFirstFault bytes e) (bitmap_size_of (little_number 2 (drop 32 header)) l.component_count) _ e h2
+    stops (IsFirstPackageFault bytes e) (bitmap_size_of (little_number 2 (drop 32 header)) l.component_count) _ e h2
     (λ none. let no = no_bitmaps (little_number 2 (drop 32 header)) l.component_count e none in
-    subst (IsFirstFault bytes) no.0 (l, laid, rw bits_are at no.1)) (λ size size_is h3.
+    subst (IsFirstPackageFault bytes) no.0 (l, laid, rw bits_are at no.1)) (λ size size_is h3.
     let bitmap = bitmap_built (little_number 2 (drop 32 header)) l.component_count size size_is in
     let bitmaps : HasBitmaps (bits_in bytes) l.component_count = rw (← bits_are) record { there = bitmap.there; whole = bitmap.whole; enough = bitmap.enough } in
     let size_in_bits : size ≡ bits_in bytes / 8 = sym bitmap.is ∙ ap (λ n. n / 8) bits_are in
-    stops (IsFirstFault bytes e) (records_of size l.component_count l.record_count l.records) _ e h3
+    stops (IsFirstPackageFault bytes e) (records_of size l.component_count l.record_count l.records) _ e h3
     (λ none. let no = stopped_at (records_of size l.component_count l.record_count l.records) e (records_length size l.component_count l.record_count l.records) none in
-    subst (IsFirstFault bytes) no.0 (l, laid, bitmaps, rw size_in_bits at no.1)) (λ rs rs_is h4.
+    subst (IsFirstPackageFault bytes) no.0 (l, laid, bitmaps, rw size_in_bits at no.1)) (λ rs rs_is h4.
     let recorded : HasRecords bytes l = rw size_in_bits at (read_well (records_of size l.component_count l.record_count l.records) rs rs_is) in
-    stops (IsFirstFault bytes e) (checked header) _ e h4
+    stops (IsFirstPackageFault bytes e) (header_before_checksum header) _ e h4
     (λ none. let no = unsigned header e none in
-    subst (IsFirstFault bytes) no.0 (l, laid, bitmaps, recorded, subst (λ xs. ¬ IsSigned xs) (sym built.is) no.1)) (λ before before_is h5.
+    subst (IsFirstPackageFault bytes) no.0 (l, laid, bitmaps, recorded, subst (λ xs. ¬ IsSigned xs) (sym built.is) no.1)) (λ before before_is h5.
     let signs : IsSigned (header_in bytes) = subst IsSigned (sym built.is) (signed header before before_is) in
-    stops (IsFirstFault bytes e) (components_of bytes l.component_count l.components) _ e h5
+    stops (IsFirstPackageFault bytes e) (components_of bytes l.component_count l.components) _ e h5
     (λ none. let no = no_images bytes l.component_count l.components e none in
-    subst (IsFirstFault bytes) no.0 (l, laid, bitmaps, recorded, signs, no.1)) (λ cs cs_is h6. absurd (cc)))))))
+    subst (IsFirstPackageFault bytes) no.0 (l, laid, bitmaps, recorded, signs, no.1)) (λ cs cs_is h6. absurd (cc)))))))

@@ -9,7 +9,7 @@ use Rattle.std.proofs.lemmas.Bool.Decides.{eqb_tells}
 use Rattle.std.proofs.lemmas.List.FromFn.{get_or-map-range_with_len}
 use Rattle.std.proofs.lemmas.Nat.Bits.{bit_at-suc, bit_at_lowest}
 use Rattle.fw_package.specs.Asked.{are_uses}
-use Rattle.fw_package.specs.Records.{is_named, named}
+use Rattle.fw_package.specs.Records.{is_named, components_named}
 use Rattle.fw_package.specs.Writing.{bitmap_byte, bitmap_of, bits_of, is_used}
 
 low_bit : (b : Bool) (n : ℕ) → ((if b then 1 else 0) + 2 * n) % 2 ≡ (if b then 1 else 0)
@@ -100,8 +100,8 @@ same_named size from zero uses le = refl
 same_named size from (suc n) uses le =
     rw (named_here size from uses (omega (arith, le)), same_named size (from + 1) n uses (omega (arith, le))) refl
 
-pub named_back : (size count : ℕ) (uses : List ℕ) → count ≤ 8 * size → are_uses count 0 uses ≡ true → named (bitmap_of size uses) count ≡ uses
-unfolding named
+pub named_back : (size count : ℕ) (uses : List ℕ) → count ≤ 8 * size → are_uses count 0 uses ≡ true → components_named (bitmap_of size uses) count ≡ uses
+unfolding components_named
 named_back size count uses fits h = same_named size 0 count uses (omega (arith, fits)) ∙ used_range count 0 count uses (omega arith) h
 
 pub uses_rise : (count from : ℕ) (uses : List ℕ) → are_uses count from uses ≡ true → IsStrictlyIncreasing uses

@@ -9,7 +9,7 @@ use Rattle.fw_package.specs.Components.{components_of}
 use Rattle.fw_package.specs.Grammar.{AreInTurn, IsComponent, IsPackage, IsRecord, four_bytes, two_bytes}
 use Rattle.fw_package.specs.Layout.{after_components, after_records, layout_of}
 use Rattle.fw_package.specs.Package.{ComponentOf, PackageText, RecordOf}
-use Rattle.fw_package.specs.Reading.{bitmap_size_of, checked, header_of, package_identifier, package_of}
+use Rattle.fw_package.specs.Reading.{bitmap_size_of, header_before_checksum, header_of, package_identifier, package_of}
 use Rattle.fw_package.specs.Records.{records_of}
 use Rattle.fw_package.proofs.Parts.{after_front, components_reads, components_walked, drop_front, records_reads, records_walked, take_front}
 
@@ -101,8 +101,8 @@ pub bitmap_reads : (bits count : ℕ) → bits ≢ 0 → bits % 8 ≡ 0 → coun
 unfolding bitmap_size_of
 bitmap_reads bits count there whole enough = rw (ne_eqb bits 0 there, eq-eqb (bits % 8) 0 whole, le-ltb bits count enough) refl
 
-checked_reads : (x0 x1 x2 x3 : ℕ) (before : List ℕ) → four_bytes x0 x1 x2 x3 ≡ crc_of before → checked (before ++ x0 ∷ x1 ∷ x2 ∷ x3 ∷ []) ≡ Ok before
-unfolding checked
+checked_reads : (x0 x1 x2 x3 : ℕ) (before : List ℕ) → four_bytes x0 x1 x2 x3 ≡ crc_of before → header_before_checksum (before ++ x0 ∷ x1 ∷ x2 ∷ x3 ∷ []) ≡ Ok before
+unfolding header_before_checksum
 checked_reads x0 x1 x2 x3 before signed =
     let all = length-append before (x0 ∷ x1 ∷ x2 ∷ x3 ∷ []) in
     let front : take (length (before ++ x0 ∷ x1 ∷ x2 ∷ x3 ∷ []) - 4) (before ++ x0 ∷ x1 ∷ x2 ∷ x3 ∷ []) ≡ before = take_front before (x0 ∷ x1 ∷ x2 ∷ x3 ∷ []) (length (before ++ x0 ∷ x1 ∷ x2 ∷ x3 ∷ []) - 4) (omega arith) in
@@ -128,7 +128,7 @@ package_reads bytes p k =
     let records_are : records_of (two_bytes k.b0 k.b1 / 8) (length p.components) k.m (k.records ++ k.n0 ∷ k.n1 ∷ (k.components ++ sum)) ≡ Ok p.records =
     ap (λ n. records_of (two_bytes k.b0 k.b1 / 8) (length p.components) n (k.records ++ k.n0 ∷ k.n1 ∷ (k.components ++ sum))) k.record_count
     ∙ records_reads (two_bytes k.b0 k.b1 / 8) (length p.components) k.records (k.n0 ∷ k.n1 ∷ (k.components ++ sum)) p.records k.recorded in
-    let checked_is : checked (before ++ sum) ≡ Ok before = checked_reads k.x0 k.x1 k.x2 k.x3 before (k.signed ∙ ap crc_of k.before_is) in
+    let checked_is : header_before_checksum (before ++ sum) ≡ Ok before = checked_reads k.x0 k.x1 k.x2 k.x3 before (k.signed ∙ ap crc_of k.before_is) in
     let components_are : components_of bytes (length p.components) (k.components ++ sum) ≡ Ok p.components = components_reads bytes k.components sum p.components k.composed in
     let all = length-append before sum in
     let size : length (before ++ sum) ≡ p.header_size = all ∙ sym whole ∙ k.size in

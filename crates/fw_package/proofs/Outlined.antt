@@ -6,11 +6,11 @@ use Rattle.std.proofs.lemmas.List.{drop-take, get_or-drop, get_or-take, length-t
 use Rattle.std.specs.Result.{result_map_both}
 use Rattle.byteorder.specs.Endian.{little_number}
 use Rattle.byteorder.specs.Numbers.{little_from-take}
-use Rattle.fw_package.specs.Components.{PlaceOf, component_of, components_of, place_of, placed}
+use Rattle.fw_package.specs.Components.{PlaceOf, component_of, components_of, place_of, component_at_place}
 use Rattle.fw_package.specs.Layout.{layout_of, text_size_of}
-use Rattle.fw_package.specs.Outlines.{ContentsOf, IsBeginning, OutlineOf, contents_of, its_place, outline_of, outlined, place_within, places_of}
+use Rattle.fw_package.specs.Outlines.{ContentsOf, IsBeginning, OutlineOf, contents_of, its_place, outline_of, outline_of_package, place_within, places_of}
 use Rattle.fw_package.specs.Package.{ComponentOf, PackageText}
-use Rattle.fw_package.specs.Reading.{bitmap_size_of, checked, header_of, package_of, parts_of}
+use Rattle.fw_package.specs.Reading.{bitmap_size_of, header_before_checksum, header_of, package_of, parts_of}
 use Rattle.fw_package.specs.Records.{◌>>=◌, records_of}
 use Rattle.fw_package.specs.declared.fault.PackageFault.{PackageFault}
 use Rattle.fw_package.specs.declared.fault.PackageFault.TheVariants.{ImageRange}
@@ -66,7 +66,7 @@ contents_taken file small = rw (header_taken file small) refl
 
 -- an image ends within its file where its place does
 place_is_if : (b : Bool) (file bytes : List ℕ) → nat_lt (length file) ((place_of bytes).offset + (place_of bytes).size) ≡ b
-    → (if b then Err ImageRange else Ok (place_of bytes)) ≡ result_map_both its_place (λ e. e) (if b then Err ImageRange else Ok (placed file (place_of bytes)))
+    → (if b then Err ImageRange else Ok (place_of bytes)) ≡ result_map_both its_place (λ e. e) (if b then Err ImageRange else Ok (component_at_place file (place_of bytes)))
 place_is_if true file bytes e = refl
 place_is_if false file bytes e =
     let within = ltb-false (length file) ((place_of bytes).offset + (place_of bytes).size) e in
@@ -82,21 +82,21 @@ place_is file bytes = place_is_if (nat_lt (length file) ((place_of bytes).offset
 -- a component is its place, and the part of the file there
 placed_if : (b : Bool) (file bytes : List ℕ) (p : PlaceOf) → nat_lt (length file) ((place_of bytes).offset + (place_of bytes).size) ≡ b
     → Ok p ≡ (if b then Err ImageRange else Ok (place_of bytes))
-    → (Ok (placed file p) ≡ (if b then Err ImageRange else Ok (placed file (place_of bytes)))) × (p.offset + p.size ≤ length file)
+    → (Ok (component_at_place file p) ≡ (if b then Err ImageRange else Ok (component_at_place file (place_of bytes)))) × (p.offset + p.size ≤ length file)
 placed_if true file bytes p e h = absurd (cc)
 placed_if false file bytes p e h =
     let same : place_of bytes ≡ p = cc in (
-      ap (λ x. Ok (placed file x)) (sym same),
+      ap (λ x. Ok (component_at_place file x)) (sym same),
       subst (λ (x : PlaceOf). x.offset + x.size ≤ length file) same (ltb-false (length file) ((place_of bytes).offset + (place_of bytes).size) e),
     )
 
 pub component_placed : (file bytes : List ℕ) (p : PlaceOf) → Ok p ≡ place_within (length file) bytes
-    → (Ok (placed file p) ≡ component_of file bytes) × (p.offset + p.size ≤ length file)
+    → (Ok (component_at_place file p) ≡ component_of file bytes) × (p.offset + p.size ≤ length file)
 unfolding place_within component_of
 component_placed file bytes p h = placed_if (nat_lt (length file) ((place_of bytes).offset + (place_of bytes).size)) file bytes p refl h
 
 unplaced_if : (b : Bool) (file bytes : List ℕ) (e : PackageFault) → Err e ≡ (if b then Err ImageRange else Ok (place_of bytes))
-    → Err e ≡ (if b then Err ImageRange else Ok (placed file (place_of bytes)))
+    → Err e ≡ (if b then Err ImageRange else Ok (component_at_place file (place_of bytes)))
 unplaced_if true file bytes e h = let same : e ≡ ImageRange = cc in ap (λ x. Err x) same
 unplaced_if false file bytes e h = absurd (cc)
 
@@ -134,7 +134,7 @@ package_composed file =
     then_same (parts_of (layout_of header)) _ (composed file) _ (λ l.
     then_same (bitmap_size_of (little_number 2 (drop 32 header)) l.component_count) _ (composed file) _ (λ size.
     then_same (records_of size l.component_count l.record_count l.records) _ (composed file) _ (λ rs.
-    then_same (checked header) _ (composed file) _ (λ before. refl)))))
+    then_same (header_before_checksum header) _ (composed file) _ (λ before. refl)))))
 
 pub package_from : (file : List ℕ) (c : ContentsOf) (cs : List ComponentOf) → Ok c ≡ contents_of file → Ok cs ≡ components_of file c.component_count c.components
     → Ok (record { header_size = c.header_size; records = c.records; components = cs }) ≡ package_of file
@@ -153,21 +153,21 @@ placed_with file_length c = places_of file_length c.component_count c.components
 
 outlined_last : (c : ContentsOf) (r : Result (List ComponentOf) PackageFault)
     → (result_map_both (map its_place) (λ e. e) r >>= (λ ps. Ok (record { header_size = c.header_size; records = c.records; places = ps })))
-    ≡ result_map_both outlined (λ e. e) (r >>= (λ cs. Ok (record { header_size = c.header_size; records = c.records; components = cs })))
+    ≡ result_map_both outline_of_package (λ e. e) (r >>= (λ cs. Ok (record { header_size = c.header_size; records = c.records; components = cs })))
 outlined_last c (Ok cs) = refl
 outlined_last c (Err e) = refl
 
-outlined_all : (file : List ℕ) (r : Result ContentsOf PackageFault) → (r >>= placed_with (length file)) ≡ result_map_both outlined (λ e. e) (r >>= composed file)
+outlined_all : (file : List ℕ) (r : Result ContentsOf PackageFault) → (r >>= placed_with (length file)) ≡ result_map_both outline_of_package (λ e. e) (r >>= composed file)
 outlined_all file (Ok c) = rw (places_is file c.component_count c.components) (outlined_last c (components_of file c.component_count c.components))
 outlined_all file (Err e) = refl
 
 outline_taken : (file : List ℕ) → ((i : ℕ) → get_or (take 65535 file) i 0 < 256)
-    → outline_of (take 65535 file) (length file) ≡ result_map_both outlined (λ e. e) (package_of file)
+    → outline_of (take 65535 file) (length file) ≡ result_map_both outline_of_package (λ e. e) (package_of file)
 unfolding outline_of
 outline_taken file small = rw (contents_taken file small, package_composed file) (outlined_all file (contents_of file))
 
 pub outline_is : (beginning : List ℕ) (file_length : ℕ) → ((i : ℕ) → get_or beginning i 0 < 256)
-    → (file : List ℕ) → IsBeginning file beginning file_length → outline_of beginning file_length ≡ result_map_both outlined (λ e. e) (package_of file)
+    → (file : List ℕ) → IsBeginning file beginning file_length → outline_of beginning file_length ≡ result_map_both outline_of_package (λ e. e) (package_of file)
 outline_is beginning file_length small file is =
     ap (λ xs. outline_of xs file_length) is.begins ∙ ap (outline_of (take 65535 file)) (sym is.long)
     ∙ outline_taken file (subst (λ xs. (i : ℕ) → get_or xs i 0 < 256) is.begins small)

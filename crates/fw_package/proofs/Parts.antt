@@ -5,7 +5,7 @@ use Rattle.std.proofs.lemmas.List.{length-append, take-append-le, drop-append-le
 use Rattle.byteorder.specs.Endian.{little_number}
 use Rattle.fw_package.specs.Components.{component_of, components_of}
 use Rattle.fw_package.specs.Grammar.{AreInTurn, IsComponent, IsDescriptor, IsRecord, four_bytes, two_bytes}
-use Rattle.fw_package.specs.Layout.{after, after_components, after_records}
+use Rattle.fw_package.specs.Layout.{bytes_after, after_components, after_records}
 use Rattle.fw_package.specs.Package.{ComponentOf, DescriptorOf, RecordOf}
 use Rattle.fw_package.specs.Records.{descriptor_split, descriptors_split, record_of, records_of, split_after}
 
@@ -22,7 +22,7 @@ long_enough xs ys n e = let all = length-append xs ys in le-ltb (length (xs ++ y
 pub split_front : (xs ys : List ℕ) (n : ℕ) → length xs ≡ n → split_after n (xs ++ ys) ≡ Ok (xs, ys)
 split_front xs ys n e = rw (long_enough xs ys n e, take_front xs ys n e, drop_front xs ys n e) refl
 
-pub after_front : (xs ys : List ℕ) (n : ℕ) → length xs ≡ n → after n (xs ++ ys) ≡ Some ys
+pub after_front : (xs ys : List ℕ) (n : ℕ) → length xs ≡ n → bytes_after n (xs ++ ys) ≡ Some ys
 after_front xs ys n e = rw (long_enough xs ys n e, drop_front xs ys n e) refl
 
 descriptor_reads : (part rest : List ℕ) (d : DescriptorOf) → IsDescriptor part d → descriptor_split (part ++ rest) ≡ Ok (d, rest)

@@ -7,7 +7,7 @@ use Rattle.std.proofs.lemmas.List.Concat.{length-flat_map}
 use Rattle.std.proofs.lemmas.List.Elements.{All-more}
 use Rattle.std.proofs.lemmas.List.Sums.{sum_by-cons, sum_by-take-le, sum_by_push}
 use Rattle.fw_package.specs.Asked.{AskedComponentOf, asked_component_of, component_size}
-use Rattle.fw_package.specs.Writing.{HasComponentWidths, component_bytes, components_bytes}
+use Rattle.fw_package.specs.Writing.{HasAskedComponentWidths, component_bytes, components_bytes}
 use Rattle.fw_package.specs.declared.asked.AskedComponent.{AskedComponent}
 
 -- so many of these parts are put behind what was there, and each of them fits its fields
@@ -85,7 +85,7 @@ components_long offset (c ∷ cs) =
 -- so many components are put behind what was there, and the image of the next one stands at this offset
 pub record Placing (old : List ℕ) (start : ℕ) (all : List AskedComponentOf) (i offset : ℕ) (new : List ℕ) : Type 0 where
   pub put : new ++ components_bytes offset (drop i all) ≡ old ++ components_bytes start all
-  pub fit : All HasComponentWidths (take i all)
+  pub fit : All HasAskedComponentWidths (take i all)
   pub place : offset + sum_by (λ c. c.size) (drop i all) ≡ start + sum_by (λ c. c.size) all
 
 pub place_none : (old : List ℕ) (start : ℕ) (all : List AskedComponentOf) → Placing old start all 0 start old
@@ -104,7 +104,7 @@ next_left all i d lt =
 
 pub place_more : (old : List ℕ) (start : ℕ) (all : List AskedComponent) (i offset next : ℕ) (d : AskedComponent) (out new : List ℕ)
     → Placing old start (map asked_component_of all) i offset out → i < length all → new ≡ out ++ component_bytes offset (asked_component_of (get_or all i d))
-    → HasComponentWidths (asked_component_of (get_or all i d)) → next ≡ offset + (asked_component_of (get_or all i d)).size
+    → HasAskedComponentWidths (asked_component_of (get_or all i d)) → next ≡ offset + (asked_component_of (get_or all i d)).size
     → Placing old start (map asked_component_of all) (i + 1) next new
 place_more old start all i offset next d out new h lt is fits on =
     let c : AskedComponentOf = asked_component_of (get_or all i d) in
@@ -119,7 +119,7 @@ place_more old start all i offset next d out new h lt is fits on =
           ∙ ap (λ n. out ++ (component_bytes offset c ++ components_bytes n (left_of all (i + 1)))) on
           ∙ ap (λ cs. out ++ components_bytes offset cs) (sym left)
           ∙ h.put;
-      fit = All-more HasComponentWidths (map asked_component_of all) i (asked_component_of d) (omega arith) h.fit (rw here fits);
+      fit = All-more HasAskedComponentWidths (map asked_component_of all) i (asked_component_of d) (omega arith) h.fit (rw here fits);
       place = let before = h.place in omega (arith, before, sum, on);
     }
 
@@ -146,7 +146,7 @@ place_inside old start all i offset d out h lt fits =
     omega (arith, sum, before, fits)
 
 pub place_all : (old : List ℕ) (start : ℕ) (all : List AskedComponent) (i offset : ℕ) (new : List ℕ)
-    → Placing old start (map asked_component_of all) i offset new → length all ≤ i → (new ≡ old ++ components_bytes start (map asked_component_of all)) × All HasComponentWidths (map asked_component_of all)
+    → Placing old start (map asked_component_of all) i offset new → length all ≤ i → (new ≡ old ++ components_bytes start (map asked_component_of all)) × All HasAskedComponentWidths (map asked_component_of all)
 place_all old start all i offset new h le =
     let count = length-map all asked_component_of in
     let none : left_of all i ≡ [] = drop_all i (map asked_component_of all) (omega arith) in

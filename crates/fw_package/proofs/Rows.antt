@@ -7,7 +7,7 @@ use Rattle.fw_package.specs.Components.{component_of, components_of}
 use Rattle.fw_package.specs.Layout.{after_component, after_components, after_record, after_records}
 use Rattle.fw_package.specs.Package.{ComponentOf, RecordOf}
 use Rattle.fw_package.specs.Records.{◌>>=◌, record_of, records_of}
-use Rattle.fw_package.specs.Views.{AreComponents, AreRecords, listed}
+use Rattle.fw_package.specs.Views.{AreComponents, AreRecords, list_or_empty}
 use Rattle.fw_package.specs.declared.fault.PackageFault.{PackageFault}
 use Rattle.fw_package.proofs.Walks.{component_there, components_there, record_there}
 
@@ -16,7 +16,7 @@ abbrev pub fault_of : {A : Type 0} → Result A PackageFault → Option PackageF
 fault_of (Ok x) = None
 fault_of (Err e) = Some e
 
-pub read_whole : {A : Type 0} (r : Result (List A) PackageFault) → fault_of r ≡ None → (r ≡ Ok (listed r)) × IsOk r
+pub read_whole : {A : Type 0} (r : Result (List A) PackageFault) → fault_of r ≡ None → (r ≡ Ok (list_or_empty r)) × IsOk r
 read_whole (Ok xs) h = (refl, refl)
 read_whole (Err e) h = absurd (cc)
 
@@ -28,7 +28,7 @@ pub one_more : {A : Type 0} (x : A) (r : Result (List A) PackageFault) → fault
 one_more x (Ok xs) = refl
 one_more x (Err e) = refl
 
-one_left : {A : Type 0} (x : A) (r : Result (List A) PackageFault) → IsOk (r >>= (λ xs. Ok (x ∷ xs))) → (listed (r >>= (λ xs. Ok (x ∷ xs))) ≡ x ∷ listed r) × IsOk r
+one_left : {A : Type 0} (x : A) (r : Result (List A) PackageFault) → IsOk (r >>= (λ xs. Ok (x ∷ xs))) → (list_or_empty (r >>= (λ xs. Ok (x ∷ xs))) ≡ x ∷ list_or_empty r) × IsOk r
 one_left x (Ok xs) h = (refl, h)
 one_left x (Err e) h = absurd (cc)
 
@@ -57,7 +57,7 @@ unfolding records_of
 records_done size components count i bytes le = let none : count - i ≡ 0 = omega arith in rw none refl
 
 pub records_whole : (size components count : ℕ) (bytes : List ℕ) → fault_of (records_of size components count bytes) ≡ None
-    → records_of size components count bytes ≡ Ok (listed (records_of size components count bytes))
+    → records_of size components count bytes ≡ Ok (list_or_empty (records_of size components count bytes))
 records_whole size components count bytes h = (read_whole (records_of size components count bytes) h).0
 
 pub records_refused : (size components count : ℕ) (bytes : List ℕ) (e : PackageFault) → fault_of (records_of size components count bytes) ≡ Some e
@@ -85,7 +85,7 @@ unfolding components_of
 components_done file count i bytes le = let none : count - i ≡ 0 = omega arith in rw none refl
 
 pub components_whole : (file : List ℕ) (count : ℕ) (bytes : List ℕ) → fault_of (components_of file count bytes) ≡ None
-    → components_of file count bytes ≡ Ok (listed (components_of file count bytes))
+    → components_of file count bytes ≡ Ok (list_or_empty (components_of file count bytes))
 components_whole file count bytes h = (read_whole (components_of file count bytes) h).0
 
 pub components_refused : (file : List ℕ) (count : ℕ) (bytes : List ℕ) (e : PackageFault) → fault_of (components_of file count bytes) ≡ Some e
@@ -94,33 +94,33 @@ components_refused file count bytes e h = read_refused (components_of file count
 
 pub ruleset composing = (components_step, components_stop, components_done, components_whole, components_refused, components_there)
 
-count_one : {A : Type 0} (x : A) (r : Result (List A) PackageFault) (n : ℕ) → (IsOk r → length (listed r) ≡ n) → IsOk (r >>= (λ xs. Ok (x ∷ xs))) → length (listed (r >>= (λ xs. Ok (x ∷ xs)))) ≡ suc n
+count_one : {A : Type 0} (x : A) (r : Result (List A) PackageFault) (n : ℕ) → (IsOk r → length (list_or_empty r) ≡ n) → IsOk (r >>= (λ xs. Ok (x ∷ xs))) → length (list_or_empty (r >>= (λ xs. Ok (x ∷ xs)))) ≡ suc n
 count_one x (Ok xs) n h ok = ap suc (h refl)
 count_one x (Err e) n h ok = absurd (cc)
 
-pub count_first : {A : Type 0} (f : Result A PackageFault) (r : Result (List A) PackageFault) (n : ℕ) → (IsOk r → length (listed r) ≡ n)
-    → IsOk (f >>= (λ x. r >>= (λ xs. Ok (x ∷ xs)))) → length (listed (f >>= (λ x. r >>= (λ xs. Ok (x ∷ xs))))) ≡ suc n
+pub count_first : {A : Type 0} (f : Result A PackageFault) (r : Result (List A) PackageFault) (n : ℕ) → (IsOk r → length (list_or_empty r) ≡ n)
+    → IsOk (f >>= (λ x. r >>= (λ xs. Ok (x ∷ xs)))) → length (list_or_empty (f >>= (λ x. r >>= (λ xs. Ok (x ∷ xs))))) ≡ suc n
 count_first (Ok x) r n h ok = count_one x r n h ok
 count_first (Err e) r n h ok = absurd (cc)
 
-records_counted : (size components count : ℕ) (bytes : List ℕ) → IsOk (records_of size components count bytes) → length (listed (records_of size components count bytes)) ≡ count
+records_counted : (size components count : ℕ) (bytes : List ℕ) → IsOk (records_of size components count bytes) → length (list_or_empty (records_of size components count bytes)) ≡ count
 unfolding records_of
 records_counted size components zero bytes ok = refl
 records_counted size components (suc n) bytes ok =
     count_first (record_of size components (take (little_number 2 bytes) bytes)) (records_of size components n (drop (little_number 2 bytes) bytes)) n
     (records_counted size components n (drop (little_number 2 bytes) bytes)) ok
 
-pub components_counted : (file : List ℕ) (count : ℕ) (bytes : List ℕ) → IsOk (components_of file count bytes) → length (listed (components_of file count bytes)) ≡ count
+pub components_counted : (file : List ℕ) (count : ℕ) (bytes : List ℕ) → IsOk (components_of file count bytes) → length (list_or_empty (components_of file count bytes)) ≡ count
 unfolding components_of
 components_counted file zero bytes ok = refl
 components_counted file (suc n) bytes ok =
     count_first (component_of file bytes) (components_of file n (drop (22 + slice_index bytes 21) bytes)) n
     (components_counted file n (drop (22 + slice_index bytes 21) bytes)) ok
 
-pub records_count : (size components count : ℕ) (bytes : List ℕ) → AreRecords size components count bytes → length (listed (records_of size components count bytes)) ≡ count
+pub records_count : (size components count : ℕ) (bytes : List ℕ) → AreRecords size components count bytes → length (list_or_empty (records_of size components count bytes)) ≡ count
 records_count size components count bytes are = records_counted size components count bytes are.read
 
-pub components_count : (file : List ℕ) (count : ℕ) (bytes : List ℕ) → AreComponents file count bytes → length (listed (components_of file count bytes)) ≡ count
+pub components_count : (file : List ℕ) (count : ℕ) (bytes : List ℕ) → AreComponents file count bytes → length (list_or_empty (components_of file count bytes)) ≡ count
 components_count file count bytes are = components_counted file count bytes are.read
 
 -- the first of a row that is left, and the others
@@ -129,15 +129,15 @@ pub record RecordLeft (size components count : ℕ) (bytes : List ℕ) : Type 0 
   pub whole : little_number 2 bytes ≤ length bytes
   pub read : IsOk (record_of size components (take (little_number 2 bytes) bytes))
   pub list : (r : RecordOf) → record_of size components (take (little_number 2 bytes) bytes) ≡ Ok r
-      → listed (records_of size components count bytes) ≡ r ∷ listed (records_of size components (count - 1) (drop (little_number 2 bytes) bytes))
+      → list_or_empty (records_of size components count bytes) ≡ r ∷ list_or_empty (records_of size components (count - 1) (drop (little_number 2 bytes) bytes))
   pub others : AreRecords size components (count - 1) (drop (little_number 2 bytes) bytes)
-  pub tail : drop 1 (listed (records_of size components count bytes)) ≡ listed (records_of size components (count - 1) (drop (little_number 2 bytes) bytes))
+  pub tail : drop 1 (list_or_empty (records_of size components count bytes)) ≡ list_or_empty (records_of size components (count - 1) (drop (little_number 2 bytes) bytes))
 
 pub record FirstLeft {A : Type 0} (f : Result A PackageFault) (r whole : Result (List A) PackageFault) : Type 0 where
   pub read : IsOk f
-  pub list : (x : A) → f ≡ Ok x → listed whole ≡ x ∷ listed r
+  pub list : (x : A) → f ≡ Ok x → list_or_empty whole ≡ x ∷ list_or_empty r
   pub others : IsOk r
-  pub tail : drop 1 (listed whole) ≡ listed r
+  pub tail : drop 1 (list_or_empty whole) ≡ list_or_empty r
 
 pub first_left : {A : Type 0} (f : Result A PackageFault) (r : Result (List A) PackageFault) → IsOk (f >>= (λ x. r >>= (λ xs. Ok (x ∷ xs)))) → FirstLeft f r (f >>= (λ x. r >>= (λ xs. Ok (x ∷ xs))))
 first_left (Ok x) (Ok xs) ok = record { read = refl; list = λ y e. let same : x ≡ y = cc in ap (λ z. z ∷ xs) same; others = refl; tail = refl }
@@ -164,16 +164,16 @@ pub record_left : (size components count : ℕ) (bytes : List ℕ) → AreRecord
 record_left size components zero bytes are there = absurd (omega (arith, there))
 record_left size components (suc n) bytes are there = let all : suc n - 0 ≡ suc n = omega arith in rw all at (record_from size components (suc n) 0 bytes (omega arith) (rw all are))
 
-pub records_none : (size components count : ℕ) (bytes : List ℕ) → count ≡ 0 → listed (records_of size components count bytes) ≡ []
+pub records_none : (size components count : ℕ) (bytes : List ℕ) → count ≡ 0 → list_or_empty (records_of size components count bytes) ≡ []
 unfolding records_of
 records_none size components count bytes e = rw e refl
 
 pub record ComponentLeft (file : List ℕ) (count : ℕ) (bytes : List ℕ) : Type 0 where
   pub there : IsSome (after_component bytes)
   pub read : IsOk (component_of file bytes)
-  pub list : (c : ComponentOf) → component_of file bytes ≡ Ok c → listed (components_of file count bytes) ≡ c ∷ listed (components_of file (count - 1) (drop (22 + slice_index bytes 21) bytes))
+  pub list : (c : ComponentOf) → component_of file bytes ≡ Ok c → list_or_empty (components_of file count bytes) ≡ c ∷ list_or_empty (components_of file (count - 1) (drop (22 + slice_index bytes 21) bytes))
   pub others : AreComponents file (count - 1) (drop (22 + slice_index bytes 21) bytes)
-  pub tail : drop 1 (listed (components_of file count bytes)) ≡ listed (components_of file (count - 1) (drop (22 + slice_index bytes 21) bytes))
+  pub tail : drop 1 (list_or_empty (components_of file count bytes)) ≡ list_or_empty (components_of file (count - 1) (drop (22 + slice_index bytes 21) bytes))
 
 pub component_from : (file : List ℕ) (count i : ℕ) (bytes : List ℕ) → i < count → AreComponents file (count - i) bytes → ComponentLeft file (count - i) bytes
 unfolding components_of
@@ -194,7 +194,7 @@ pub component_left : (file : List ℕ) (count : ℕ) (bytes : List ℕ) → AreC
 component_left file zero bytes are there = absurd (omega (arith, there))
 component_left file (suc n) bytes are there = let all : suc n - 0 ≡ suc n = omega arith in rw all at (component_from file (suc n) 0 bytes (omega arith) (rw all are))
 
-pub components_none : (file : List ℕ) (count : ℕ) (bytes : List ℕ) → count ≡ 0 → listed (components_of file count bytes) ≡ []
+pub components_none : (file : List ℕ) (count : ℕ) (bytes : List ℕ) → count ≡ 0 → list_or_empty (components_of file count bytes) ≡ []
 unfolding components_of
 components_none file count bytes e = rw e refl
 
@@ -205,7 +205,7 @@ pub ruleset components_next = (component_left, components_none)
 -- what is left of a row from this number on
 pub record RecordsFrom (size components count number : ℕ) (bytes rest : List ℕ) : Type 0 where
   pub are : AreRecords size components (count - number) rest
-  pub list : listed (records_of size components (count - number) rest) ≡ drop number (listed (records_of size components count bytes))
+  pub list : list_or_empty (records_of size components (count - number) rest) ≡ drop number (list_or_empty (records_of size components count bytes))
 
 record_passed : (short cut : Bool) (bytes : List ℕ) → nat_lt (length bytes) 2 ≡ short → nat_lt (length bytes) (little_number 2 bytes) ≡ cut → 2 ≤ length bytes → little_number 2 bytes ≤ length bytes
     → (if short then None else (if cut then None else Some (drop (little_number 2 bytes) bytes))) ≡ Some (drop (little_number 2 bytes) bytes)
@@ -231,7 +231,7 @@ records_from size components count (suc n) bytes rest le are walk =
     let one : 1 + n ≡ suc n = omega arith in
     record {
       are = rw less at others.are;
-      list = rw less at (others.list ∙ ap (drop n) (sym left.tail) ∙ drop-drop n 1 (listed (records_of size components count bytes)) ∙ ap (λ k. drop k (listed (records_of size components count bytes))) one);
+      list = rw less at (others.list ∙ ap (drop n) (sym left.tail) ∙ drop-drop n 1 (list_or_empty (records_of size components count bytes)) ∙ ap (λ k. drop k (list_or_empty (records_of size components count bytes))) one);
     }
 
 pub records_reached : (size components count number : ℕ) (bytes : List ℕ) → number ≤ count → AreRecords size components count bytes → after_records number bytes ≡ None → ⊥
@@ -244,7 +244,7 @@ records_reached size components count (suc n) bytes le are walk =
 
 pub record ComponentsFrom (file : List ℕ) (count number : ℕ) (bytes rest : List ℕ) : Type 0 where
   pub are : AreComponents file (count - number) rest
-  pub list : listed (components_of file (count - number) rest) ≡ drop number (listed (components_of file count bytes))
+  pub list : list_or_empty (components_of file (count - number) rest) ≡ drop number (list_or_empty (components_of file count bytes))
 
 component_passed : (cut : Bool) (bytes : List ℕ) → nat_lt (length bytes) (22 + slice_index bytes 21) ≡ cut → 22 + slice_index bytes 21 ≤ length bytes
     → (if cut then None else Some (drop (22 + slice_index bytes 21) bytes)) ≡ Some (drop (22 + slice_index bytes 21) bytes)
@@ -269,7 +269,7 @@ components_from file count (suc n) bytes rest le are walk =
     let one : 1 + n ≡ suc n = omega arith in
     record {
       are = rw less at others.are;
-      list = rw less at (others.list ∙ ap (drop n) (sym left.tail) ∙ drop-drop n 1 (listed (components_of file count bytes)) ∙ ap (λ k. drop k (listed (components_of file count bytes))) one);
+      list = rw less at (others.list ∙ ap (drop n) (sym left.tail) ∙ drop-drop n 1 (list_or_empty (components_of file count bytes)) ∙ ap (λ k. drop k (list_or_empty (components_of file count bytes))) one);
     }
 
 pub components_reached : (file : List ℕ) (count number : ℕ) (bytes : List ℕ) → number ≤ count → AreComponents file count bytes → after_components number bytes ≡ None → ⊥

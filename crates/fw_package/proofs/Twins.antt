@@ -12,7 +12,7 @@ use Rattle.std.proofs.lemmas.Map.Keys.{IsDistinct-IsPermutation, IsStrictlyIncre
 use Rattle.std.proofs.lemmas.Map.Made.{IsDistinct-from_AllPairs}
 use Rattle.fw_package.specs.Choice.{has_key}
 use Rattle.fw_package.specs.Package.{ComponentOf}
-use Rattle.fw_package.specs.Views.{doubles, number_of, twins}
+use Rattle.fw_package.specs.Views.{has_doubles, number_of, has_twins}
 use Rattle.fw_package.proofs.Chosen.{neither}
 
 -- a key of two numbers of 16 bits
@@ -40,10 +40,10 @@ any_same c [] small little = refl
 any_same c (d ∷ ds) small little =
     ap (λ b. b || list_any (has_key c.classification c.identifier) ds) (same_number c d small little.0) ∙ ap (λ b. (number_of c == number_of d) || b) (any_same c ds small little.1)
 
-twins_doubles : (cs : List ComponentOf) → AllByRecursion IsSmall cs → doubles (map number_of cs) ≡ twins cs
+twins_doubles : (cs : List ComponentOf) → AllByRecursion IsSmall cs → has_doubles (map number_of cs) ≡ has_twins cs
 twins_doubles [] small = refl
 twins_doubles (c ∷ cs) small =
-    ap (λ b. b || doubles (map number_of cs)) (sym (any_same c cs small.0 small.1)) ∙ ap (λ b. list_any (has_key c.classification c.identifier) cs || b) (twins_doubles cs small.1)
+    ap (λ b. b || has_doubles (map number_of cs)) (sym (any_same c cs small.0 small.1)) ∙ ap (λ b. list_any (has_key c.classification c.identifier) cs || b) (twins_doubles cs small.1)
 
 -- those of a row that were passed, and their numbers
 pub record IsPacked (all left : List ComponentOf) (keys : List ℕ) : Type 0 where
@@ -74,9 +74,9 @@ packed_more all left others keys c p e small =
       room = omega (arith, long, more, room);
     }
 
-pub packed_all : (all left : List ComponentOf) (keys : List ℕ) → IsPacked all left keys → left ≡ [] → doubles keys ≡ twins all
+pub packed_all : (all left : List ComponentOf) (keys : List ℕ) → IsPacked all left keys → left ≡ [] → has_doubles keys ≡ has_twins all
 packed_all all left keys p e =
-    ap doubles p.packed ∙ twins_doubles p.passed p.small ∙ ap twins (sym (p.is ∙ ap (λ cs. p.passed ++ cs) e ∙ append-nil p.passed))
+    ap has_doubles p.packed ∙ twins_doubles p.passed p.small ∙ ap has_twins (sym (p.is ∙ ap (λ cs. p.passed ++ cs) e ∙ append-nil p.passed))
 
 -- no two are equal
 apart_from : (k : ℕ) (ks : List ℕ) → list_any (λ j. k == j) ks ≡ false → AllByRecursion (λ y. eqb k y ≡ false) ks
@@ -87,12 +87,12 @@ from_apart : (k : ℕ) (ks : List ℕ) → AllByRecursion (λ y. eqb k y ≡ fal
 from_apart k [] h = refl
 from_apart k (j ∷ js) h = rw (h.0, from_apart k js h.1) refl
 
-distinct_from : (ks : List ℕ) → doubles ks ≡ false → IsDistinct eqb ks
+distinct_from : (ks : List ℕ) → has_doubles ks ≡ false → IsDistinct eqb ks
 unfolding IsDistinct
 distinct_from [] h = tt
-distinct_from (k ∷ ks) h = let both = neither (list_any (λ j. k == j) ks) (doubles ks) h in (apart_from k ks both.0, distinct_from ks both.1)
+distinct_from (k ∷ ks) h = let both = neither (list_any (λ j. k == j) ks) (has_doubles ks) h in (apart_from k ks both.0, distinct_from ks both.1)
 
-from_distinct : (ks : List ℕ) → IsDistinct eqb ks → doubles ks ≡ false
+from_distinct : (ks : List ℕ) → IsDistinct eqb ks → has_doubles ks ≡ false
 unfolding IsDistinct
 from_distinct [] h = refl
 from_distinct (k ∷ ks) h = rw (from_apart k ks h.0, from_distinct ks h.1) refl
@@ -111,7 +111,7 @@ flips : (x y : ℕ) → eqb x y ≡ eqb y x
 flips x y = flipped (eqb x y) (eqb y x) x y refl refl
 
 -- sorted, no two are equal where each is below the next
-told : (b t : Bool) (keys sorted : List ℕ) → doubles keys ≡ t → IsPermutation keys sorted → IsNonDecreasing sorted → (IsTrue b ↔ IsStrictlyIncreasing sorted) → not b ≡ t
+told : (b t : Bool) (keys sorted : List ℕ) → has_doubles keys ≡ t → IsPermutation keys sorted → IsNonDecreasing sorted → (IsTrue b ↔ IsStrictlyIncreasing sorted) → not b ≡ t
 told true false keys sorted e moved up rising = refl
 told false true keys sorted e moved up rising = refl
 told true true keys sorted e moved up rising =
@@ -119,6 +119,6 @@ told true true keys sorted e moved up rising =
 told false false keys sorted e moved up rising =
     let all = rising.1 (IsStrictlyIncreasing-from_distinct sorted up (IsDistinct-IsPermutation eqb flips keys sorted moved (distinct_from keys e))) in absurd (cc)
 
-pub twins_told : (b : Bool) (cs : List ComponentOf) (keys sorted : List ℕ) → doubles keys ≡ twins cs → IsPermutation keys sorted → IsNonDecreasing sorted → (IsTrue b ↔ IsStrictlyIncreasing sorted)
-    → not b ≡ twins cs
-twins_told b cs keys sorted e moved up rising = told b (twins cs) keys sorted e moved up rising
+pub twins_told : (b : Bool) (cs : List ComponentOf) (keys sorted : List ℕ) → has_doubles keys ≡ has_twins cs → IsPermutation keys sorted → IsNonDecreasing sorted → (IsTrue b ↔ IsStrictlyIncreasing sorted)
+    → not b ≡ has_twins cs
+twins_told b cs keys sorted e moved up rising = told b (has_twins cs) keys sorted e moved up rising

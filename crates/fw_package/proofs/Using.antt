@@ -11,8 +11,8 @@ use Rattle.byteorder.specs.Endian.{little_number}
 use Rattle.fw_package.specs.Components.{components_of}
 use Rattle.fw_package.specs.Package.{ComponentOf, RecordOf}
 use Rattle.fw_package.specs.Reading.{IsUsing}
-use Rattle.fw_package.specs.Records.{◌>>=◌, descriptors_split, is_named, named, record_of, records_of, split_after}
-use Rattle.fw_package.specs.Views.{listed}
+use Rattle.fw_package.specs.Records.{◌>>=◌, descriptors_split, is_named, components_named, record_of, records_of, split_after}
+use Rattle.fw_package.specs.Views.{list_or_empty}
 use Rattle.fw_package.specs.Layout.{after_components}
 use Rattle.fw_package.proofs.Rows.{components_counted}
 use Rattle.fw_package.proofs.Walks.{components_fit}
@@ -28,8 +28,8 @@ range_below n k d lt =
     let all = length-range_with_len 0 n in
     rw (get_or-range_with_len 0 n k d (omega arith)) (omega arith)
 
-pub named_using : (bitmap : List ℕ) (count : ℕ) → IsStrictlyIncreasing (named bitmap count) × All (λ k. k < count) (named bitmap count)
-unfolding named
+pub named_using : (bitmap : List ℕ) (count : ℕ) → IsStrictlyIncreasing (components_named bitmap count) × All (λ k. k < count) (components_named bitmap count)
+unfolding components_named
 named_using bitmap count =
     (IsStrictlyIncreasing-filter (is_named bitmap) (range_with_len 0 count) (range_rises count), All-filter (is_named bitmap) (λ k. k < count) (range_with_len 0 count) (range_below count))
 
@@ -75,4 +75,4 @@ few_components count below size walked inside small =
 
 -- and the components that are read are as many
 pub counted : (file : List ℕ) (count : ℕ) (below : List ℕ) (cs : List ComponentOf) → Ok cs ≡ components_of file count below → length cs ≡ count
-counted file count below cs ce = ap length (ap listed ce) ∙ components_counted file count below (ap is_ok (sym ce))
+counted file count below cs ce = ap length (ap list_or_empty ce) ∙ components_counted file count below (ap is_ok (sym ce))

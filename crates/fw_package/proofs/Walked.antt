@@ -9,7 +9,7 @@ use Rattle.std.proofs.lemmas.List.Kept.{AllPairs-from_increasing}
 use Rattle.fw_package.specs.Choice.{component_at, has_key, has_large_image, has_long_text, has_twin, no_component, plan_of, record_at}
 use Rattle.fw_package.specs.Package.{ComponentOf, PackageText, RecordOf}
 use Rattle.fw_package.specs.Reading.{IsUsing}
-use Rattle.fw_package.specs.Views.{AreUsed, twins, used_from}
+use Rattle.fw_package.specs.Views.{AreRisingUses, has_twins, used_from}
 use Rattle.fw_package.specs.declared.fault.PlanFault.TheVariants as faults
 
 -- a list has fewer behind its first
@@ -37,7 +37,7 @@ using_at n rs number r others all lt is = subst (IsUsing n) ((behind number rs r
 
 -- rising numbers are walked to one after the other
 walked_from : (row : List ComponentOf) (at : ℕ) (ns : List ℕ) → AllPairs (λ x y. x < y) ns → All (λ n. at ≤ n) ns → All (λ n. n < length row) ns
-    → AreUsed at (drop at row) ns × (used_from at (drop at row) ns ≡ map (λ n. get_or row n no_component) ns)
+    → AreRisingUses at (drop at row) ns × (used_from at (drop at row) ns ≡ map (λ n. get_or row n no_component) ns)
 walked_from row at [] rising after there = (tt, refl)
 walked_from row at (n ∷ ns) rising after there =
     let le = All-head (λ k. at ≤ k) n ns after in
@@ -54,7 +54,7 @@ walked_from row at (n ∷ ns) rising after there =
     )
 
 pub walked : (row : List ComponentOf) (ns : List ℕ) → IsStrictlyIncreasing ns → All (λ n. n < length row) ns
-    → AreUsed 0 row ns × (used_from 0 row ns ≡ map (λ n. get_or row n no_component) ns)
+    → AreRisingUses 0 row ns × (used_from 0 row ns ≡ map (λ n. get_or row n no_component) ns)
 walked row ns rising there = walked_from row 0 ns (AllPairs-from_increasing ns rising) (λ k d lt. omega arith) there
 
 -- rising numbers below a number are not more than it
@@ -84,15 +84,15 @@ any_map : {A B : Type 0} (f : A → B) (t : B → Bool) (xs : List A) → list_a
 any_map f t [] = refl
 any_map f t (x ∷ xs) = ap (λ b. t (f x) || b) (any_map f t xs)
 
-twins_is : (p : PackageText) (ns : List ℕ) → twins (map (component_at p) ns) ≡ has_twin p ns
+twins_is : (p : PackageText) (ns : List ℕ) → has_twins (map (component_at p) ns) ≡ has_twin p ns
 unfolding has_twin
 twins_is p [] = refl
 twins_is p (n ∷ ns) =
-    ap (λ b. b || twins (map (component_at p) ns)) (any_map (component_at p) (has_key (component_at p n).classification (component_at p n).identifier) ns)
+    ap (λ b. b || has_twins (map (component_at p) ns)) (any_map (component_at p) (has_key (component_at p n).classification (component_at p n).identifier) ns)
     ∙ ap (λ b. list_any (λ m. has_key (component_at p n).classification (component_at p n).identifier (component_at p m)) ns || b) (twins_is p ns)
 
-pub twins_here : (p : PackageText) (ns : List ℕ) (cs : List ComponentOf) (b : Bool) → cs ≡ map (component_at p) ns → b ≡ twins cs → b ≡ has_twin p ns
-twins_here p ns cs b e h = h ∙ ap twins e ∙ twins_is p ns
+pub twins_here : (p : PackageText) (ns : List ℕ) (cs : List ComponentOf) (b : Bool) → cs ≡ map (component_at p) ns → b ≡ has_twins cs → b ≡ has_twin p ns
+twins_here p ns cs b e h = h ∙ ap has_twins e ∙ twins_is p ns
 
 pub large_here : (p : PackageText) (ns : List ℕ) (cs : List ComponentOf) (b : Bool) → cs ≡ map (component_at p) ns → b ≡ list_any (λ c. nat_lt 1048576 (length c.image)) cs → b ≡ has_large_image p ns
 large_here p ns cs b e h = h ∙ ap (list_any (λ (c : ComponentOf). nat_lt 1048576 (length c.image))) e ∙ any_map (component_at p) (λ c. nat_lt 1048576 (length c.image)) ns
@@ -117,21 +117,21 @@ too_many xs ys left x le e =
 
 -- the walk to the first of these numbers
 pub record UsedNext (at m : ℕ) (row : List ComponentOf) (all : List ℕ) (c : ComponentOf) (others : List ComponentOf) (ns : List ℕ) : Type 0 where
-  pub are : AreUsed (m + 1) others ns
+  pub are : AreRisingUses (m + 1) others ns
   pub list : used_from at row all ≡ c ∷ used_from (m + 1) others ns
 
-pub used_next : (at n m : ℕ) (row : List ComponentOf) (all ns : List ℕ) (c : ComponentOf) (others : List ComponentOf) → AreUsed at row all → all ≡ n ∷ ns → m ≡ n → drop (m - at) row ≡ c ∷ others
+pub used_next : (at n m : ℕ) (row : List ComponentOf) (all ns : List ℕ) (c : ComponentOf) (others : List ComponentOf) → AreRisingUses at row all → all ≡ n ∷ ns → m ≡ n → drop (m - at) row ≡ c ∷ others
     → UsedNext at m row all c others ns
 used_next at n m row all ns c others are is same e =
-    let here : AreUsed at row (n ∷ ns) = rw is at are in
+    let here : AreRisingUses at row (n ∷ ns) = rw is at are in
     let found = behind (n - at) row c others (rw same at e) in
     rw (same, is) (record {
       are = rw found.others at here.2;
       list = ap (λ x. x ∷ used_from (n + 1) (drop (n - at + 1) row) ns) (found.first no_component) ∙ ap (λ xs. c ∷ used_from (n + 1) xs ns) found.others;
     })
 
-pub used_there : (at n m : ℕ) (row : List ComponentOf) (all ns : List ℕ) → AreUsed at row all → all ≡ n ∷ ns → m ≡ n → (at ≤ m) × (m - at < length row)
-used_there at n m row all ns are is same = let here : AreUsed at row (n ∷ ns) = rw is at are in rw same (here.0, here.1)
+pub used_there : (at n m : ℕ) (row : List ComponentOf) (all ns : List ℕ) → AreRisingUses at row all → all ≡ n ∷ ns → m ≡ n → (at ≤ m) × (m - at < length row)
+used_there at n m row all ns are is same = let here : AreRisingUses at row (n ∷ ns) = rw is at are in rw same (here.0, here.1)
 
 -- the place of the first that passes
 pub place_found : {A : Type 0} (t : A → Bool) (n : ℕ) (left all : List A) (x : A) (others : List A) → n + position_or_len t left ≡ position_or_len t all → n < length all → left ≡ x ∷ others → true ≡ t x

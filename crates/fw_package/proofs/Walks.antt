@@ -3,7 +3,7 @@ use Rattle.std.proofs.Common.{◌≡◌, ℕ, suc, zero, ◌*◌, ◌+◌, ◌-�
 use Rattle.byteorder.specs.Endian.{little_number}
 use borrow.Author.Tests.{ltb-false}
 use Rattle.std.specs.Option.{option_and_then}
-use Rattle.fw_package.specs.Layout.{after, after_component, after_components, after_record, after_records}
+use Rattle.fw_package.specs.Layout.{bytes_after, after_component, after_components, after_record, after_records}
 
 -- before the last one, the first is passed and then the others
 pub records_step : (count i : ℕ) (bytes : List ℕ) → i < count → after_records (count - i) bytes ≡ option_and_then (after_records (count - (i + 1))) (after_record bytes)
@@ -81,10 +81,10 @@ after_within false n bytes rest e =
     let all : length (drop n bytes) ≡ length rest = ap length same in
     omega (arith, left, all)
 
-pub after_inside : (n : ℕ) (bytes rest : List ℕ) → after n bytes ≡ Some rest → length rest ≤ length bytes
+pub after_inside : (n : ℕ) (bytes rest : List ℕ) → bytes_after n bytes ≡ Some rest → length rest ≤ length bytes
 after_inside n bytes rest e = after_within (nat_lt (length bytes) n) n bytes rest e
 
-record_inside : (short : Bool) (n : ℕ) (bytes rest : List ℕ) → (if short then None else after n bytes) ≡ Some rest → length rest ≤ length bytes
+record_inside : (short : Bool) (n : ℕ) (bytes rest : List ℕ) → (if short then None else bytes_after n bytes) ≡ Some rest → length rest ≤ length bytes
 record_inside true n bytes rest e = absurd (cc)
 record_inside false n bytes rest e = after_inside n bytes rest e
 
@@ -101,7 +101,7 @@ unfolding after_records
 records_inside zero bytes rest e = let same : bytes ≡ rest = cc in let all : length bytes ≡ length rest = ap length same in omega (arith, all)
 records_inside (suc n) bytes rest e = records_then n bytes rest (after_record bytes) refl (λ others. records_inside n others rest) e
 
-pub walk_inside : (n m : ℕ) (header rest records behind components : List ℕ) → Some rest ≡ after n header → length records ≤ length rest → Some behind ≡ after_records m records → Some components ≡ after 2 behind
+pub walk_inside : (n m : ℕ) (header rest records behind components : List ℕ) → Some rest ≡ bytes_after n header → length records ≤ length rest → Some behind ≡ after_records m records → Some components ≡ bytes_after 2 behind
     → length components ≤ length header
 walk_inside n m header rest records behind components e le f g =
     let one = after_inside n header rest (sym e) in

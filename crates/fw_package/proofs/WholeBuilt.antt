@@ -11,9 +11,9 @@ use Rattle.byteorder.specs.Endian.{little_number}
 use Rattle.fw_package.specs.Components.{components_of}
 use Rattle.fw_package.specs.Crc.{crc_of}
 use Rattle.fw_package.specs.Grammar.{IsPackage, two_bytes}
-use Rattle.fw_package.specs.Layout.{LayoutOf, after, after_components, after_records, closed_layout, layout_from_components, layout_from_records, layout_of}
+use Rattle.fw_package.specs.Layout.{LayoutOf, bytes_after, after_components, after_records, closed_layout, layout_from_components, layout_from_records, layout_of}
 use Rattle.fw_package.specs.Package.{ComponentOf, PackageText, RecordOf}
-use Rattle.fw_package.specs.Reading.{bitmap_size_of, checked, header_of, package_identifier, package_of, parts_of}
+use Rattle.fw_package.specs.Reading.{bitmap_size_of, header_before_checksum, header_of, package_identifier, package_of, parts_of}
 use Rattle.fw_package.specs.Records.{records_of}
 use Rattle.fw_package.specs.declared.fault.PackageFault.{PackageFault}
 use Rattle.fw_package.specs.declared.fault.PackageFault.TheVariants as faults
@@ -82,7 +82,7 @@ after_from : (cut : Bool) (n : ℕ) (bytes rest : List ℕ) → nat_lt (length b
 after_from true n bytes rest e h = absurd (cc)
 after_from false n bytes rest e h = (ltb-false (length bytes) n e, cc)
 
-after_is : (n : ℕ) (bytes rest : List ℕ) → after n bytes ≡ Some rest → (n ≤ length bytes) × (drop n bytes ≡ rest)
+after_is : (n : ℕ) (bytes rest : List ℕ) → bytes_after n bytes ≡ Some rest → (n ≤ length bytes) × (drop n bytes ≡ rest)
 after_is n bytes rest h = after_from (nat_lt (length bytes) n) n bytes rest refl h
 
 record LayoutBuilt (header : List ℕ) (l : LayoutOf) : Type 0 where
@@ -101,7 +101,7 @@ layout_with_records : (header starts : List ℕ) (l : LayoutOf) → layout_from_
 layout_with_records header [] l h long is = absurd (cc)
 layout_with_records header (m ∷ records) l h long is =
     let walked = goes_on (after_records m records) (layout_from_components m records) l h in
-    let after_two = goes_on (after 2 walked.value) _ l walked.gives in
+    let after_two = goes_on (bytes_after 2 walked.value) _ l walked.gives in
     let two = after_is 2 walked.value after_two.value after_two.is in
     let ended = goes_on (after_components (little_number 2 walked.value) after_two.value) (closed_layout m records (little_number 2 walked.value) after_two.value) l after_two.gives in
     let closed = then_some (length ended.value == 4) (record { record_count = m; records = records; component_count = little_number 2 walked.value; components = after_two.value }) l ended.gives in
@@ -122,7 +122,7 @@ layout_with_records header (m ∷ records) l h long is =
 layout_built : (header : List ℕ) (l : LayoutOf) → layout_of header ≡ Some l → LayoutBuilt header l
 unfolding layout_of
 layout_built header l h =
-    let start = goes_on (after (36 + slice_index header 35) header) layout_from_records l h in
+    let start = goes_on (bytes_after (36 + slice_index header 35) header) layout_from_records l h in
     let there = after_is (36 + slice_index header 35) header start.value start.is in
     layout_with_records header start.value l start.gives there.0 there.1
 
@@ -157,8 +157,8 @@ if_true true x y e h = refl
 if_true false x y e h = absurd (cc)
 
 -- the checksum of a header that is checked
-signed_built : (before sum checked_before : List ℕ) → length sum ≡ 4 → checked (before ++ sum) ≡ Ok checked_before → crc_of before ≡ little_number 4 sum
-unfolding checked
+signed_built : (before sum checked_before : List ℕ) → length sum ≡ 4 → header_before_checksum (before ++ sum) ≡ Ok checked_before → crc_of before ≡ little_number 4 sum
+unfolding header_before_checksum
 signed_built before sum checked_before closed h =
     let all = length-append before sum in
     let front : take (length (before ++ sum) - 4) (before ++ sum) ≡ before = take_front before sum (length (before ++ sum) - 4) (omega arith) in
@@ -185,7 +185,7 @@ spelled_as i j r q h0 h1 b0 b1 kind t u release rest more ei er et em = rw (ei, 
 
 whole_built : (bytes header : List ℕ) (l : LayoutOf) (bitmap_size : ℕ) (rs : List RecordOf) (cs : List ComponentOf) (checked_before : List ℕ)
     → HeaderBuilt bytes header → LayoutBuilt header l → BitmapBuilt (little_number 2 (drop 32 header)) l.component_count bitmap_size
-    → records_of bitmap_size l.component_count l.record_count l.records ≡ Ok rs → checked header ≡ Ok checked_before → components_of bytes l.component_count l.components ≡ Ok cs
+    → records_of bitmap_size l.component_count l.record_count l.records ≡ Ok rs → header_before_checksum header ≡ Ok checked_before → components_of bytes l.component_count l.components ≡ Ok cs
     → IsPackage bytes (record { header_size = length header; records = rs; components = cs })
 whole_built bytes header l bitmap_size rs cs checked_before head walk bits records_are checked_is components_are =
     let size : ℕ = little_number 2 (drop 17 bytes) in
@@ -248,7 +248,7 @@ whole_built bytes header l bitmap_size rs cs checked_before head walk bits recor
       release_fits = f.released;
       size = sym f.sized ∙ ap (λ xs. little_number 2 (drop 17 xs)) (sym bytes_split) ∙ sized;
       whole = ap length header_is ∙ all ∙ ap (λ n. length before + n) walk.closed;
-      signed = sym (signed_built before walk.sum checked_before walk.closed (subst (λ xs. checked xs ≡ Ok checked_before) header_is checked_is));
+      signed = sym (signed_built before walk.sum checked_before walk.closed (subst (λ xs. header_before_checksum xs ≡ Ok checked_before) header_is checked_is));
       bits_there = λ e. bits.there (f.bits ∙ e);
       bits_whole = ap (λ n. n % 8) (sym f.bits) ∙ bits.whole;
       bits_enough = rw (composed.counted, ← f.bits) bits.enough;
@@ -265,7 +265,7 @@ package_built bytes p h =
     let layout = through (parts_of (layout_of header.value)) _ p header.gives in
     let bitmap = through (bitmap_size_of (little_number 2 (drop 32 header.value)) layout.value.component_count) _ p layout.gives in
     let records = through (records_of bitmap.value layout.value.component_count layout.value.record_count layout.value.records) _ p bitmap.gives in
-    let signed = through (checked header.value) _ p records.gives in
+    let signed = through (header_before_checksum header.value) _ p records.gives in
     let components = through (components_of bytes layout.value.component_count layout.value.components) _ p signed.gives in
     let same : record { header_size = length header.value; records = records.value; components = components.value } ≡ p = let e = components.gives in cc in
     subst (IsPackage bytes) same

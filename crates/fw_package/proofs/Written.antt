@@ -8,7 +8,7 @@ use Rattle.std.proofs.lemmas.List.{append-nil, length-map}
 use Rattle.std.proofs.lemmas.List.Concat.{length-flat_map}
 use Rattle.std.proofs.lemmas.List.FromFn.{length-map-range_with_len}
 use Rattle.std.proofs.lemmas.List.Sums.{AllPass-from_list_all, sum_by-cons}
-use Rattle.fw_package.specs.Asked.{AskedComponentOf, AskedOf, AskedRecordOf, all_fits, asked, asked_component_of, asked_of, asked_record_of, components_asked, record_asked, are_uses, bitmap_size_for, component_fits, component_size, descriptor_size, header_size, images_size, parts_fit, record_fits, record_size, records_size, refusal_of, text_fits, uses_fit}
+use Rattle.fw_package.specs.Asked.{AskedComponentOf, AskedPackageOf, AskedRecordOf, all_fits, package_for, asked_component_of, asked_package_of, asked_record_of, components_asked, record_asked, are_uses, bitmap_size_for, component_fits, component_size, descriptor_size, header_size, images_size, parts_fit, record_fits, record_size, records_size, refusal_of, text_fits, uses_fit}
 use Rattle.fw_package.specs.Package.{DescriptorOf}
 use Rattle.fw_package.specs.Crc.{crc_of}
 use Rattle.fw_package.specs.Grammar.{AreInTurn, IsComponent, IsDescriptor, IsPackage, IsRecord, four_bytes, two_bytes}
@@ -16,7 +16,7 @@ use Rattle.fw_package.specs.Views.{IsFit}
 use Rattle.fw_package.specs.declared.asked.AskedFault.{AskedFault}
 use Rattle.fw_package.specs.declared.asked.AskedPackage.{AskedPackage}
 use Rattle.fw_package.specs.declared.asked.AskedFault.TheVariants.{Limit, Uses}
-use Rattle.fw_package.specs.Writing.{HasComponentWidths, HasRecordWidths, HasWidths, component_bytes, IsHeaderOf, bitmap_byte, bitmap_of, body_bytes, components_bytes, descriptor_bytes, header_bytes, opening_bytes, record_bytes}
+use Rattle.fw_package.specs.Writing.{HasAskedComponentWidths, HasRecordWidths, HasAskedWidths, component_bytes, IsHeaderOf, bitmap_byte, bitmap_of, body_bytes, components_bytes, descriptor_bytes, header_bytes, opening_bytes, record_bytes}
 use Rattle.fw_package.proofs.NamedBack.{named_back, uses_rise}
 use Rattle.fw_package.proofs.OnePackage.{package_reads}
 use Rattle.fw_package.proofs.Parts.{drop_front, take_front}
@@ -41,7 +41,7 @@ components_least (c ∷ cs) =
     let all = sum_by-cons component_size c cs in
     omega (arith, rest, all)
 
-pub few_asked : (a : AskedOf) → header_size a ≤ 65535 → length a.components ≤ 2978
+pub few_asked : (a : AskedPackageOf) → header_size a ≤ 65535 → length a.components ≤ 2978
 few_asked a fits = let least = components_least a.components in omega (arith, least, fits)
 
 pub bitmap_small : (count : ℕ) → count ≤ 2978 → bitmap_size_for count ≤ 373
@@ -51,12 +51,12 @@ pub no_length : (xs : List ℕ) → length xs ≡ 0 → xs ≡ []
 no_length [] e = refl
 no_length (x ∷ xs) e = absurd (omega (arith, e))
 
-pub opening_long : (a : AskedOf) → length a.release ≡ 13 → length (opening_bytes a) ≡ 36 + length a.version
+pub opening_long : (a : AskedPackageOf) → length a.release ≡ 13 → length (opening_bytes a) ≡ 36 + length a.version
 opening_long a fits =
     let all = length-append a.release (little_bytes 2 (8 * bitmap_size_for (length a.components)) ++ 1 ∷ length a.version ∷ a.version) in
     omega (arith, all, fits)
 
-pub records_long : (a : AskedOf) → length (flat_map (record_bytes (bitmap_size_for (length a.components))) a.records) ≡ records_size a
+pub records_long : (a : AskedPackageOf) → length (flat_map (record_bytes (bitmap_size_for (length a.components))) a.records) ≡ records_size a
 records_long a =
     let size : ℕ = bitmap_size_for (length a.components) in
     length-flat_map (record_bytes size) a.records ∙ same_sums (λ r. length (record_bytes size r)) (record_size size) (record_long size) a.records
@@ -64,29 +64,29 @@ records_long a =
 pub joined : (opening records count components : List ℕ) (m : ℕ) → (((opening ++ m ∷ []) ++ records) ++ count) ++ components ≡ opening ++ m ∷ (records ++ (count ++ components))
 joined opening records count components m = simp append_assoc refl
 
-pub body_put : (p : AskedPackage) (old opened counted recorded numbered new : List ℕ) (bitmap header : ℕ) → old ≡ [] → opened ≡ old ++ opening_bytes (asked_of p) → counted ≡ opened ++ length p.records.now ∷ []
+pub body_put : (p : AskedPackage) (old opened counted recorded numbered new : List ℕ) (bitmap header : ℕ) → old ≡ [] → opened ≡ old ++ opening_bytes (asked_package_of p) → counted ≡ opened ++ length p.records.now ∷ []
     → recorded ≡ counted ++ flat_map (record_bytes bitmap) (map asked_record_of p.records.now) → bitmap ≡ bitmap_size_for (length p.components.now)
-    → numbered ≡ recorded ++ little_bytes 2 (length p.components.now) → new ≡ numbered ++ components_bytes header (map asked_component_of p.components.now) → header ≡ header_size (asked_of p)
-    → new ≡ body_bytes (asked_of p)
+    → numbered ≡ recorded ++ little_bytes 2 (length p.components.now) → new ≡ numbered ++ components_bytes header (map asked_component_of p.components.now) → header ≡ header_size (asked_package_of p)
+    → new ≡ body_bytes (asked_package_of p)
 body_put p old opened counted recorded numbered new bitmap header none opening one records size two components sized =
-    let n : length p.components.now ≡ length (asked_of p).components = sym (length-map p.components.now asked_component_of) in
-    let m : length p.records.now ≡ length (asked_of p).records = sym (length-map p.records.now asked_record_of) in
-    let wide : bitmap ≡ bitmap_size_for (length (asked_of p).components) = size ∙ ap bitmap_size_for n in
-    let opened_is : opened ≡ opening_bytes (asked_of p) = opening ∙ ap (λ xs. xs ++ opening_bytes (asked_of p)) none in
-    let counted_is : counted ≡ opening_bytes (asked_of p) ++ length (asked_of p).records ∷ [] = one ∙ ap (λ xs. xs ++ length p.records.now ∷ []) opened_is ∙ ap (λ k. opening_bytes (asked_of p) ++ k ∷ []) m in
+    let n : length p.components.now ≡ length (asked_package_of p).components = sym (length-map p.components.now asked_component_of) in
+    let m : length p.records.now ≡ length (asked_package_of p).records = sym (length-map p.records.now asked_record_of) in
+    let wide : bitmap ≡ bitmap_size_for (length (asked_package_of p).components) = size ∙ ap bitmap_size_for n in
+    let opened_is : opened ≡ opening_bytes (asked_package_of p) = opening ∙ ap (λ xs. xs ++ opening_bytes (asked_package_of p)) none in
+    let counted_is : counted ≡ opening_bytes (asked_package_of p) ++ length (asked_package_of p).records ∷ [] = one ∙ ap (λ xs. xs ++ length p.records.now ∷ []) opened_is ∙ ap (λ k. opening_bytes (asked_package_of p) ++ k ∷ []) m in
     components
-    ∙ ap (λ xs. xs ++ components_bytes header (asked_of p).components) (two ∙ ap (λ xs. xs ++ little_bytes 2 (length p.components.now)) (records ∙ ap (λ xs. xs ++ flat_map (record_bytes bitmap) (asked_of p).records) counted_is))
-    ∙ ap (λ h. (((opening_bytes (asked_of p) ++ length (asked_of p).records ∷ []) ++ flat_map (record_bytes bitmap) (asked_of p).records) ++ little_bytes 2 (length p.components.now)) ++ components_bytes h (asked_of p).components) sized
-    ∙ ap (λ k. (((opening_bytes (asked_of p) ++ length (asked_of p).records ∷ []) ++ flat_map (record_bytes bitmap) (asked_of p).records) ++ little_bytes 2 k) ++ components_bytes (header_size (asked_of p)) (asked_of p).components) n
-    ∙ ap (λ b. (((opening_bytes (asked_of p) ++ length (asked_of p).records ∷ []) ++ flat_map (record_bytes b) (asked_of p).records) ++ little_bytes 2 (length (asked_of p).components)) ++ components_bytes (header_size (asked_of p)) (asked_of p).components) wide
-    ∙ joined (opening_bytes (asked_of p)) (flat_map (record_bytes (bitmap_size_for (length (asked_of p).components))) (asked_of p).records) (little_bytes 2 (length (asked_of p).components)) (components_bytes (header_size (asked_of p)) (asked_of p).components) (length (asked_of p).records)
+    ∙ ap (λ xs. xs ++ components_bytes header (asked_package_of p).components) (two ∙ ap (λ xs. xs ++ little_bytes 2 (length p.components.now)) (records ∙ ap (λ xs. xs ++ flat_map (record_bytes bitmap) (asked_package_of p).records) counted_is))
+    ∙ ap (λ h. (((opening_bytes (asked_package_of p) ++ length (asked_package_of p).records ∷ []) ++ flat_map (record_bytes bitmap) (asked_package_of p).records) ++ little_bytes 2 (length p.components.now)) ++ components_bytes h (asked_package_of p).components) sized
+    ∙ ap (λ k. (((opening_bytes (asked_package_of p) ++ length (asked_package_of p).records ∷ []) ++ flat_map (record_bytes bitmap) (asked_package_of p).records) ++ little_bytes 2 k) ++ components_bytes (header_size (asked_package_of p)) (asked_package_of p).components) n
+    ∙ ap (λ b. (((opening_bytes (asked_package_of p) ++ length (asked_package_of p).records ∷ []) ++ flat_map (record_bytes b) (asked_package_of p).records) ++ little_bytes 2 (length (asked_package_of p).components)) ++ components_bytes (header_size (asked_package_of p)) (asked_package_of p).components) wide
+    ∙ joined (opening_bytes (asked_package_of p)) (flat_map (record_bytes (bitmap_size_for (length (asked_package_of p).components))) (asked_package_of p).records) (little_bytes 2 (length (asked_package_of p).components)) (components_bytes (header_size (asked_package_of p)) (asked_package_of p).components) (length (asked_package_of p).records)
 
 -- the records that are put are those that are asked
 pub records_put : (old new : List ℕ) (p : AskedPackage) (size : ℕ) → size ≡ bitmap_size_for (length p.components.now) → new ≡ old ++ flat_map (record_bytes size) (map asked_record_of p.records.now)
-    → new ≡ old ++ flat_map (record_bytes (bitmap_size_for (length (asked_of p).components))) (asked_of p).records
+    → new ≡ old ++ flat_map (record_bytes (bitmap_size_for (length (asked_package_of p).components))) (asked_package_of p).records
 records_put old new p size is put = put ∙ ap (λ n. old ++ flat_map (record_bytes n) (map asked_record_of p.records.now)) (is ∙ ap bitmap_size_for (sym (length-map p.components.now asked_component_of)))
 
-pub body_long : (a : AskedOf) → length a.release ≡ 13 → length (body_bytes a) + 4 ≡ header_size a
+pub body_long : (a : AskedPackageOf) → length a.release ≡ 13 → length (body_bytes a) + 4 ≡ header_size a
 body_long a fits =
     let records : List ℕ = flat_map (record_bytes (bitmap_size_for (length a.components))) a.records in
     let components : List ℕ = components_bytes (header_size a) a.components in
@@ -102,7 +102,7 @@ none_of : (b : Bool) (e : AskedFault) (o : Option AskedFault) → (if not b then
 none_of true e o h = (refl, h)
 none_of false e o h = absurd (cc)
 
-pub fits_of : (a : AskedOf) → refusal_of a ≡ None → IsFit a
+pub fits_of : (a : AskedPackageOf) → refusal_of a ≡ None → IsFit a
 unfolding refusal_of
 fits_of a h =
     let uses = none_of (uses_fit a) Uses (if not (all_fits a) then Some Limit else None) h in
@@ -198,7 +198,7 @@ image_there front image more offset size at is =
     sym (ap (take size) (drop_front front (image ++ more) offset (sym at)) ∙ take_front image more size (sym is))
 
 components_written : (file front : List ℕ) (offset : ℕ) (cs : List AskedComponentOf) (images : List (List ℕ)) → file ≡ front ++ concat images → offset ≡ length front
-    → map length images ≡ map (λ c. c.size) cs → All HasComponentWidths cs → offset + sum_by (λ c. c.size) cs ≤ 4294967295
+    → map length images ≡ map (λ c. c.size) cs → All HasAskedComponentWidths cs → offset + sum_by (λ c. c.size) cs ≤ 4294967295
     → AreInTurn (IsComponent file) (components_bytes offset cs) (components_asked offset cs images)
 components_written file front offset [] [] is at sizes widths fits = refl
 components_written file front offset [] (image ∷ images) is at sizes widths fits = refl
@@ -207,13 +207,13 @@ components_written file front offset (c ∷ cs) (image ∷ images) is at sizes w
     let all = sum_by-cons (λ c. c.size) c cs in
     let size_is : length image ≡ c.size = cc in
     let others : map length images ≡ map (λ c. c.size) cs = cc in
-    let width = first_of HasComponentWidths c cs widths in
+    let width = first_of HasAskedComponentWidths c cs widths in
     let place = four_back offset (omega (arith, fits)) in
     let sized = four_back c.size (omega (arith, fits, all)) in
     let long = ap length is ∙ length-append front (image ++ concat images) in
     let tail = length-append image (concat images) in
     let next = length-append front image in
-    let rest = components_written file (front ++ image) (offset + c.size) cs images (is ∙ sym (append_assoc front image (concat images))) (omega (arith, at, next, size_is)) others (others_of HasComponentWidths c cs widths) (omega (arith, fits, all)) in (
+    let rest = components_written file (front ++ image) (offset + c.size) cs images (is ∙ sym (append_assoc front image (concat images))) (omega (arith, at, next, size_is)) others (others_of HasAskedComponentWidths c cs widths) (omega (arith, fits, all)) in (
       component_bytes offset c,
       components_bytes (offset + c.size) cs,
       refl,
@@ -256,8 +256,8 @@ bits_for count =
       bytes = omega arith;
     }
 
-package_asked : (a : AskedOf) (images : List (List ℕ)) → IsFit a → HasWidths a → crc_of (body_bytes a) < 4294967296 → map length images ≡ map (λ c. c.size) a.components
-    → IsPackage (header_bytes a ++ concat images) (asked a images)
+package_asked : (a : AskedPackageOf) (images : List (List ℕ)) → IsFit a → HasAskedWidths a → crc_of (body_bytes a) < 4294967296 → map length images ≡ map (λ c. c.size) a.components
+    → IsPackage (header_bytes a ++ concat images) (package_for a images)
 package_asked a images fit widths small sizes =
     let count : ℕ = length a.components in
     let size : ℕ = bitmap_size_for count in
@@ -303,9 +303,9 @@ package_asked a images fit widths small sizes =
       composed = components_written (header_bytes a ++ concat images) (header_bytes a) (header_size a) a.components images refl (omega (arith, long, signature)) sizes widths.components fit.file;
     }
 
-pub written_package : (a : AskedOf) → IsFit a → HasWidths a → crc_of (body_bytes a) < 4294967296 → IsHeaderOf a (header_bytes a)
+pub written_package : (a : AskedPackageOf) → IsFit a → HasAskedWidths a → crc_of (body_bytes a) < 4294967296 → IsHeaderOf a (header_bytes a)
 written_package a fit widths small =
     record {
       is = λ images sizes. package_asked a images fit widths small sizes;
-      reads = λ images sizes. package_reads (header_bytes a ++ concat images) (asked a images) (package_asked a images fit widths small sizes);
+      reads = λ images sizes. package_reads (header_bytes a ++ concat images) (package_for a images) (package_asked a images fit widths small sizes);
     }

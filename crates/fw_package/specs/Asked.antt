@@ -26,7 +26,7 @@ pub record AskedComponentOf : Type 0 where
   pub size : ℕ
 
 -- a package
-pub record AskedOf : Type 0 where
+pub record AskedPackageOf : Type 0 where
   pub release : List ℕ
   pub version : List ℕ
   pub records : List AskedRecordOf
@@ -49,8 +49,8 @@ asked_component_of c =
       size = c.size;
     }
 
-abbrev pub asked_of : AskedPackage → AskedOf
-asked_of p =
+abbrev pub asked_package_of : AskedPackage → AskedPackageOf
+asked_package_of p =
     record {
       release = p.release;
       version = p.version.now;
@@ -74,14 +74,14 @@ component_size c = 22 + length c.text
 
 -- The bytes of the header: its fixed part and the version text, the records after their count, the components after
 -- theirs, and the checksum.
-abbrev pub records_size : AskedOf → ℕ
+abbrev pub records_size : AskedPackageOf → ℕ
 records_size a = sum_by (record_size (bitmap_size_for (length a.components))) a.records
 
-abbrev pub header_size : AskedOf → ℕ
+abbrev pub header_size : AskedPackageOf → ℕ
 header_size a = 36 + (length a.version + (1 + (records_size a + (2 + (sum_by component_size a.components + 4)))))
 
 -- the bytes of the images
-abbrev pub images_size : AskedOf → ℕ
+abbrev pub images_size : AskedPackageOf → ℕ
 images_size a = sum_by (λ c. c.size) a.components
 
 -- The package. Each text has type 1. The first image stands where the header ends, each other where the one before it ends.
@@ -107,8 +107,8 @@ abbrev pub components_asked : ℕ → List AskedComponentOf → List (List ℕ) 
 components_asked offset (c ∷ cs) (image ∷ images) = component_asked offset c image ∷ components_asked (offset + length image) cs images
 components_asked offset _ _ = []
 
-abbrev pub asked : AskedOf → List (List ℕ) → PackageText
-asked a images =
+abbrev pub package_for : AskedPackageOf → List (List ℕ) → PackageText
+package_for a images =
     record {
       header_size = header_size a;
       records = map record_asked a.records;
@@ -121,7 +121,7 @@ are_uses count from [] = true
 are_uses count from (k ∷ ks) = nat_le from k && (nat_lt k count && are_uses count (k + 1) ks)
 
 -- each record uses components that are asked for
-abbrev pub uses_fit : AskedOf → Bool
+abbrev pub uses_fit : AskedPackageOf → Bool
 uses_fit a = list_all (λ r. are_uses (length a.components) 0 r.uses) a.records
 
 -- Each length and each number fits its field: a text's length, the number of a record's descriptors and of all records
@@ -135,16 +135,16 @@ record_fits r = text_fits r.set_text && nat_le (length r.descriptors) 255
 abbrev pub component_fits : AskedComponentOf → Bool
 component_fits c = text_fits c.text
 
-abbrev pub parts_fit : AskedOf → Bool
+abbrev pub parts_fit : AskedPackageOf → Bool
 parts_fit a =
     text_fits a.version
     && (nat_le (length a.records) 255 && (list_all record_fits a.records && list_all component_fits a.components))
 
-abbrev pub all_fits : AskedOf → Bool
+abbrev pub all_fits : AskedPackageOf → Bool
 all_fits a = parts_fit a && (nat_le (header_size a) 65535 && nat_le (header_size a + images_size a) 4294967295)
 
 -- why it can't be written: the first of these
-unfoldable pub refusal_of : AskedOf → Option AskedFault
+unfoldable pub refusal_of : AskedPackageOf → Option AskedFault
 refusal_of a =
     if not (uses_fit a) then Some Uses
     else if not (all_fits a) then Some Limit

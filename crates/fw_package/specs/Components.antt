@@ -18,8 +18,8 @@ pub record PlaceOf : Type 0 where
   pub text : TextOf
 
 -- the same with the image itself
-abbrev pub placed : List ℕ → PlaceOf → ComponentOf
-placed file c =
+abbrev pub component_at_place : List ℕ → PlaceOf → ComponentOf
+component_at_place file c =
     record {
       classification = c.classification;
       identifier = c.identifier;
@@ -46,7 +46,7 @@ place_of bytes =
 -- that component, whose image is the part of the file at its offset and size
 unfoldable pub component_of : List ℕ → List ℕ → Result ComponentOf PackageFault
 component_of file bytes =
-    if nat_lt (length file) ((place_of bytes).offset + (place_of bytes).size) then Err ImageRange else Ok (placed file (place_of bytes))
+    if nat_lt (length file) ((place_of bytes).offset + (place_of bytes).size) then Err ImageRange else Ok (component_at_place file (place_of bytes))
 
 -- so many components, one after the other
 unfoldable pub components_of : List ℕ → ℕ → List ℕ → Result (List ComponentOf) PackageFault

@@ -57,16 +57,16 @@ HasImages file (suc n) bytes =
     ((place_of bytes).offset + (place_of bytes).size ≤ length file) × HasImages file n (drop (22 + text_size_of 21 bytes) bytes)
 
 -- The first fault: none before it holds, and it does.
-abbrev pub IsFirstFault : List ℕ → PackageFault → Type 0
-IsFirstFault bytes faults.Short = length bytes < 36
-IsFirstFault bytes faults.Identifier = (36 ≤ length bytes) × (take 16 bytes ≢ package_identifier)
-IsFirstFault bytes faults.Revision = IsIdentified bytes × (slice_index bytes 16 ≢ 1)
-IsFirstFault bytes faults.HeaderSize = IsRevised bytes × (size_in bytes ≤ length bytes → layout_of (header_in bytes) ≡ None)
-IsFirstFault bytes faults.BitmapLength = (l : LayoutOf) × IsLaidOut bytes l × ¬ HasBitmaps (bits_in bytes) l.component_count
-IsFirstFault bytes faults.RecordLength =
+abbrev pub IsFirstPackageFault : List ℕ → PackageFault → Type 0
+IsFirstPackageFault bytes faults.Short = length bytes < 36
+IsFirstPackageFault bytes faults.Identifier = (36 ≤ length bytes) × (take 16 bytes ≢ package_identifier)
+IsFirstPackageFault bytes faults.Revision = IsIdentified bytes × (slice_index bytes 16 ≢ 1)
+IsFirstPackageFault bytes faults.HeaderSize = IsRevised bytes × (size_in bytes ≤ length bytes → layout_of (header_in bytes) ≡ None)
+IsFirstPackageFault bytes faults.BitmapLength = (l : LayoutOf) × IsLaidOut bytes l × ¬ HasBitmaps (bits_in bytes) l.component_count
+IsFirstPackageFault bytes faults.RecordLength =
     (l : LayoutOf) × IsLaidOut bytes l × HasBitmaps (bits_in bytes) l.component_count × ¬ HasRecords bytes l
-IsFirstFault bytes faults.Checksum =
+IsFirstPackageFault bytes faults.Checksum =
     (l : LayoutOf) × IsLaidOut bytes l × HasBitmaps (bits_in bytes) l.component_count × HasRecords bytes l × ¬ IsSigned (header_in bytes)
-IsFirstFault bytes faults.ImageRange =
+IsFirstPackageFault bytes faults.ImageRange =
     (l : LayoutOf) × IsLaidOut bytes l × HasBitmaps (bits_in bytes) l.component_count × HasRecords bytes l × IsSigned (header_in bytes)
     × ¬ HasImages bytes l.component_count l.components

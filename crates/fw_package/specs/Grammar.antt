@@ -5,7 +5,7 @@ use Rattle.byteorder.specs.Endian.{little_number}
 use Rattle.fw_package.specs.Crc.{crc_of}
 use Rattle.fw_package.specs.Package.{ComponentOf, DescriptorOf, PackageText, RecordOf}
 use Rattle.fw_package.specs.Reading.{package_identifier}
-use Rattle.fw_package.specs.Records.{named}
+use Rattle.fw_package.specs.Records.{components_named}
 
 -- the numbers of two and of four bytes
 abbrev pub two_bytes : ℕ → ℕ → ℕ
@@ -37,7 +37,7 @@ pub record IsRecordRest (bitmap_size component_count descriptor_count text_size 
   pub counted : length r.descriptors ≡ descriptor_count
   pub described : AreInTurn IsDescriptor descriptors r.descriptors
   pub content_fits : length content ≡ data_size
-  pub uses : r.uses ≡ named bitmap component_count
+  pub uses : r.uses ≡ components_named bitmap component_count
 
 -- A record: length, descriptor count, option flags, set text type and length, package data length, and then
 -- bitmap, set text, descriptors and package data. Its length is that of the whole.

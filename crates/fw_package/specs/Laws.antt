@@ -14,7 +14,7 @@ abbrev pub AreOnePackage : Type 0
 AreOnePackage = (bytes : List ℕ) (p q : PackageText) → IsPackage bytes p → IsPackage bytes q → p ≡ q
 
 -- the record is for the device: it has a descriptor, and each of its descriptors is one of the device's
-pub record IsFor (device : List DescriptorOf) (r : RecordOf) : Type 0 where
+pub record IsRecordFor (device : List DescriptorOf) (r : RecordOf) : Type 0 where
   pub some : 1 ≤ length r.descriptors
   pub among : All (Contains device) r.descriptors
 
@@ -22,8 +22,8 @@ pub record IsFor (device : List DescriptorOf) (r : RecordOf) : Type 0 where
 abbrev pub ChoosesFirst : Type 0
 ChoosesFirst = (p : PackageText) (device : List DescriptorOf) →
     MatchOption (record_number p device)
-    ((k : ℕ) → k < length p.records → ¬ IsFor device (record_at p k))
-    (λ n. (n < length p.records) × IsFor device (record_at p n) × ((k : ℕ) → k < n → ¬ IsFor device (record_at p k)))
+    ((k : ℕ) → k < length p.records → ¬ IsRecordFor device (record_at p k))
+    (λ n. (n < length p.records) × IsRecordFor device (record_at p n) × ((k : ℕ) → k < n → ¬ IsRecordFor device (record_at p k)))
 
 -- components of a plan with the same key are the same
 abbrev pub PlansKeysOnce : Type 0

@@ -5,8 +5,8 @@ use Rattle.byteorder.specs.Endian.{little_number}
 use Rattle.fw_package.specs.declared.layout.Layout.{Layout}
 
 -- what stands after the first n bytes, where there are so many
-abbrev pub after : ℕ → List ℕ → Option (List ℕ)
-after n bytes = if nat_lt (length bytes) n then None else Some (drop n bytes)
+abbrev pub bytes_after : ℕ → List ℕ → Option (List ℕ)
+bytes_after n bytes = if nat_lt (length bytes) n then None else Some (drop n bytes)
 
 -- the length of a text, in the byte at this place
 abbrev pub text_size_of : ℕ → List ℕ → ℕ
@@ -14,7 +14,7 @@ text_size_of place bytes = slice_index bytes place
 
 -- what stands after a record, which begins with its length
 abbrev pub after_record : List ℕ → Option (List ℕ)
-after_record bytes = if nat_lt (length bytes) 2 then None else after (little_number 2 bytes) bytes
+after_record bytes = if nat_lt (length bytes) 2 then None else bytes_after (little_number 2 bytes) bytes
 
 -- what stands after so many records
 unfoldable pub after_records : ℕ → List ℕ → Option (List ℕ)
@@ -23,7 +23,7 @@ after_records (suc n) bytes = option_and_then (after_records n) (after_record by
 
 -- what stands after a component: 22 bytes, of which the last is the length of the version text, and that text
 abbrev pub after_component : List ℕ → Option (List ℕ)
-after_component bytes = after (22 + text_size_of 21 bytes) bytes
+after_component bytes = bytes_after (22 + text_size_of 21 bytes) bytes
 
 -- what stands after so many components
 unfoldable pub after_components : ℕ → List ℕ → Option (List ℕ)
@@ -57,7 +57,7 @@ abbrev pub layout_from_components : ℕ → List ℕ → List ℕ → Option Lay
 layout_from_components m records rest =
     option_and_then
     (λ components. option_and_then (closed_layout m records (little_number 2 rest) components) (after_components (little_number 2 rest) components))
-    (after 2 rest)
+    (bytes_after 2 rest)
 
 -- the record count and the records, after the version text
 abbrev pub layout_from_records : List ℕ → Option LayoutOf
@@ -66,4 +66,4 @@ layout_from_records (m ∷ records) = option_and_then (layout_from_components m 
 
 -- the layout of a header whose parts end where it does: the version text stands after 36 bytes
 unfoldable pub layout_of : List ℕ → Option LayoutOf
-layout_of header = option_and_then layout_from_records (after (36 + text_size_of 35 header) header)
+layout_of header = option_and_then layout_from_records (bytes_after (36 + text_size_of 35 header) header)

@@ -4,7 +4,7 @@ use Rattle.byteorder.specs.Endian.{little_number}
 use Rattle.fw_package.specs.Components.{PlaceOf, place_of}
 use Rattle.fw_package.specs.Layout.{layout_of, text_size_of}
 use Rattle.fw_package.specs.Package.{ComponentOf, PackageText, RecordOf}
-use Rattle.fw_package.specs.Reading.{bitmap_size_of, checked, header_of, parts_of}
+use Rattle.fw_package.specs.Reading.{bitmap_size_of, header_before_checksum, header_of, parts_of}
 use Rattle.fw_package.specs.Records.{◌>>=◌, records_of}
 use Rattle.fw_package.specs.declared.fault.PackageFault.{PackageFault}
 use Rattle.fw_package.specs.declared.fault.PackageFault.TheVariants.{ImageRange}
@@ -29,8 +29,8 @@ its_place c =
     }
 
 -- a package, each component by its place
-abbrev pub outlined : PackageText → OutlineOf
-outlined p = record { header_size = p.header_size; records = p.records; places = map its_place p.components }
+abbrev pub outline_of_package : PackageText → OutlineOf
+outline_of_package p = record { header_size = p.header_size; records = p.records; places = map its_place p.components }
 
 -- The bytes are those with which a file of this length begins: the first 65,535 of them, since a header's size
 -- stands in two bytes, or all.
@@ -65,7 +65,7 @@ contents_of bytes = do
   layout ← parts_of (layout_of header)
   bitmap_size ← bitmap_size_of (little_number 2 (drop 32 header)) layout.component_count
   records ← records_of bitmap_size layout.component_count layout.record_count layout.records
-  before ← checked header
+  before ← header_before_checksum header
   Ok (record { header_size = length header; records = records; component_count = layout.component_count; components = layout.components })
 
 -- the outline of the package of this length that begins with these bytes, or the first fault

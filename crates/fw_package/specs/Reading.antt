@@ -35,8 +35,8 @@ bitmap_size_of bits component_count =
     if (bits == 0) || (not (bits % 8 == 0) || nat_lt bits component_count) then Err BitmapLength else Ok (bits / 8)
 
 -- the header's bytes before its checksum, which is theirs
-unfoldable pub checked : List ℕ → Result (List ℕ) PackageFault
-checked header =
+unfoldable pub header_before_checksum : List ℕ → Result (List ℕ) PackageFault
+header_before_checksum header =
     if crc_of (take (length header - 4) header) == little_number 4 (drop (length header - 4) header) then Ok (take (length header - 4) header) else Err Checksum
 
 -- the package that these bytes are, or the first fault
@@ -46,7 +46,7 @@ package_of bytes = do
   layout ← parts_of (layout_of header)
   bitmap_size ← bitmap_size_of (little_number 2 (drop 32 header)) layout.component_count
   records ← records_of bitmap_size layout.component_count layout.record_count layout.records
-  before ← checked header
+  before ← header_before_checksum header
   components ← components_of bytes layout.component_count layout.components
   Ok (record { header_size = length header; records = records; components = components })
 

@@ -37,8 +37,8 @@ abbrev pub is_named : List ℕ → ℕ → Bool
 is_named bitmap k = bit_at (slice_index bitmap (k / 8)) (k % 8) == 1
 
 -- the components that a bitmap names, of so many that there are
-unfoldable pub named : List ℕ → ℕ → List ℕ
-named bitmap count = filter (is_named bitmap) (range_with_len 0 count)
+unfoldable pub components_named : List ℕ → ℕ → List ℕ
+components_named bitmap count = filter (is_named bitmap) (range_with_len 0 count)
 
 -- The record that these bytes are, with a bitmap of so many bytes: eleven bytes, the bitmap, the set text,
 -- the descriptors and the package data, whose lengths make up the whole.
@@ -53,7 +53,7 @@ record_of bitmap_size component_count bytes = do
         flags = little_number 4 (drop 3 head.0);
         set_text = record { kind = slice_index head.0 7; bytes = text.0 };
         descriptors = descriptors.0;
-        uses = named bitmap.0 component_count;
+        uses = components_named bitmap.0 component_count;
       })
       else Err RecordLength
 

@@ -2,7 +2,7 @@
 use Rattle.std.specs.Prelude.{ℕ, ◌≡◌, true, All, ◌+◌, ◌-◌, ◌<◌, ◌≤◌, ◌*◌, ◌==◌, ◌||◌, Bool, false, List, [], ◌∷◌, IsOk, IsSome, Result, Ok, Err, drop, filter, length, slice_index_or, min, ◌^◌}
 use Rattle.std.specs.List.{list_any, range_with_len}
 use Rattle.std.specs.List.Sorted.{IsStrictlyIncreasing}
-use Rattle.fw_package.specs.Asked.{AskedOf, AskedRecordOf, are_uses, header_size, images_size}
+use Rattle.fw_package.specs.Asked.{AskedPackageOf, AskedRecordOf, are_uses, header_size, images_size}
 use Rattle.fw_package.specs.Choice.{has_key, no_component}
 use Rattle.fw_package.specs.Components.{components_of}
 use Rattle.fw_package.specs.Layout.{after_components, after_records}
@@ -12,9 +12,9 @@ use Rattle.fw_package.specs.Records.{is_named, records_of}
 use Rattle.fw_package.specs.declared.fault.PackageFault.{PackageFault}
 
 -- a list that was read, and one that was read with what stands after it
-abbrev pub listed : {A : Type 0} → Result (List A) PackageFault → List A
-listed (Ok xs) = xs
-listed (Err e) = []
+abbrev pub list_or_empty : {A : Type 0} → Result (List A) PackageFault → List A
+list_or_empty (Ok xs) = xs
+list_or_empty (Err e) = []
 
 abbrev pub front_of : {A B : Type 0} → Result (List A × B) PackageFault → List A
 front_of (Ok p) = p.0
@@ -45,27 +45,27 @@ used_from at row [] = []
 used_from at row (n ∷ ns) = slice_index_or row (n - at) no_component ∷ used_from (n + 1) (drop (n - at + 1) row) ns
 
 -- the numbers are rising, and in the row
-abbrev pub AreUsed : ℕ → List ComponentOf → List ℕ → Type 0
-AreUsed at row [] = Unit {0}
-AreUsed at row (n ∷ ns) = (at ≤ n) × (n - at < length row) × AreUsed (n + 1) (drop (n - at + 1) row) ns
+abbrev pub AreRisingUses : ℕ → List ComponentOf → List ℕ → Type 0
+AreRisingUses at row [] = Unit {0}
+AreRisingUses at row (n ∷ ns) = (at ≤ n) × (n - at < length row) × AreRisingUses (n + 1) (drop (n - at + 1) row) ns
 
 -- two of these components have the same key
-abbrev pub twins : List ComponentOf → Bool
-twins [] = false
-twins (c ∷ cs) = list_any (has_key c.classification c.identifier) cs || twins cs
+abbrev pub has_twins : List ComponentOf → Bool
+has_twins [] = false
+has_twins (c ∷ cs) = list_any (has_key c.classification c.identifier) cs || has_twins cs
 
 -- a key as one number
 abbrev pub number_of : ComponentOf → ℕ
 number_of c = c.classification * 65536 + c.identifier
 
 -- two of these numbers are equal
-abbrev pub doubles : List ℕ → Bool
-doubles [] = false
-doubles (k ∷ ks) = list_any (λ j. k == j) ks || doubles ks
+abbrev pub has_doubles : List ℕ → Bool
+has_doubles [] = false
+has_doubles (k ∷ ks) = list_any (λ j. k == j) ks || has_doubles ks
 
 -- a number, or the largest that 64 bits hold where it is larger
-abbrev pub capped : ℕ → ℕ
-capped n = min n (2 ^ 64 - 1)
+abbrev pub capped_number : ℕ → ℕ
+capped_number n = min n (2 ^ 64 - 1)
 
 -- a record's numbers and texts fit, and its components rise
 pub record IsRecordFit (r : AskedRecordOf) : Type 0 where
@@ -74,7 +74,7 @@ pub record IsRecordFit (r : AskedRecordOf) : Type 0 where
   pub rising : IsStrictlyIncreasing r.uses
 
 -- what is asked can be written
-pub record IsFit (a : AskedOf) : Type 0 where
+pub record IsFit (a : AskedPackageOf) : Type 0 where
   pub version : length a.version ≤ 255
   pub count : length a.records ≤ 255
   pub records : All IsRecordFit a.records

@@ -2,7 +2,7 @@
 use Rattle.std.specs.Prelude.{ℕ, zero, suc, ◌≡◌, ◌+◌, ◌*◌, ◌<◌, ◌==◌, Bool, if◌then◌else◌, List, [], ◌∷◌, ◌++◌, Ok, All, length, map}
 use Rattle.std.specs.List.{concat, flat_map, list_any, range_with_len}
 use Rattle.byteorder.specs.Endian.{little_bytes}
-use Rattle.fw_package.specs.Asked.{AskedComponentOf, AskedOf, AskedRecordOf, asked, bitmap_size_for, header_size, record_size}
+use Rattle.fw_package.specs.Asked.{AskedComponentOf, AskedPackageOf, AskedRecordOf, package_for, bitmap_size_for, header_size, record_size}
 use Rattle.fw_package.specs.Crc.{crc_of}
 use Rattle.fw_package.specs.Grammar.{IsPackage}
 use Rattle.fw_package.specs.Package.{DescriptorOf}
@@ -52,38 +52,38 @@ components_bytes offset (c ∷ cs) = component_bytes offset c ++ components_byte
 
 -- The fixed part and the version text: identifier, revision 1, the header's size, the release time, the bits of a
 -- bitmap, the version text's type and length, and the text.
-abbrev pub opening_bytes : AskedOf → List ℕ
+abbrev pub opening_bytes : AskedPackageOf → List ℕ
 opening_bytes a =
     package_identifier ++ 1 ∷ (little_bytes 2 (header_size a) ++ (a.release
     ++ (little_bytes 2 (8 * bitmap_size_for (length a.components)) ++ 1 ∷ length a.version ∷ a.version)))
 
 -- the header's bytes before its checksum: the opening, the records and the components, each after their count
-abbrev pub body_bytes : AskedOf → List ℕ
+abbrev pub body_bytes : AskedPackageOf → List ℕ
 body_bytes a =
     opening_bytes a ++ length a.records ∷ (flat_map (record_bytes (bitmap_size_for (length a.components))) a.records
     ++ (little_bytes 2 (length a.components) ++ components_bytes (header_size a) a.components))
 
 -- the header
-abbrev pub header_bytes : AskedOf → List ℕ
+abbrev pub header_bytes : AskedPackageOf → List ℕ
 header_bytes a = body_bytes a ++ little_bytes 4 (crc_of (body_bytes a))
 
 -- The header and images of the sizes that are asked make up the package that is asked, and read as it.
-pub record IsHeaderOf (a : AskedOf) (header : List ℕ) : Type 0 where
-  pub is : (images : List (List ℕ)) → map length images ≡ map (λ c. c.size) a.components → IsPackage (header ++ concat images) (asked a images)
-  pub reads : (images : List (List ℕ)) → map length images ≡ map (λ c. c.size) a.components → package_of (header ++ concat images) ≡ Ok (asked a images)
+pub record IsHeaderOf (a : AskedPackageOf) (header : List ℕ) : Type 0 where
+  pub is : (images : List (List ℕ)) → map length images ≡ map (λ c. c.size) a.components → IsPackage (header ++ concat images) (package_for a images)
+  pub reads : (images : List (List ℕ)) → map length images ≡ map (λ c. c.size) a.components → package_of (header ++ concat images) ≡ Ok (package_for a images)
 
 -- the numbers that are asked fit their fields
 pub record HasRecordWidths (r : AskedRecordOf) : Type 0 where
   pub flags : r.flags < 4294967296
   pub kinds : All (λ d. d.kind < 65536) r.descriptors
 
-pub record HasComponentWidths (c : AskedComponentOf) : Type 0 where
+pub record HasAskedComponentWidths (c : AskedComponentOf) : Type 0 where
   pub classification : c.classification < 65536
   pub identifier : c.identifier < 65536
   pub stamp : c.stamp < 4294967296
   pub options : c.options < 65536
 
-pub record HasWidths (a : AskedOf) : Type 0 where
+pub record HasAskedWidths (a : AskedPackageOf) : Type 0 where
   pub release : length a.release ≡ 13
   pub records : All HasRecordWidths a.records
-  pub components : All HasComponentWidths a.components
+  pub components : All HasAskedComponentWidths a.components

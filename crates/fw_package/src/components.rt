@@ -3,7 +3,7 @@
 ghost use Rattle.std.specs.Iterator.{YieldsFirstBy, item_count};
 ghost use Rattle.std.specs.Prelude.{◌≡◌, ◌+◌, ◌≤◌, length, drop, IsSome};
 ghost use Rattle.std.specs.Result.{result_map_both};
-ghost use Rattle.fw_package.specs.Components.{component_of, components_of, placed};
+ghost use Rattle.fw_package.specs.Components.{component_of, components_of, component_at_place};
 ghost use Rattle.fw_package.specs.Layout.{after_component, after_components};
 ghost use Rattle.fw_package.specs.Lent.{component_seen, place_seen};
 
@@ -51,7 +51,7 @@ impl<'a> Component<'a> {
     /// The component whose image stands at this place of the file.
     fn at(file: &'a [u8], place: Place<'a>) -> Component<'a>
         requires { place.offset + place.size ≤ length file.now }
-        ensures { component_seen result ≡ placed file.now (place_seen place.entry) }
+        ensures { component_seen result ≡ component_at_place file.now (place_seen place.entry) }
     {
         Component {
             classification: place.classification,
@@ -77,11 +77,11 @@ impl<'a> Model for Components<'a> {
     ghost use Rattle.std.specs.Prelude.{List};
     ghost use Rattle.fw_package.specs.Components.{components_of};
     ghost use Rattle.fw_package.specs.Package.{ComponentOf};
-    ghost use Rattle.fw_package.specs.Views.{AreComponents, listed};
+    ghost use Rattle.fw_package.specs.Views.{AreComponents, list_or_empty};
 
     ghost Value = { List ComponentOf };
 
-    ghost view = { λ c. listed (components_of c.file.now c.count c.rest.now) };
+    ghost view = { λ c. list_or_empty (components_of c.file.now c.count c.rest.now) };
 
     ghost invariant = { λ c. AreComponents c.file.now c.count c.rest.now };
 }

@@ -2,7 +2,7 @@
 
 ghost use Rattle.std.specs.Prelude.{◌≡◌, ◌+◌, ◌≤◌, ◌<◌, length, IfSome, IsSome};
 ghost use Rattle.std.specs.Option.{option_map};
-ghost use Rattle.fw_package.specs.Layout.{after, after_component, after_components, after_record, after_records, layout_of, layout_seen, text_size_of};
+ghost use Rattle.fw_package.specs.Layout.{bytes_after, after_component, after_components, after_record, after_records, layout_of, layout_seen, text_size_of};
 
 use byteorder::{ByteOrder, LittleEndian};
 
@@ -83,7 +83,7 @@ pub fn walk(header: &[u8]) -> Option<Layout<'_>>
 
 /// What stands after the first `size` bytes, where there are so many.
 fn skip(bytes: &[u8], size: usize) -> Option<&[u8]>
-    ensures { option_map (λ rest. rest.now) result ≡ after size bytes.now }
+    ensures { option_map (λ rest. rest.now) result ≡ bytes_after size bytes.now }
 {
     if bytes.len() < size {
         return None;

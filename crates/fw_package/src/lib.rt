@@ -32,7 +32,7 @@ pub use fault::{PackageFault, PlanFault};
 pub use laws::{chooses_first, one_package, plans_named_images};
 pub use outlines::{BEGINNING_SIZE, Outline};
 pub use packages::Package;
-pub use places::{Place, Places};
+pub use places::{ComponentPlaces, Place};
 pub use plans::{PLAN_LIMIT, Plan};
 pub use records::{Record, Records};
 pub use texts::{Descriptor, Text};

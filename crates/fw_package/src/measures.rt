@@ -2,9 +2,9 @@
 
 ghost use Rattle.std.specs.Prelude.{◌≡◌, map};
 ghost use Rattle.std.specs.List.{list_all, sum_by};
-ghost use Rattle.fw_package.specs.Asked.{all_fits, are_uses as rise_below, asked_component_of, asked_of, asked_record_of, component_fits, component_size, descriptor_size, header_size, parts_fit, record_fits, record_size, refusal_of, text_fits, uses_fit};
+ghost use Rattle.fw_package.specs.Asked.{all_fits, are_uses as rise_below, asked_component_of, asked_package_of, asked_record_of, component_fits, component_size, descriptor_size, header_size, parts_fit, record_fits, record_size, refusal_of, text_fits, uses_fit};
 ghost use Rattle.fw_package.specs.Package.{descriptor_of};
-ghost use Rattle.fw_package.specs.Views.{capped};
+ghost use Rattle.fw_package.specs.Views.{capped_number};
 
 use crate::asked::{AskedComponent, AskedFault, AskedPackage, AskedRecord};
 use crate::bitmaps::{are_uses, bitmap_size};
@@ -28,7 +28,7 @@ const FILE_LIMIT: usize = 4_294_967_295;
 /// The first reason why a package can't be written, if there is one.
 #[tactic(auto, unfolding(crate::specs::Asked::refusal_of))]
 pub fn refusal(asked: &AskedPackage<'_>) -> Option<AskedFault>
-    ensures { result ≡ refusal_of (asked_of asked.now) }
+    ensures { result ≡ refusal_of (asked_package_of asked.now) }
 {
     if !uses_fit(asked.records, asked.components.len()) {
         return Some(AskedFault::Uses);
@@ -53,7 +53,7 @@ fn uses_fit(records: &[AskedRecord<'_>], count: usize) -> bool
 
 /// Whether all lengths and numbers fit their fields.
 fn all_fits(asked: &AskedPackage<'_>) -> bool
-    ensures { result ≡ all_fits (asked_of asked.now) }
+    ensures { result ≡ all_fits (asked_package_of asked.now) }
 {
     let header = header_size(asked);
     parts_fit(asked)
@@ -63,7 +63,7 @@ fn all_fits(asked: &AskedPackage<'_>) -> bool
 
 /// Whether the texts' lengths, the descriptors' numbers and the records' number have one byte each.
 fn parts_fit(asked: &AskedPackage<'_>) -> bool
-    ensures { result ≡ parts_fit (asked_of asked.now) }
+    ensures { result ≡ parts_fit (asked_package_of asked.now) }
 {
     text_fits(asked.version)
         && asked.records.len() <= BYTE_LIMIT
@@ -105,7 +105,7 @@ fn components_fit(components: &[AskedComponent<'_>]) -> bool
 /// The bytes of the header, or the largest number where there are more.
 #[tactic(auto, using(crate::proofs::Measured::capped_header))]
 pub fn header_size(asked: &AskedPackage<'_>) -> usize
-    ensures { result ≡ capped (header_size (asked_of asked.now)) }
+    ensures { result ≡ capped_number (header_size (asked_package_of asked.now)) }
 {
     let bitmap_size = bitmap_size(asked.components.len());
     let lists = records_size(asked.records, bitmap_size).saturating_add(components_size(
@@ -118,7 +118,7 @@ pub fn header_size(asked: &AskedPackage<'_>) -> usize
 
 /// The bytes of records with a bitmap of so many bytes, or the largest number.
 fn records_size(records: &[AskedRecord<'_>], bitmap_size: usize) -> usize
-    ensures { result ≡ capped (sum_by (record_size bitmap_size) (map asked_record_of records.now)) }
+    ensures { result ≡ capped_number (sum_by (record_size bitmap_size) (map asked_record_of records.now)) }
 {
     let mut size = 0usize;
     for record in records {
@@ -129,7 +129,7 @@ fn records_size(records: &[AskedRecord<'_>], bitmap_size: usize) -> usize
 
 /// The bytes of a record with a bitmap of so many bytes, or the largest number.
 pub fn record_size(record: &AskedRecord<'_>, bitmap_size: usize) -> usize
-    ensures { result ≡ capped (record_size bitmap_size (asked_record_of «record».now)) }
+    ensures { result ≡ capped_number (record_size bitmap_size (asked_record_of «record».now)) }
 {
     let texts = record.set_text.len().saturating_add(bitmap_size);
     descriptors_size(record.descriptors)
@@ -139,7 +139,7 @@ pub fn record_size(record: &AskedRecord<'_>, bitmap_size: usize) -> usize
 
 /// The bytes of descriptors, or the largest number.
 fn descriptors_size(descriptors: &[Descriptor<'_>]) -> usize
-    ensures { result ≡ capped (sum_by descriptor_size (map descriptor_of descriptors.now)) }
+    ensures { result ≡ capped_number (sum_by descriptor_size (map descriptor_of descriptors.now)) }
 {
     let mut size = 0usize;
     for descriptor in descriptors {
@@ -150,7 +150,7 @@ fn descriptors_size(descriptors: &[Descriptor<'_>]) -> usize
 
 /// The bytes of components, or the largest number.
 fn components_size(components: &[AskedComponent<'_>]) -> usize
-    ensures { result ≡ capped (sum_by component_size (map asked_component_of components.now)) }
+    ensures { result ≡ capped_number (sum_by component_size (map asked_component_of components.now)) }
 {
     let mut size = 0usize;
     for component in components {
@@ -161,7 +161,7 @@ fn components_size(components: &[AskedComponent<'_>]) -> usize
 
 /// The bytes of the images, or the largest number.
 fn images_size(components: &[AskedComponent<'_>]) -> usize
-    ensures { result ≡ capped (sum_by (λ c. c.size) (map asked_component_of components.now)) }
+    ensures { result ≡ capped_number (sum_by (λ c. c.size) (map asked_component_of components.now)) }
 {
     let mut size = 0usize;
     for component in components {

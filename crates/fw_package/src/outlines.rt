@@ -5,7 +5,7 @@ ghost use Rattle.fw_package.specs.Outlines.{outline_of};
 
 use crate::contents::Contents;
 use crate::fault::PackageFault;
-use crate::places::Places;
+use crate::places::ComponentPlaces;
 use crate::records::Records;
 use std::marker::Model;
 
@@ -17,7 +17,7 @@ pub const BEGINNING_SIZE: usize = 65_535;
 pub struct Outline<'a> {
     header_size: usize,
     records: Records<'a>,
-    places: Places<'a>,
+    places: ComponentPlaces<'a>,
 }
 
 impl<'a> Model for Outline<'a> {
@@ -31,7 +31,7 @@ impl<'a> Model for Outline<'a> {
 impl<'a> Outline<'a> {
     ghost use Rattle.std.specs.Prelude.{List, ℕ};
     ghost use Rattle.std.specs.Result.{result_map_both};
-    ghost use Rattle.fw_package.specs.Outlines.{IsBeginning, outlined};
+    ghost use Rattle.fw_package.specs.Outlines.{IsBeginning, outline_of_package};
     ghost use Rattle.fw_package.specs.Reading.{package_of};
 
     /// Reads the outline of the package with whose first 65,535 bytes this is called, or with all where it has no more,
@@ -41,7 +41,7 @@ impl<'a> Outline<'a> {
     /// A file that is no package is refused by the first fault that holds.
     pub fn read(beginning: &'a [u8], file_length: usize) -> Result<Outline<'a>, PackageFault>
         ensures value { result ≡ outline_of beginning.now file_length }
-        ensures whole { (file : List ℕ) → IsBeginning file beginning.now file_length → result ≡ result_map_both outlined (λ e. e) (package_of file) }
+        ensures whole { (file : List ℕ) → IsBeginning file beginning.now file_length → result ≡ result_map_both outline_of_package (λ e. e) (package_of file) }
     {
         are_bytes(beginning);
         Outline::read_parts(beginning, file_length)
@@ -53,7 +53,11 @@ impl<'a> Outline<'a> {
         ensures { result ≡ outline_of beginning.now file_length }
     {
         let contents = Contents::read(beginning)?;
-        let places = Places::read(file_length, contents.components, contents.component_count)?;
+        let places = ComponentPlaces::read(
+            file_length,
+            contents.components,
+            contents.component_count,
+        )?;
         Ok(Outline {
             header_size: contents.header_size,
             records: contents.records,
@@ -90,7 +94,7 @@ impl<'a> Outline<'a> {
     }
 
     /// The components, each by its image's place, one after the other.
-    pub fn places(&self) -> Places<'a>
+    pub fn places(&self) -> ComponentPlaces<'a>
         ensures { result ≡ self.now.places }
     {
         self.places.iter()

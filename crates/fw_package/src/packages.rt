@@ -3,7 +3,7 @@
 ghost use Rattle.std.specs.Prelude.{◌≡◌, ◌<◌, ◌≤◌, length, map, IfOk, IfErr, IfSome, All, nat_lt, ◌||◌};
 ghost use Rattle.std.specs.List.Sorted.{IsStrictlyIncreasing};
 ghost use Rattle.fw_package.specs.Choice.{component_at, has_large_image, has_long_text, has_twin, plan_of, record_at, record_number};
-ghost use Rattle.fw_package.specs.Faults.{IsFirstFault};
+ghost use Rattle.fw_package.specs.Faults.{IsFirstPackageFault};
 ghost use Rattle.fw_package.specs.Lent.{component_seen, record_seen};
 ghost use Rattle.fw_package.specs.Package.{descriptor_of};
 ghost use Rattle.fw_package.specs.Reading.{package_of};
@@ -58,7 +58,7 @@ impl<'a> Package<'a> {
         ensures found { IfOk result (λ p. IsPackage bytes.now p) }
         ensures only { (p : PackageText) → IsPackage bytes.now p → IsOk result }
         ensures value { IfOk result (λ p. package_of bytes.now ≡ Ok p) }
-        ensures fault { IfErr result (λ e. IsFirstFault bytes.now e) }
+        ensures fault { IfErr result (λ e. IsFirstPackageFault bytes.now e) }
         ensures first { IfErr result (λ e. package_of bytes.now ≡ Err e) }
     {
         Package::read_parts(bytes)

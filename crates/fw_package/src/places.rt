@@ -105,26 +105,26 @@ fn version_text(bytes: &[u8]) -> Text<'_>
 
 /// The components of a package without their images, one after the other. It is also an iterator over them.
 #[derive(Drop)]
-pub struct Places<'a> {
+pub struct ComponentPlaces<'a> {
     file_length: usize,
     count: usize,
     rest: &'a [u8],
 }
 
-impl<'a> Model for Places<'a> {
+impl<'a> Model for ComponentPlaces<'a> {
     ghost use Rattle.std.specs.Prelude.{List};
     ghost use Rattle.fw_package.specs.Components.{PlaceOf};
     ghost use Rattle.fw_package.specs.Outlines.{places_of};
-    ghost use Rattle.fw_package.specs.Views.{ArePlaces, listed};
+    ghost use Rattle.fw_package.specs.Views.{ArePlaces, list_or_empty};
 
     ghost Value = { List PlaceOf };
 
-    ghost view = { λ p. listed (places_of p.file_length p.count p.rest.now) };
+    ghost view = { λ p. list_or_empty (places_of p.file_length p.count p.rest.now) };
 
     ghost invariant = { λ p. ArePlaces p.file_length p.count p.rest.now };
 }
 
-impl<'a> Places<'a> {
+impl<'a> ComponentPlaces<'a> {
     /// So many components, the first of which these bytes of a header begin with, in a file of this length.
     ///
     /// # Errors
@@ -134,7 +134,7 @@ impl<'a> Places<'a> {
         file_length: usize,
         bytes: &'a [u8],
         count: usize,
-    ) -> Result<Places<'a>, PackageFault>
+    ) -> Result<ComponentPlaces<'a>, PackageFault>
         requires { IsSome (after_components count bytes.now) }
         ensures { result ≡ places_of file_length count bytes.now }
     {
@@ -145,7 +145,7 @@ impl<'a> Places<'a> {
                 Err(fault) => return Err(fault),
             }
         }
-        Ok(Places {
+        Ok(ComponentPlaces {
             file_length,
             count,
             rest: bytes,
@@ -161,10 +161,10 @@ impl<'a> Places<'a> {
     }
 
     /// The same again.
-    pub fn iter(&self) -> Places<'a>
+    pub fn iter(&self) -> ComponentPlaces<'a>
         ensures { result ≡ self.now }
     {
-        Places {
+        ComponentPlaces {
             file_length: self.file_length,
             count: self.count,
             rest: self.rest,
@@ -172,7 +172,7 @@ impl<'a> Places<'a> {
     }
 }
 
-impl<'a> Iterator for Places<'a> {
+impl<'a> Iterator for ComponentPlaces<'a> {
     type Item = Place<'a>;
 
     ghost next_gives = { YieldsFirstBy place_seen (λ left. left) };
@@ -187,7 +187,7 @@ impl<'a> Iterator for Places<'a> {
         let Ok(place) = Place::read(self.file_length, self.rest) else {
             unreachable!()
         };
-        *self = Places {
+        *self = ComponentPlaces {
             file_length: self.file_length,
             count: self.count - 1,
             rest: others(self.rest),

@@ -2,7 +2,7 @@
 
 ghost use Rattle.std.specs.Prelude.{◌≡◌, ◌≤◌, ◌<◌, length, IfOk};
 ghost use Rattle.std.specs.Result.{result_map_both};
-ghost use Rattle.fw_package.specs.Reading.{bitmap_size_of, checked, header_of, package_identifier};
+ghost use Rattle.fw_package.specs.Reading.{bitmap_size_of, header_before_checksum, header_of, package_identifier};
 
 use crate::crc::crc32;
 use crate::fault::PackageFault;
@@ -58,10 +58,10 @@ pub fn bitmap_size(bits: usize, component_count: u16) -> Result<usize, PackageFa
 }
 
 /// Compares the checksum, with which a header ends, with that of the bytes before it.
-#[tactic(auto, unfolding(crate::specs::Reading::checked))]
+#[tactic(auto, unfolding(crate::specs::Reading::header_before_checksum))]
 pub fn check(header: &[u8]) -> Result<&[u8], PackageFault>
     requires { FIXED_SIZE ≤ length header.now }
-    ensures { result_map_both (λ h. h.now) (λ e. e) result ≡ checked header.now }
+    ensures { result_map_both (λ h. h.now) (λ e. e) result ≡ header_before_checksum header.now }
 {
     let (before, checksum) = header.split_at(header.len() - CHECKSUM_SIZE);
     if crc32(before) != LittleEndian::read_u32(checksum) {

@@ -104,11 +104,11 @@ impl<'a> Model for Records<'a> {
     ghost use Rattle.std.specs.Prelude.{List};
     ghost use Rattle.fw_package.specs.Package.{RecordOf};
     ghost use Rattle.fw_package.specs.Records.{records_of};
-    ghost use Rattle.fw_package.specs.Views.{AreRecords, listed};
+    ghost use Rattle.fw_package.specs.Views.{AreRecords, list_or_empty};
 
     ghost Value = { List RecordOf };
 
-    ghost view = { λ r. listed (records_of r.bitmap_size r.component_count r.count r.rest.now) };
+    ghost view = { λ r. list_or_empty (records_of r.bitmap_size r.component_count r.count r.rest.now) };
 
     ghost invariant = { λ r. AreRecords r.bitmap_size r.component_count r.count r.rest.now };
 }

@@ -5,7 +5,7 @@ ghost use Rattle.std.specs.Prelude.{◌≡◌, ◌+◌, ◌*◌, ◌<◌, ◌≤
 ghost use Rattle.std.specs.List.{list_any};
 ghost use Rattle.std.specs.List.Sorted.{IsStrictlyIncreasing};
 ghost use Rattle.fw_package.specs.Lent.{component_seen};
-ghost use Rattle.fw_package.specs.Views.{AreUsed, doubles, twins, used_from};
+ghost use Rattle.fw_package.specs.Views.{AreRisingUses, has_doubles, has_twins, used_from};
 
 use crate::components::{Component, Components};
 use crate::uses::Uses;
@@ -31,19 +31,19 @@ pub struct Used<'a> {
 impl<'a> Model for Used<'a> {
     ghost use Rattle.std.specs.Prelude.{List};
     ghost use Rattle.fw_package.specs.Package.{ComponentOf};
-    ghost use Rattle.fw_package.specs.Views.{AreUsed, used_from};
+    ghost use Rattle.fw_package.specs.Views.{AreRisingUses, used_from};
 
     ghost Value = { List ComponentOf };
 
     ghost view = { λ u. used_from u.at u.left u.uses };
 
-    ghost invariant = { λ u. AreUsed u.at u.left u.uses };
+    ghost invariant = { λ u. AreRisingUses u.at u.left u.uses };
 }
 
 impl<'a> Used<'a> {
     /// The components of these numbers.
     pub fn new(components: &Components<'a>, uses: &Uses<'a>) -> Self
-        requires { AreUsed 0 components.now uses.now }
+        requires { AreRisingUses 0 components.now uses.now }
         ensures { result ≡ used_from 0 components.now uses.now }
     {
         Used {
@@ -56,7 +56,7 @@ impl<'a> Used<'a> {
     /// Whether two of these have the same key. The keys are sorted, as two that are equal are neighbours then.
     pub fn has_twin(self) -> bool
         requires { length self ≤ KEY_LIMIT }
-        ensures { result ≡ twins self.entry }
+        ensures { result ≡ has_twins self.entry }
     {
         let mut keys = self.keys();
         let sorted = keys.as_mut_slice();
@@ -67,7 +67,7 @@ impl<'a> Used<'a> {
     /// The keys of these, each as one number.
     fn keys(self) -> ArrayVec<u32, KEY_LIMIT>
         requires { length self ≤ KEY_LIMIT }
-        ensures { doubles result.items ≡ twins self.entry }
+        ensures { has_doubles result.items ≡ has_twins self.entry }
     {
         let mut keys = ArrayVec::new();
         for component in self {

@@ -2,7 +2,7 @@
 
 ghost use Rattle.std.specs.Iterator.{YieldsFirst, item_count};
 ghost use Rattle.std.specs.Prelude.{◌≡◌, ◌+◌, ◌-◌, ◌<◌, ◌∷◌, ◌↔◌, [], length, IsTrue, MatchOption};
-ghost use Rattle.fw_package.specs.Records.{is_named, named};
+ghost use Rattle.fw_package.specs.Records.{is_named, components_named};
 ghost use Rattle.fw_package.specs.Views.{named_from};
 
 use std::marker::Model;
@@ -29,9 +29,9 @@ impl<'a> Model for Uses<'a> {
 
 impl<'a> Uses<'a> {
     /// The components that a bitmap names, of so many that there are.
-    #[tactic(auto, unfolding(crate::specs::Records::named))]
+    #[tactic(auto, unfolding(crate::specs::Records::components_named))]
     pub(crate) fn new(bitmap: &'a [u8], count: u16) -> Self
-        ensures { result ≡ named bitmap.now count }
+        ensures { result ≡ components_named bitmap.now count }
     {
         Uses {
             bitmap,

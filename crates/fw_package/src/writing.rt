@@ -4,10 +4,10 @@ ghost use Rattle.std.specs.Prelude.{◌≡◌, ◌+◌, ◌++◌, ◌∷◌, [],
 ghost use Rattle.std.specs.List.{flat_map, sum_by};
 ghost use Rattle.arrayvec.specs.ArrayVec.{array_vec_len};
 ghost use Rattle.byteorder.specs.Endian.{little_bytes};
-ghost use Rattle.fw_package.specs.Asked.{asked_component_of, asked_of, asked_record_of, component_size, descriptor_size, header_size, record_size, refusal_of};
+ghost use Rattle.fw_package.specs.Asked.{asked_component_of, asked_package_of, asked_record_of, component_size, descriptor_size, header_size, record_size, refusal_of};
 ghost use Rattle.fw_package.specs.Package.{descriptor_of};
 ghost use Rattle.fw_package.specs.Views.{IsFit, IsRecordFit};
-ghost use Rattle.fw_package.specs.Writing.{HasComponentWidths, HasRecordWidths, HasWidths, IsHeaderOf, body_bytes, component_bytes, components_bytes, descriptor_bytes, header_bytes, opening_bytes, record_bytes, record_head};
+ghost use Rattle.fw_package.specs.Writing.{HasAskedComponentWidths, HasRecordWidths, HasAskedWidths, IsHeaderOf, body_bytes, component_bytes, components_bytes, descriptor_bytes, header_bytes, opening_bytes, record_bytes, record_head};
 
 use crate::asked::{AskedComponent, AskedFault, AskedPackage, AskedRecord};
 use crate::bitmaps::{bitmap_size, put_bitmap};
@@ -138,7 +138,7 @@ fn put_component(header: &mut Header, asked: &AskedComponent<'_>, offset: usize)
     requires short { length asked.now.text.now ≤ 255 }
     requires inside { offset + asked.now.size ≤ 4294967295 }
     ensures bytes { header.new.items ≡ header.old.items ++ component_bytes offset (asked_component_of asked.now) }
-    ensures widths { HasComponentWidths (asked_component_of asked.now) }
+    ensures widths { HasAskedComponentWidths (asked_component_of asked.now) }
 {
     put_u16(header, asked.classification);
     put_u16(header, asked.identifier);
@@ -157,7 +157,7 @@ fn put_components(header: &mut Header, components: &[AskedComponent<'_>], start:
     requires short { All (λ c. length c.text ≤ 255) (map asked_component_of components.now) }
     requires inside { start + sum_by (λ c. c.size) (map asked_component_of components.now) ≤ 4294967295 }
     ensures bytes { header.new.items ≡ header.old.items ++ components_bytes start (map asked_component_of components.now) }
-    ensures widths { All HasComponentWidths (map asked_component_of components.now) }
+    ensures widths { All HasAskedComponentWidths (map asked_component_of components.now) }
 {
     let mut offset = start;
     for asked in components {
@@ -169,8 +169,8 @@ fn put_components(header: &mut Header, components: &[AskedComponent<'_>], start:
 /// Appends the fixed part and the version text.
 fn put_opening(header: &mut Header, asked: &AskedPackage<'_>)
     requires room { array_vec_len header.old + 36 + length asked.now.version.now ≤ 65535 }
-    requires fit { IsFit (asked_of asked.now) }
-    ensures bytes { header.new.items ≡ header.old.items ++ opening_bytes (asked_of asked.now) }
+    requires fit { IsFit (asked_package_of asked.now) }
+    ensures bytes { header.new.items ≡ header.old.items ++ opening_bytes (asked_package_of asked.now) }
     ensures release { length asked.now.release ≡ 13 }
 {
     let bitmap_size = bitmap_size(asked.components.len());
@@ -186,9 +186,9 @@ fn put_opening(header: &mut Header, asked: &AskedPackage<'_>)
 /// Appends the header's bytes before its checksum.
 fn put_body(header: &mut Header, asked: &AskedPackage<'_>)
     requires empty { array_vec_len header.old ≡ 0 }
-    requires fit { IsFit (asked_of asked.now) }
-    ensures bytes { header.new.items ≡ body_bytes (asked_of asked.now) }
-    ensures widths { HasWidths (asked_of asked.now) }
+    requires fit { IsFit (asked_package_of asked.now) }
+    ensures bytes { header.new.items ≡ body_bytes (asked_package_of asked.now) }
+    ensures widths { HasAskedWidths (asked_package_of asked.now) }
 {
     put_opening(header, asked);
     header.push(asked.records.len() as u8);
@@ -206,10 +206,10 @@ impl<'a> AskedPackage<'a> {
     /// # Errors
     /// The first fault that holds; the buffer is as it was then.
     pub fn write_header(&self, header: &mut Header) -> Result<(), AskedFault>
-        ensures written { refusal_of (asked_of self.now) ≡ None → IsOk result }
-        ensures refused { IfErr result (λ fault. refusal_of (asked_of self.now) ≡ Some fault) }
-        ensures bytes { OnOk result (header.new.items ≡ header_bytes (asked_of self.now)) }
-        ensures package { OnOk result (IsHeaderOf (asked_of self.now) header.new.items) }
+        ensures written { refusal_of (asked_package_of self.now) ≡ None → IsOk result }
+        ensures refused { IfErr result (λ fault. refusal_of (asked_package_of self.now) ≡ Some fault) }
+        ensures bytes { OnOk result (header.new.items ≡ header_bytes (asked_package_of self.now)) }
+        ensures package { OnOk result (IsHeaderOf (asked_package_of self.now) header.new.items) }
         ensures kept { OnErr result (header.new ≡ header.old) }
     {
         if let Some(fault) = refusal(self) {

@@ -1,7 +1,7 @@
 -- Keys that rise.
 use Rattle.std.proofs.Common.{◌≡◌, ◌∷◌, ℕ, suc, Bool, true, false, if◌then◌else◌, List, [], ap, refl}
 use Rattle.std.specs.List.{insert}
-use Rattle.fd_core.specs.Images.{rises}
+use Rattle.fd_core.specs.Images.{is_key_before}
 use Rattle.fwup_wire.specs.declared.values.Key.{Key}
 use Rattle.fw_script.specs.Reports.{key_among, place_among}
 
@@ -13,4 +13,4 @@ put_if false key k ks n e = refl
 -- a key that is put in its place stands among the others
 pub in_place : (ks : List Key) (key : Key) → insert ks (place_among ks key) key ≡ key_among key ks
 in_place [] key = refl
-in_place (k ∷ ks) key = put_if (rises k key) key k ks (place_among ks key) (in_place ks key)
+in_place (k ∷ ks) key = put_if (is_key_before k key) key k ks (place_among ks key) (in_place ks key)

@@ -8,8 +8,8 @@ use Rattle.fw_steps.specs.Worlds.{full_tick}
 use Rattle.fw_steps.specs.declared.step.Step.{Step}
 use Rattle.fw_steps.specs.declared.step.Step.TheVariants as steps
 use Rattle.fw_script.specs.Lines.{lines_of}
-use Rattle.fw_script.specs.ScheduleTexts.{AreSayable, IsSayable, PortionsAreTheWhole, SchedulesReadBack, idle_after, idle_at, is_idle, line_of, schedule_text, spaced, step_text, text_of_steps, text_with, ticks_text, words_for, words_for_ticks}
-use Rattle.fw_script.specs.Schedules.{before, script_from, script_of, steps_of, then_lines}
+use Rattle.fw_script.specs.ScheduleTexts.{StepsRoundTrip, StepRoundTrips, PortionsAreTheWhole, SchedulesReadBack, idle_after, idle_at, is_idle, line_of, schedule_text, words_with_spaces, step_text, text_of_steps, text_with, ticks_text, words_for, words_for_ticks}
+use Rattle.fw_script.specs.Schedules.{steps_then, script_from, script_of, steps_of, then_lines}
 use Rattle.fw_script.proofs.SaidSteps.{step_back, step_words, tick_words, ticks_back}
 use Rattle.fw_script.proofs.SpacedLines.{AreWords, first_of_lines}
 use Rattle.fw_script.proofs.Steps.{repeat_more}
@@ -22,16 +22,16 @@ reads_nothing : Reads [] []
 reads_nothing = record { from = λ number. refl }
 
 -- a line before
-reads_line : (words : List (List ℕ)) (rest : List ℕ) (said more : List Step) → AreWords words → steps_of (spaced words) ≡ Ok said → Reads rest more
+reads_line : (words : List (List ℕ)) (rest : List ℕ) (said more : List Step) → AreWords words → steps_of (words_with_spaces words) ≡ Ok said → Reads rest more
     → Reads (line_of words ++ rest) (said ++ more)
 reads_line words rest said more are says follows = record {
   from = λ number.
       ap (script_from number) (first_of_lines words rest are)
       ∙ ap (λ r. then_lines number r (script_from (number + 1) (lines_of rest))) says
-      ∙ ap (before said) (follows.from (number + 1));
+      ∙ ap (steps_then said) (follows.from (number + 1));
 }
 
-reads_step : (step : Step) (rest : List ℕ) (more : List Step) → is_idle step ≡ false → IsSayable step → Reads rest more
+reads_step : (step : Step) (rest : List ℕ) (more : List Step) → is_idle step ≡ false → StepRoundTrips step → Reads rest more
     → Reads (step_text step ++ rest) (step ∷ more)
 unfolding step_text
 reads_step step rest more some h follows =
@@ -65,7 +65,7 @@ abbrev left_of : (idle : ℕ) → List Step → List ℕ
 left_of idle ss = text_of_steps idle ss ++ ticks_text (idle_at idle ss)
 
 -- a step that is no such tick
-reads_other : (idle : ℕ) (step : Step) (ss : List Step) → idle < 1000 → is_idle step ≡ false → IsSayable step → Reads (left_of 0 ss) ss
+reads_other : (idle : ℕ) (step : Step) (ss : List Step) → idle < 1000 → is_idle step ≡ false → StepRoundTrips step → Reads (left_of 0 ss) ss
     → Reads (left_of idle (step ∷ ss)) (repeat idle (full_tick ∷ []) ++ step ∷ ss)
 reads_other idle step ss few other h follows =
     rw (other, append_assoc (ticks_text idle ++ step_text step) (text_of_steps 0 ss) (ticks_text (idle_at 0 ss)), append_assoc (ticks_text idle) (step_text step) (left_of 0 ss))
@@ -84,7 +84,7 @@ reads_held : (idle : ℕ) (step : Step) (ss : List Step) → idle ≢ 999 → is
     → Reads (left_of (idle + 1) ss) (repeat (idle + 1) (full_tick ∷ []) ++ ss) → Reads (left_of idle (step ∷ ss)) (repeat idle (full_tick ∷ []) ++ step ∷ ss)
 reads_held idle step ss short same follows = rw (same, ne_eqb idle 999 short, full_from step same, sym (one_more idle ss)) follows
 
-reads_left : (idle : ℕ) (ss : List Step) → idle < 1000 → AreSayable ss → Reads (left_of idle ss) (repeat idle (full_tick ∷ []) ++ ss)
+reads_left : (idle : ℕ) (ss : List Step) → idle < 1000 → StepsRoundTrip ss → Reads (left_of idle ss) (repeat idle (full_tick ∷ []) ++ ss)
 reads_left idle [] few h = rw (sym (append-nil (ticks_text idle))) (reads_ticks idle [] [] (omega arith) reads_nothing)
 reads_left idle (step ∷ ss) few h =
     elim (cases_Bool (is_idle step)) [
@@ -99,7 +99,7 @@ pub schedules_read_back : SchedulesReadBack
 schedules_read_back ss h = (reads_left 0 ss (omega arith) h).from 1
 
 -- so is a text that is the steps'
-pub read_written : (text : List ℕ) (ss : List Step) → text ≡ schedule_text ss → AreSayable ss → script_of text ≡ Ok ss
+pub read_written : (text : List ℕ) (ss : List Step) → text ≡ schedule_text ss → StepsRoundTrip ss → script_of text ≡ Ok ss
 read_written text ss is h = ap script_of is ∙ schedules_read_back ss h
 
 -- PORTIONS

@@ -21,9 +21,9 @@ use Rattle.fw_steps.specs.Worlds.{full_tick}
 use Rattle.fw_steps.specs.declared.step.Step.{Step}
 use Rattle.fw_steps.specs.declared.step.Step.TheVariants as steps
 use Rattle.fw_script.specs.Faults.{both}
-use Rattle.fw_script.specs.ScheduleTexts.{AreMissing, IsDelivery, IsRequest, IsSayable, IsStart, is_idle, spaced, verdict_word, words_for, words_for_ticks}
+use Rattle.fw_script.specs.ScheduleTexts.{AreMissing, IsDelivery, IsLogRequest, StepRoundTrips, IsStart, is_idle, words_with_spaces, verdict_word, words_for, words_for_ticks}
 use Rattle.fw_script.specs.Lines.{is_nothing, is_skipped}
-use Rattle.fw_script.specs.Schedules.{alone, behind, directive_of, eids_from, has_twice, miss, miss_step, most_fields, place_of, request_step, steps_of, steps_said, ticks, verdict_of}
+use Rattle.fw_script.specs.Schedules.{one_step, eids_with, directive_of, eids_from, has_twice, miss, miss_step, most_fields, place_of, request_step, steps_of, steps_of_directive, ticks, verdict_of}
 use Rattle.fw_script.specs.Values.{bytes_of, eid_of, is_dash, number_in}
 use Rattle.fw_script.specs.declared.schedule.Directive.{Directive}
 use Rattle.fw_script.specs.declared.schedule.Directive.TheVariants as directives
@@ -90,14 +90,14 @@ data_word (b ∷ bytes) h = record { some = omega (arith, length-encode_with upp
 
 -- A LINE
 
-unskipped : (name : List ℕ) (words : List (List ℕ)) → 0 < length name → is_skipped name ≡ false → is_skipped (spaced (name ∷ words)) ≡ false
-unfolding spaced
+unskipped : (name : List ℕ) (words : List (List ℕ)) → 0 < length name → is_skipped name ≡ false → is_skipped (words_with_spaces (name ∷ words)) ≡ false
+unfolding words_with_spaces
 unskipped [] words some h = absurd (omega arith)
 unskipped (b ∷ bytes) words some h = h
 
 -- the words of a line that says something
 pub said : (d : Directive) (name : List ℕ) (fields : List (List ℕ)) → directive_of name ≡ Some d → is_skipped name ≡ false
-    → length fields ≤ most_fields (Some d) → AreWords (name ∷ fields) → steps_of (spaced (name ∷ fields)) ≡ steps_said d fields
+    → length fields ≤ most_fields (Some d) → AreWords (name ∷ fields) → steps_of (words_with_spaces (name ∷ fields)) ≡ steps_of_directive d fields
 unfolding steps_of
 said d name fields named begun few words =
     rw (unskipped name fields words.0.some begun, words_spaced name fields words, named, all_fields (most_fields (Some d)) fields few words.1) refl
@@ -105,7 +105,7 @@ said d name fields named begun few words =
 -- STEPS
 
 deliver_back : (pair number node : ℕ) → IsDelivery pair number node
-    → steps_of (spaced (words_for (steps.Deliver pair number node))) ≡ Ok (steps.Deliver pair number node ∷ [])
+    → steps_of (words_with_spaces (words_for (steps.Deliver pair number node))) ≡ Ok (steps.Deliver pair number node ∷ [])
 unfolding directive_of
 deliver_back pair number node h =
     said directives.Deliver (codes "deliver") (decimal pair ∷ decimal number ∷ decimal node ∷ []) refl refl (omega arith)
@@ -113,26 +113,26 @@ deliver_back pair number node h =
     ∙ rw (eid_back pair h.of_pair, place_back number h.counted, eid_back node h.to_node) refl
 
 start_back : (device number : ℕ) → IsStart device number
-    → steps_of (spaced (words_for (steps.Start device number))) ≡ Ok (steps.Start device number ∷ [])
+    → steps_of (words_with_spaces (words_for (steps.Start device number))) ≡ Ok (steps.Start device number ∷ [])
 unfolding directive_of
 start_back device number h =
     said directives.Start (codes "start") (decimal device ∷ decimal number ∷ []) refl refl (omega arith)
     (known_word (codes "start") refl, (eid_word device h.of_device, (number_word number h.counted, tt)))
     ∙ rw (eid_back device h.of_device, place_back number h.counted) refl
 
-cancel_back : (device : ℕ) → IsEid device → steps_of (spaced (words_for (steps.Cancel device))) ≡ Ok (steps.Cancel device ∷ [])
+cancel_back : (device : ℕ) → IsEid device → steps_of (words_with_spaces (words_for (steps.Cancel device))) ≡ Ok (steps.Cancel device ∷ [])
 unfolding directive_of
 cancel_back device h =
     said directives.Cancel (codes "cancel") (decimal device ∷ []) refl refl (omega arith) (known_word (codes "cancel") refl, (eid_word device h, tt))
     ∙ rw (eid_back device h) refl
 
-activate_back : (device : ℕ) → IsEid device → steps_of (spaced (words_for (steps.Activate device))) ≡ Ok (steps.Activate device ∷ [])
+activate_back : (device : ℕ) → IsEid device → steps_of (words_with_spaces (words_for (steps.Activate device))) ≡ Ok (steps.Activate device ∷ [])
 unfolding directive_of
 activate_back device h =
     said directives.Activate (codes "activate") (decimal device ∷ []) refl refl (omega arith) (known_word (codes "activate") refl, (eid_word device h, tt))
     ∙ rw (eid_back device h) refl
 
-restart_back : (node : ℕ) → IsEid node → steps_of (spaced (words_for (steps.Restart node))) ≡ Ok (steps.Restart node ∷ [])
+restart_back : (node : ℕ) → IsEid node → steps_of (words_with_spaces (words_for (steps.Restart node))) ≡ Ok (steps.Restart node ∷ [])
 unfolding directive_of
 restart_back node h =
     said directives.Restart (codes "restart") (decimal node ∷ []) refl refl (omega arith) (known_word (codes "restart") refl, (eid_word node h, tt))
@@ -152,29 +152,29 @@ word_of_verdict verdicts.ApplyOk = known_word (codes "apply-ok") refl
 word_of_verdict verdicts.ApplyFail = known_word (codes "apply-fail") refl
 
 judge_back : (device : ℕ) (verdict : Verdict) → IsEid device
-    → steps_of (spaced (words_for (steps.Verdict device verdict))) ≡ Ok (steps.Verdict device verdict ∷ [])
+    → steps_of (words_with_spaces (words_for (steps.Verdict device verdict))) ≡ Ok (steps.Verdict device verdict ∷ [])
 unfolding directive_of
 judge_back device verdict h =
     said directives.Verdict (codes "verdict") (decimal device ∷ verdict_word verdict ∷ []) refl refl (omega arith)
     (known_word (codes "verdict") refl, (eid_word device h, (word_of_verdict verdict, tt)))
     ∙ rw (eid_back device h, verdict_back verdict) refl
 
-request_back : (request : List ℕ) → IsRequest request → request_step (Ok request) ≡ Ok (steps.Sel (record { items = request }))
+request_back : (request : List ℕ) → IsLogRequest request → request_step (Ok request) ≡ Ok (steps.Sel (record { items = request }))
 request_back request h = rw (le-ltb 64 (length request) h.few) refl
 
-sel_back : (request : List ℕ) → IsRequest request
-    → steps_of (spaced (codes "sel" ∷ data_text request ∷ [])) ≡ Ok (steps.Sel (record { items = request }) ∷ [])
+sel_back : (request : List ℕ) → IsLogRequest request
+    → steps_of (words_with_spaces (codes "sel" ∷ data_text request ∷ [])) ≡ Ok (steps.Sel (record { items = request }) ∷ [])
 unfolding directive_of
 sel_back request h =
     said directives.Sel (codes "sel") (data_text request ∷ []) refl refl (omega arith) (known_word (codes "sel") refl, (data_word request h.bytes, tt))
-    ∙ ap (λ r. alone (request_step r)) (data_back request h.bytes) ∙ ap alone (request_back request h)
+    ∙ ap (λ r. one_step (request_step r)) (data_back request h.bytes) ∙ ap one_step (request_back request h)
 
 -- TICKS THAT NODES MISS
 
 eids_back : (front eids : List ℕ) → AllByRecursion IsEid eids → eids_from (Ok front) (map decimal eids) ≡ Ok (front ++ eids)
 eids_back front [] h = ap Ok (sym (append-nil front))
 eids_back front (eid ∷ eids) h =
-    ap (λ r. eids_from (behind (both (Ok front) r)) (map decimal eids)) (eid_back eid h.0)
+    ap (λ r. eids_from (eids_with (both (Ok front) r)) (map decimal eids)) (eid_back eid h.0)
     ∙ eids_back (front ++ eid ∷ []) eids h.1 ∙ ap Ok (append_assoc front (eid ∷ []) eids)
 
 none_twice : (eids : List ℕ) → AreDifferent eids → has_twice eids ≡ false
@@ -192,17 +192,17 @@ miss_back eid eids h =
     rw few (missed_back (eid ∷ eids) h)
 
 missing_back : (eids : List ℕ) → is_nothing eids ≡ false → AreMissing eids
-    → steps_of (spaced (codes "miss" ∷ map decimal eids)) ≡ Ok (steps.Tick (record { items = eids }) ∷ [])
+    → steps_of (words_with_spaces (codes "miss" ∷ map decimal eids)) ≡ Ok (steps.Tick (record { items = eids }) ∷ [])
 unfolding directive_of
 missing_back [] some h = absurd (true≢false some)
 missing_back (eid ∷ eids) some h =
     said directives.Miss (codes "miss") (map decimal (eid ∷ eids)) refl refl (let few = h.few in omega (arith, length-map (eid ∷ eids) decimal))
     (known_word (codes "miss") refl, eid_words (eid ∷ eids) h.nodes)
-    ∙ ap alone (miss_back eid eids h)
+    ∙ ap one_step (miss_back eid eids h)
 
 -- ALL STEPS
 
-pub step_back : (step : Step) → is_idle step ≡ false → IsSayable step → steps_of (spaced (words_for step)) ≡ Ok (step ∷ [])
+pub step_back : (step : Step) → is_idle step ≡ false → StepRoundTrips step → steps_of (words_with_spaces (words_for step)) ≡ Ok (step ∷ [])
 step_back (steps.Deliver pair number node) some h = deliver_back pair number node h
 step_back (steps.Tick missed) some h = missing_back missed.items some h
 step_back (steps.Start device number) some h = start_back device number h
@@ -212,7 +212,7 @@ step_back (steps.Verdict device verdict) some h = judge_back device verdict h
 step_back (steps.Restart node) some h = restart_back node h
 step_back (steps.Sel request) some h = sel_back request.items h
 
-pub step_words : (step : Step) → is_idle step ≡ false → IsSayable step → AreWords (words_for step)
+pub step_words : (step : Step) → is_idle step ≡ false → StepRoundTrips step → AreWords (words_for step)
 step_words (steps.Deliver pair number node) some h =
     (known_word (codes "deliver") refl, (eid_word pair h.of_pair, (number_word number h.counted, (eid_word node h.to_node, tt))))
 step_words (steps.Tick missed) some h = (known_word (codes "miss") refl, eid_words missed.items h.nodes)
@@ -225,18 +225,18 @@ step_words (steps.Sel request) some h = (known_word (codes "sel") refl, (data_wo
 
 -- TICKS THAT NOBODY MISSES
 
-one_tick_back : steps_of (spaced (codes "tick" ∷ [])) ≡ Ok (repeat 1 (full_tick ∷ []))
+one_tick_back : steps_of (words_with_spaces (codes "tick" ∷ [])) ≡ Ok (repeat 1 (full_tick ∷ []))
 unfolding directive_of
 one_tick_back = said directives.Tick (codes "tick") [] refl refl (omega arith) (known_word (codes "tick") refl, tt) ∙ refl
 
 more_ticks_back : (count : ℕ) → 1 ≤ count → count ≤ 1000
-    → steps_of (spaced (codes "tick" ∷ decimal count ∷ [])) ≡ Ok (repeat count (full_tick ∷ []))
+    → steps_of (words_with_spaces (codes "tick" ∷ decimal count ∷ [])) ≡ Ok (repeat count (full_tick ∷ []))
 unfolding directive_of
 more_ticks_back count some few =
     said directives.Tick (codes "tick") (decimal count ∷ []) refl refl (omega arith) (known_word (codes "tick") refl, (number_word count (omega arith), tt))
     ∙ ap ticks (number_back 1 1000 count some few (omega arith))
 
-pub ticks_back : (count : ℕ) → 1 ≤ count → count ≤ 1000 → steps_of (spaced (words_for_ticks count)) ≡ Ok (repeat count (full_tick ∷ []))
+pub ticks_back : (count : ℕ) → 1 ≤ count → count ≤ 1000 → steps_of (words_with_spaces (words_for_ticks count)) ≡ Ok (repeat count (full_tick ∷ []))
 ticks_back count some few =
     elim (eqb_tells count 1) [
       | inl one ↦ rw one.1 one_tick_back

@@ -9,7 +9,7 @@ use Rattle.std.proofs.lemmas.List.Elements.{All-from_recursion}
 use Rattle.std.proofs.lemmas.List.Splits.{slice_split_at, slice_split_none}
 use Rattle.std.proofs.lemmas.Str.Parse.{digit_from_value}
 use Rattle.fw_script.specs.Lines.{fields_in, is_nothing, lines_of, words_of}
-use Rattle.fw_script.specs.ScheduleTexts.{line_of, spaced}
+use Rattle.fw_script.specs.ScheduleTexts.{line_of, words_with_spaces}
 use Rattle.fw_script.proofs.Cuts.{more_lines}
 
 -- bytes behind a space: neither a space nor a line feed
@@ -65,8 +65,8 @@ none_is : (c : ℕ) (bytes : List ℕ) → c ≤ 32 → AreShown bytes → AllBy
 none_is c [] low h = tt
 none_is c (b ∷ bytes) low h = let past = h.0 in (ne_eqb b c (λ e. omega arith), none_is c bytes low h.1)
 
-pub words_spaced : (word : List ℕ) (words : List (List ℕ)) → AreWords (word ∷ words) → words_of (spaced (word ∷ words)) ≡ word ∷ words
-unfolding spaced
+pub words_spaced : (word : List ℕ) (words : List (List ℕ)) → AreWords (word ∷ words) → words_of (words_with_spaces (word ∷ words)) ≡ word ∷ words
+unfolding words_with_spaces
 words_spaced word [] h =
     ap words_of (append-nil word) ∙ slice_split_none (λ b. b == 32) word (All-from_recursion _ word (none_is 32 word (omega arith) h.0.shown))
 words_spaced word (next ∷ words) h =
@@ -81,17 +81,17 @@ whole_words [] h = tt
 whole_words (word ∷ words) h =
     (refl, all_append (λ b. (b == 10) ≡ false) word (flat_map (λ w. 32 ∷ w) words) (none_is 10 word (omega arith) h.0.shown) (whole_words words h.1))
 
-whole_line : (words : List (List ℕ)) → AreWords words → AllByRecursion (λ b. (b == 10) ≡ false) (spaced words)
-unfolding spaced
+whole_line : (words : List (List ℕ)) → AreWords words → AllByRecursion (λ b. (b == 10) ≡ false) (words_with_spaces words)
+unfolding words_with_spaces
 whole_line [] h = tt
 whole_line (word ∷ words) h =
     all_append (λ b. (b == 10) ≡ false) word (flat_map (λ w. 32 ∷ w) words) (none_is 10 word (omega arith) h.0.shown) (whole_words words h.1)
 
-pub first_of_lines : (words : List (List ℕ)) (rest : List ℕ) → AreWords words → lines_of (line_of words ++ rest) ≡ spaced words ∷ lines_of rest
+pub first_of_lines : (words : List (List ℕ)) (rest : List ℕ) → AreWords words → lines_of (line_of words ++ rest) ≡ words_with_spaces words ∷ lines_of rest
 first_of_lines words rest h =
-    ap lines_of (append_assoc (spaced words) (10 ∷ []) rest)
-    ∙ more_lines (spaced words ++ 10 ∷ rest) (spaced words) rest
-    (slice_split_at (λ b. b == 10) (spaced words) 10 rest (All-from_recursion _ (spaced words) (whole_line words h)) refl)
+    ap lines_of (append_assoc (words_with_spaces words) (10 ∷ []) rest)
+    ∙ more_lines (words_with_spaces words ++ 10 ∷ rest) (words_with_spaces words) rest
+    (slice_split_at (λ b. b == 10) (words_with_spaces words) 10 rest (All-from_recursion _ (words_with_spaces words) (whole_line words h)) refl)
 
 -- FIELDS
 

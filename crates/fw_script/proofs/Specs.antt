@@ -1,7 +1,7 @@
 -- What the lines of a package's text say, part by part.
 use Rattle.std.proofs.Common.{◌≡◌, ◌++◌, ◌∷◌, ℕ, List, [], Option, Some, None, Result, Ok, Err, ap, append_assoc, refl, sym}
 use Rattle.fw_script.specs.declared.faults.ScriptCause.{ScriptCause}
-use Rattle.fw_script.specs.Configs.{made}
+use Rattle.fw_script.specs.Configs.{mapped_value}
 use Rattle.fw_script.specs.SpecFields.{with_byte}
 
 -- bytes, and more of them where there are some
@@ -24,7 +24,7 @@ abbrev pub used_behind : List ℕ → Result (List ℕ) ScriptCause → Result (
 used_behind before (Err cause) = Err cause
 used_behind before (Ok uses) = Ok (before ++ uses)
 
-pub used_more : (before : List ℕ) (k : ℕ) (rest : Result (List ℕ) ScriptCause) → used_behind before (made (λ uses. k ∷ uses) rest) ≡ used_behind (before ++ k ∷ []) rest
+pub used_more : (before : List ℕ) (k : ℕ) (rest : Result (List ℕ) ScriptCause) → used_behind before (mapped_value (λ uses. k ∷ uses) rest) ≡ used_behind (before ++ k ∷ []) rest
 used_more before k (Err cause) = refl
 used_more before k (Ok uses) = ap Ok (sym (append_assoc before (k ∷ []) uses))
 

@@ -4,7 +4,7 @@ use Rattle.std.specs.List.{repeat}
 use Rattle.fw_script.specs.declared.faults.ScriptCause.{ScriptCause}
 use Rattle.fw_script.specs.declared.faults.ScriptFault.{ScriptFault}
 use Rattle.fw_steps.specs.declared.step.Step.{Step}
-use Rattle.fw_script.specs.Schedules.{before, then_lines, with_line}
+use Rattle.fw_script.specs.Schedules.{steps_then, then_lines, with_line}
 
 -- one more of a step
 pub repeat_more : (n : ℕ) (step : Step) → repeat (n + 1) (step ∷ []) ≡ repeat n (step ∷ []) ++ step ∷ []
@@ -13,7 +13,7 @@ repeat_more (suc n) step = rw add-one (ap (λ ss. step ∷ ss) (rw add-one at (r
 
 -- a line's steps are read
 pub steps_read : (number : ℕ) (steps after : List Step) (r : Result (List Step) ScriptCause) (rest : Result (List Step) ScriptFault)
-    → with_line steps r ≡ Ok after → before steps (then_lines number r rest) ≡ before after rest
+    → with_line steps r ≡ Ok after → steps_then steps (then_lines number r rest) ≡ steps_then after rest
 steps_read number steps after (Ok more) (Ok rest) h =
     let is : steps ++ more ≡ after = cc in
     rw (← is) (ap Ok (sym (append_assoc steps more rest)))
@@ -22,11 +22,11 @@ steps_read number steps after (Err cause) rest h = absurd (cc)
 
 -- a line with a fault
 pub fault_read : (number : ℕ) (steps : List Step) (cause : ScriptCause) (r : Result (List Step) ScriptCause) (rest : Result (List Step) ScriptFault)
-    → with_line steps r ≡ Err cause → before steps (then_lines number r rest) ≡ Err (record { line = number; cause = cause })
+    → with_line steps r ≡ Err cause → steps_then steps (then_lines number r rest) ≡ Err (record { line = number; cause = cause })
 fault_read number steps cause (Ok more) rest h = absurd (cc)
 fault_read number steps cause (Err other) rest h = let is : other ≡ cause = cc in rw is refl
 
 -- nothing before
-pub before_nothing : (r : Result (List Step) ScriptFault) → before [] r ≡ r
+pub before_nothing : (r : Result (List Step) ScriptFault) → steps_then [] r ≡ r
 before_nothing (Ok steps) = refl
 before_nothing (Err fault) = refl

@@ -12,7 +12,7 @@ use Rattle.exch_lane.specs.Lanes.{IsEid}
 use Rattle.fd_core.specs.Banks.{has_key}
 use Rattle.fd_core.specs.Codes.{longest_image}
 use Rattle.fwup_wire.specs.Descriptors.{descriptor_size, descriptors_bytes}
-use Rattle.fwup_wire.specs.Values.{DescriptorOf}
+use Rattle.fwup_wire.specs.Values.{DeviceDescriptorOf}
 use Rattle.fwup_wire.specs.declared.values.Key.{Key}
 use Rattle.fw_steps.specs.Headline.{AreDifferent}
 use Rattle.fw_script.specs.declared.faults.ScriptCause.{ScriptCause}
@@ -77,7 +77,7 @@ eid_in word n e =
     in_bounds (list_all is_ascii_digit word) (nat_le 8 (digits_value 10 word)) (nat_le (digits_value 10 word) 254) (digits_value 10 word) n refl refl e
 
 node_made_in : (a : Result ℕ ScriptCause) (u : Result (List ℕ) ScriptCause) (e : Endpoint) → ((n : ℕ) → a ≡ Ok n → IsEid n)
-    → configs.made configs.endpoint_made (both a u) ≡ Ok e → IsEid e.eid
+    → configs.mapped_value configs.endpoint_made (both a u) ≡ Ok e → IsEid e.eid
 node_made_in (Ok n) (Ok bytes) e known h = subst (λ (x : Endpoint). IsEid x.eid) {x = configs.endpoint_made (n, bytes)} {y = e} (cc) (known n refl)
 node_made_in (Ok n) (Err cause) e known h = absurd (cc)
 node_made_in (Err cause) (Ok bytes) e known h = absurd (cc)
@@ -97,7 +97,7 @@ record IsDraft (d : DraftOf) : Type 0 where
   apart : AreDifferent (eids_in d)
   alone : is_some d.agent ≡ false → configs.devices_of d ≡ []
 
-nothing_whole : IsDraft configs.nothing_said
+nothing_whole : IsDraft configs.empty_draft
 nothing_whole = record { agent = tt; each = tt; few = omega (arith); apart = tt; alone = λ e. refl }
 
 -- the agent's line
@@ -178,7 +178,7 @@ new_whole : (endpoint : Endpoint) → IsEid endpoint.eid → IsDevice (configs.n
 new_whole endpoint eid = record { eid = eid; few = omega (arith); new = tt }
 
 begun_whole : (d : DraftOf) (x : Endpoint) → IsDraft d → is_some d.agent ≡ true → configs.uses_eid d x.eid ≡ false → length (configs.devices_of d) ≤ 15
-    → IsEid x.eid → IsDraft (configs.begun d x)
+    → IsEid x.eid → IsDraft (configs.draft_with_device d x)
 begun_whole d x h some unused room eid = record {
   agent = h.agent;
   each = all_more IsDevice (configs.devices_of d) (configs.new_device x) h.each (new_whole x eid);
@@ -192,7 +192,7 @@ begun_whole d x h some unused room eid = record {
 
 begun_if : (d d2 : DraftOf) (used many : Bool) (x : Endpoint) → IsDraft d → is_some d.agent ≡ true → IsEid x.eid → configs.uses_eid d x.eid ≡ used
     → nat_lt 15 (length (configs.devices_of d)) ≡ many
-    → (if used then Err causes.Duplicate else (if many then Err causes.Limit else Ok (configs.begun d x))) ≡ Ok d2 → IsDraft d2
+    → (if used then Err causes.Duplicate else (if many then Err causes.Limit else Ok (configs.draft_with_device d x))) ≡ Ok d2 → IsDraft d2
 begun_if d d2 true many x h some eid used room e = absurd (cc)
 begun_if d d2 false true x h some eid used room e = absurd (cc)
 begun_if d d2 false false x h some eid used room e =
@@ -237,7 +237,7 @@ changed_whole d x y h last keeps =
     }
 
 changed_made : (d d2 : DraftOf) (x : DeviceConfigOf) (r : Result DeviceConfigOf ScriptCause) → IsDraft d → d.last ≡ Some x
-    → ((y : DeviceConfigOf) → r ≡ Ok y → Keeps x y) → configs.changed d r ≡ Ok d2 → IsDraft d2
+    → ((y : DeviceConfigOf) → r ≡ Ok y → Keeps x y) → configs.draft_with_last d r ≡ Ok d2 → IsDraft d2
 changed_made d d2 x (Ok y) h last keeps e = subst IsDraft {y = d2} (cc) (changed_whole d x y h last (keeps y refl))
 changed_made d d2 x (Err cause) h last keeps e = absurd (cc)
 
@@ -256,7 +256,7 @@ in_device_whole : (d d2 : DraftOf) (says : DeviceConfigOf → Result DeviceConfi
 in_device_whole d d2 says h keeps e = in_device_if d d2 (configs.has_none d.packages) says h keeps e
 
 -- a descriptor's line
-told_if : (x y : DeviceConfigOf) (b : Bool) (d : DescriptorOf)
+told_if : (x y : DeviceConfigOf) (b : Bool) (d : DeviceDescriptorOf)
     → (if b then Err causes.Limit else Ok (record x { descriptors = x.descriptors ++ d ∷ [] })) ≡ Ok y → Keeps x y
 told_if x y true d e = absurd (cc)
 told_if x y false d e =
@@ -267,12 +267,12 @@ described_made x y (Ok v) e =
     told_if x y (nat_lt 246 (length (descriptors_bytes x.descriptors) + descriptor_size (configs.descriptor_made v))) (configs.descriptor_made v) e
 described_made x y (Err cause) e = absurd (cc)
 
-described_keeps : (kind bytes : List ℕ) (x y : DeviceConfigOf) → configs.described kind bytes x ≡ Ok y → Keeps x y
-unfolding configs.described
+described_keeps : (kind bytes : List ℕ) (x y : DeviceConfigOf) → configs.device_with_descriptor_words kind bytes x ≡ Ok y → Keeps x y
+unfolding configs.device_with_descriptor_words
 described_keeps kind bytes x y e = described_made x y (both (kind_of kind) (bytes_of bytes)) e
 
 descriptor_whole : (d d2 : DraftOf) (fields : List (List ℕ)) → IsDraft d → configs.descriptor_line d fields ≡ Ok d2 → IsDraft d2
-descriptor_whole d d2 (kind ∷ bytes ∷ []) h e = in_device_whole d d2 (configs.described kind bytes) h (described_keeps kind bytes) e
+descriptor_whole d d2 (kind ∷ bytes ∷ []) h e = in_device_whole d d2 (configs.device_with_descriptor_words kind bytes) h (described_keeps kind bytes) e
 descriptor_whole d d2 [] h e = absurd (cc)
 descriptor_whole d d2 (kind ∷ []) h e = absurd (cc)
 descriptor_whole d d2 (kind ∷ bytes ∷ more ∷ fields) h e = absurd (cc)
@@ -304,14 +304,14 @@ component_made text x y (Ok v) e =
     added_if x y (has_component x.components c.component.key) (nat_lt 2 (length x.components)) (nat_lt longest_image (length c.image)) c refl refl e
 component_made text x y (Err cause) e = absurd (cc)
 
-extended_keeps : (numbers : Result Numbers ScriptCause) (label image : List ℕ) (x y : DeviceConfigOf) → configs.extended numbers label image x ≡ Ok y
+extended_keeps : (numbers : Result Numbers ScriptCause) (label image : List ℕ) (x y : DeviceConfigOf) → configs.device_with_component_words numbers label image x ≡ Ok y
     → Keeps x y
-unfolding configs.extended
+unfolding configs.device_with_component_words
 extended_keeps numbers label image x y e = component_made (text_of label) x y (both numbers (bytes_of image)) e
 
 component_whole : (d d2 : DraftOf) (fields : List (List ℕ)) → IsDraft d → configs.component_line d fields ≡ Ok d2 → IsDraft d2
 component_whole d d2 (class ∷ ident ∷ index ∷ stamp ∷ label ∷ image ∷ []) h e =
-    in_device_whole d d2 (configs.extended (configs.numbers_of class ident index stamp) label image) h
+    in_device_whole d d2 (configs.device_with_component_words (configs.numbers_of class ident index stamp) label image) h
     (extended_keeps (configs.numbers_of class ident index stamp) label image) e
 component_whole d d2 [] h e = absurd (cc)
 component_whole d d2 (a ∷ []) h e = absurd (cc)
@@ -338,7 +338,7 @@ package_whole d d2 [] h e = absurd (cc)
 package_whole d d2 (path ∷ more ∷ fields) h e = absurd (cc)
 
 -- any line
-said_whole : (d d2 : DraftOf) (directive : Directive) (fields : List (List ℕ)) → IsDraft d → configs.line_said d directive fields ≡ Ok d2 → IsDraft d2
+said_whole : (d d2 : DraftOf) (directive : Directive) (fields : List (List ℕ)) → IsDraft d → configs.draft_after_directive d directive fields ≡ Ok d2 → IsDraft d2
 said_whole d d2 directives.Agent fields h e = agent_whole d d2 fields h e
 said_whole d d2 directives.Unit fields h e = unit_whole d d2 fields h e
 said_whole d d2 directives.Device fields h e = device_whole d d2 fields h e
@@ -351,11 +351,11 @@ named_whole d d2 None fields h e = absurd (cc)
 named_whole d d2 (Some directive) None h e = absurd (cc)
 named_whole d d2 (Some directive) (Some fields) h e = said_whole d d2 directive fields h e
 
-words_whole : (d d2 : DraftOf) (words : List (List ℕ)) → IsDraft d → configs.words_said d words ≡ Ok d2 → IsDraft d2
+words_whole : (d d2 : DraftOf) (words : List (List ℕ)) → IsDraft d → configs.draft_after_words d words ≡ Ok d2 → IsDraft d2
 words_whole d d2 [] h e = absurd (cc)
 words_whole d d2 (name ∷ fields) h e = named_whole d d2 (configs.directive_of name) (fields_in 6 fields) h e
 
-line_if : (d d2 : DraftOf) (b : Bool) (words : List (List ℕ)) → IsDraft d → (if b then Ok d else configs.words_said d words) ≡ Ok d2 → IsDraft d2
+line_if : (d d2 : DraftOf) (b : Bool) (words : List (List ℕ)) → IsDraft d → (if b then Ok d else configs.draft_after_words d words) ≡ Ok d2 → IsDraft d2
 line_if d d2 true words h e = subst IsDraft {y = d2} (cc) h
 line_if d d2 false words h e = words_whole d d2 words h e
 
@@ -381,7 +381,7 @@ config_if d a u false c h agent some e =
       apart = subst (λ o. AreDifferent (map (λ x. x.eid) (option_to_list o) ++ eids_of (configs.devices_of d))) agent h.apart;
     })
 
-config_made : (d : DraftOf) (o : Option Endpoint) (u : «Unit») (c : ConfigOf) → IsDraft d → d.agent ≡ o → configs.config_said o u (configs.devices_of d) d.packages ≡ Ok c
+config_made : (d : DraftOf) (o : Option Endpoint) (u : «Unit») (c : ConfigOf) → IsDraft d → d.agent ≡ o → configs.config_of_parts o u (configs.devices_of d) d.packages ≡ Ok c
     → AreWhole c.agent.eid c.devices
 config_made d None u c h agent e = absurd (cc)
 config_made d (Some a) u c h agent e = config_if d a u (configs.has_missing (configs.devices_of d)) c h agent refl e
@@ -391,8 +391,8 @@ finished_at : (number : ℕ) (d : DraftOf) (r : Result ConfigOf ScriptCause) (c 
 finished_at number d (Ok x) c known e = subst (λ (y : ConfigOf). AreWhole y.agent.eid y.devices) {x = x} {y = c} (cc) (known x refl)
 finished_at number d (Err cause) c known e = absurd (cc)
 
-finished_known : (d : DraftOf) → IsDraft d → (c : ConfigOf) → configs.finished d ≡ Ok c → AreWhole c.agent.eid c.devices
-unfolding configs.finished
+finished_known : (d : DraftOf) → IsDraft d → (c : ConfigOf) → configs.config_of_draft d ≡ Ok c → AreWhole c.agent.eid c.devices
+unfolding configs.config_of_draft
 finished_known d h c e = config_made d d.agent (configs.unit_or d.unit) c h refl e
 
 next_at : (lines : List (List ℕ)) (number : ℕ) (r : Result DraftOf ScriptCause) (c : ConfigOf) → ((d : DraftOf) → r ≡ Ok d → IsDraft d)
@@ -403,10 +403,10 @@ next_at lines number (Err cause) c known rest e = absurd (cc)
 
 from_whole : (lines : List (List ℕ)) (number : ℕ) (d : DraftOf) (c : ConfigOf) → IsDraft d → configs.config_from lines number d ≡ Ok c
     → AreWhole c.agent.eid c.devices
-from_whole [] number d c h e = finished_at number d (configs.finished d) c (finished_known d h) e
+from_whole [] number d c h e = finished_at number d (configs.config_of_draft d) c (finished_known d h) e
 from_whole (line ∷ lines) number d c h e =
     next_at lines number (configs.after_line d line) c (λ d2 made. line_whole d d2 line h made) (λ d2 h2 e2. from_whole lines (number + 1) d2 c h2 e2) e
 
 -- what a text makes is whole
 pub config_whole : (text : List ℕ) (c : ConfigOf) → configs.config_of text ≡ Ok c → AreWhole c.agent.eid c.devices
-config_whole text c e = from_whole (lines_of text) 1 configs.nothing_said c nothing_whole e
+config_whole text c e = from_whole (lines_of text) 1 configs.empty_draft c nothing_whole e

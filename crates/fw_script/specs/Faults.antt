@@ -42,9 +42,9 @@ both (Err fault) (Ok b) = Err fault
 both (Err fault) (Err other) = Err (earlier fault other)
 
 -- An answer is this value or fault, unless memory was refused.
-abbrev pub Answers : {A B : Type 0} → (A → B) → Result A ScriptCause → Result B ScriptCause → Type 0
-Answers seen (Ok a) wanted = wanted ≡ Ok (seen a)
-Answers seen (Err cause) wanted = cause ≢ causes.Memory → wanted ≡ Err cause
+abbrev pub AnswersUnlessMemory : {A B : Type 0} → (A → B) → Result A ScriptCause → Result B ScriptCause → Type 0
+AnswersUnlessMemory seen (Ok a) wanted = wanted ≡ Ok (seen a)
+AnswersUnlessMemory seen (Err cause) wanted = cause ≢ causes.Memory → wanted ≡ Err cause
 
 -- The same of a whole text, whose faults have their line.
 abbrev pub ReadsAs : {A B : Type 0} → (A → B) → Result A ScriptFault → Result B ScriptFault → Type 0

@@ -14,7 +14,7 @@ use Rattle.fw_script.specs.declared.package_spec.SpecNumbers.{SpecNumbers}
 use Rattle.fw_script.specs.declared.package_spec.SpecRecord.{SpecRecord}
 use Rattle.fw_script.specs.declared.spec_lines.Directive.{Directive}
 use Rattle.fw_script.specs.declared.spec_lines.Directive.TheVariants as directives
-use Rattle.fw_script.specs.Configs.{key_of, made}
+use Rattle.fw_script.specs.Configs.{key_of, mapped_value}
 use Rattle.fw_script.specs.Faults.{both}
 use Rattle.fw_script.specs.Lines.{is_skipped, lines_of, words_of}
 use Rattle.fw_script.specs.SpecFields.{image_path_of, package_text_of, release_of, uses_of, whole_fields}
@@ -77,8 +77,8 @@ pub record SpecDraftOf : Type 0 where
   pub last : Option SpecRecordOf
   pub components : List SpecComponentOf
 
-abbrev pub no_spec_said : SpecDraftOf
-no_spec_said = record { version = None; release = None; done = []; last = None; components = [] }
+abbrev pub empty_spec_draft : SpecDraftOf
+empty_spec_draft = record { version = None; release = None; done = []; last = None; components = [] }
 
 abbrev pub records_of : SpecDraftOf → List SpecRecordOf
 records_of d = d.done ++ option_to_list d.last
@@ -122,14 +122,14 @@ release_line d fields = Err causes.Fields
 abbrev pub record_made : ℕ → ℕ × (List ℕ × List ℕ) → SpecRecordOf
 record_made line v = record { line = line; flags = v.0; set_text = v.1.0; descriptors = []; uses = v.1.1 }
 
-abbrev pub begun : SpecDraftOf → SpecRecordOf → SpecDraftOf
-begun d r = record d { done = records_of d; last = Some r }
+abbrev pub spec_draft_with_record : SpecDraftOf → SpecRecordOf → SpecDraftOf
+spec_draft_with_record d r = record d { done = records_of d; last = Some r }
 
 unfoldable pub record_read : ℕ → (flags text : List ℕ) → (uses : List (List ℕ)) → Result SpecRecordOf ScriptCause
-record_read line flags text uses = made (record_made line) (both (number_in 0 4294967295 flags) (both (package_text_of text) (uses_of uses)))
+record_read line flags text uses = mapped_value (record_made line) (both (number_in 0 4294967295 flags) (both (package_text_of text) (uses_of uses)))
 
 abbrev pub with_record : SpecDraftOf → Result SpecRecordOf ScriptCause → Result SpecDraftOf ScriptCause
-with_record d (Ok r) = if nat_lt 254 (length (records_of d)) then Err causes.Limit else Ok (begun d r)
+with_record d (Ok r) = if nat_lt 254 (length (records_of d)) then Err causes.Limit else Ok (spec_draft_with_record d r)
 with_record d (Err cause) = Err cause
 
 abbrev pub record_line : ℕ → SpecDraftOf → List (List ℕ) → Result SpecDraftOf ScriptCause
@@ -148,19 +148,19 @@ with_descriptor r (Ok v) =
     else Ok (record r { descriptors = r.descriptors ++ descriptor_made v ∷ [] })
 with_descriptor r (Err cause) = Err cause
 
-unfoldable pub told : List ℕ → List ℕ → SpecRecordOf → Result SpecRecordOf ScriptCause
-told kind bytes r = with_descriptor r (both (kind_of kind) (bytes_of bytes))
+unfoldable pub record_with_descriptor : List ℕ → List ℕ → SpecRecordOf → Result SpecRecordOf ScriptCause
+record_with_descriptor kind bytes r = with_descriptor r (both (kind_of kind) (bytes_of bytes))
 
-abbrev pub changed : SpecDraftOf → Result SpecRecordOf ScriptCause → Result SpecDraftOf ScriptCause
-changed d (Ok r) = Ok (record d { last = Some r })
-changed d (Err cause) = Err cause
+abbrev pub spec_draft_with_last : SpecDraftOf → Result SpecRecordOf ScriptCause → Result SpecDraftOf ScriptCause
+spec_draft_with_last d (Ok r) = Ok (record d { last = Some r })
+spec_draft_with_last d (Err cause) = Err cause
 
 abbrev pub of_last : SpecDraftOf → Option SpecRecordOf → (SpecRecordOf → Result SpecRecordOf ScriptCause) → Result SpecDraftOf ScriptCause
 of_last d None says = Err causes.Order
-of_last d (Some r) says = changed d (says r)
+of_last d (Some r) says = spec_draft_with_last d (says r)
 
 abbrev pub descriptor_line : SpecDraftOf → List (List ℕ) → Result SpecDraftOf ScriptCause
-descriptor_line d (kind ∷ bytes ∷ []) = if has_component d.components then Err causes.Order else of_last d d.last (told kind bytes)
+descriptor_line d (kind ∷ bytes ∷ []) = if has_component d.components then Err causes.Order else of_last d d.last (record_with_descriptor kind bytes)
 descriptor_line d fields = Err causes.Fields
 
 -- a component
@@ -172,7 +172,7 @@ choices_of stamp options method = both (number_in 0 4294967295 stamp) (both (num
 
 unfoldable pub spec_numbers_of : List ℕ → List ℕ → List ℕ → List ℕ → List ℕ → Result SpecNumbers ScriptCause
 spec_numbers_of class ident stamp options method =
-    made spec_numbers_made (both (key_of class ident) (choices_of stamp options method))
+    mapped_value spec_numbers_made (both (key_of class ident) (choices_of stamp options method))
 
 abbrev pub component_made : SpecNumbers × (List ℕ × Option (List ℕ)) → SpecComponentOf
 component_made v = record { numbers = v.0; text = v.1.0; path = v.1.1 }
@@ -181,33 +181,33 @@ abbrev pub with_component : SpecDraftOf → Result (SpecNumbers × (List ℕ × 
 with_component d (Ok v) = Ok (record d { components = d.components ++ component_made v ∷ [] })
 with_component d (Err cause) = Err cause
 
-unfoldable pub extended : Result SpecNumbers ScriptCause → (text path : List ℕ) → SpecDraftOf → Result SpecDraftOf ScriptCause
-extended numbers text path d = with_component d (both numbers (both (package_text_of text) (image_path_of path)))
+unfoldable pub spec_draft_with_component : Result SpecNumbers ScriptCause → (text path : List ℕ) → SpecDraftOf → Result SpecDraftOf ScriptCause
+spec_draft_with_component numbers text path d = with_component d (both numbers (both (package_text_of text) (image_path_of path)))
 
 abbrev pub component_line : SpecDraftOf → List (List ℕ) → Result SpecDraftOf ScriptCause
-component_line d (class ∷ ident ∷ stamp ∷ options ∷ method ∷ text ∷ path ∷ []) = extended (spec_numbers_of class ident stamp options method) text path d
+component_line d (class ∷ ident ∷ stamp ∷ options ∷ method ∷ text ∷ path ∷ []) = spec_draft_with_component (spec_numbers_of class ident stamp options method) text path d
 component_line d fields = Err causes.Fields
 
 -- what a line says
-abbrev pub line_said : ℕ → SpecDraftOf → Directive → List (List ℕ) → Result SpecDraftOf ScriptCause
-line_said line d directives.Version fields = version_line d fields
-line_said line d directives.Release fields = release_line d fields
-line_said line d directives.Record fields = record_line line d fields
-line_said line d directives.Descriptor fields = descriptor_line d fields
-line_said line d directives.Component fields = component_line d fields
+abbrev pub spec_draft_after_directive : ℕ → SpecDraftOf → Directive → List (List ℕ) → Result SpecDraftOf ScriptCause
+spec_draft_after_directive line d directives.Version fields = version_line d fields
+spec_draft_after_directive line d directives.Release fields = release_line d fields
+spec_draft_after_directive line d directives.Record fields = record_line line d fields
+spec_draft_after_directive line d directives.Descriptor fields = descriptor_line d fields
+spec_draft_after_directive line d directives.Component fields = component_line d fields
 
 abbrev pub line_named : ℕ → SpecDraftOf → Option Directive → Result (List (List ℕ)) ScriptCause → Result SpecDraftOf ScriptCause
 line_named line d None fields = Err causes.Directive
 line_named line d (Some directive) (Err cause) = Err cause
-line_named line d (Some directive) (Ok fields) = line_said line d directive fields
+line_named line d (Some directive) (Ok fields) = spec_draft_after_directive line d directive fields
 
-abbrev pub words_said : ℕ → SpecDraftOf → List (List ℕ) → Result SpecDraftOf ScriptCause
-words_said line d [] = Err causes.Directive
-words_said line d (name ∷ fields) = line_named line d (spec_directive_of name) (whole_fields fields)
+abbrev pub spec_draft_after_words : ℕ → SpecDraftOf → List (List ℕ) → Result SpecDraftOf ScriptCause
+spec_draft_after_words line d [] = Err causes.Directive
+spec_draft_after_words line d (name ∷ fields) = line_named line d (spec_directive_of name) (whole_fields fields)
 
 -- what lines have said after one more, of this number
 unfoldable pub after_spec_line : ℕ → SpecDraftOf → List ℕ → Result SpecDraftOf ScriptCause
-after_spec_line number d line = if is_skipped line then Ok d else words_said number d (words_of line)
+after_spec_line number d line = if is_skipped line then Ok d else spec_draft_after_words number d (words_of line)
 
 -- a record uses more components than there are
 unfoldable pub is_past : ℕ → SpecRecordOf → Bool
@@ -223,8 +223,8 @@ abbrev pub or_else : List ℕ → Option (List ℕ) → List ℕ
 or_else bytes None = bytes
 or_else bytes (Some said) = said
 
-abbrev pub spec_said : ℕ → SpecDraftOf → PackageSpecOf
-spec_said next d =
+abbrev pub spec_of_draft : ℕ → SpecDraftOf → PackageSpecOf
+spec_of_draft next d =
     record {
       release = or_else (repeat 13 (0 ∷ [])) d.release;
       version = or_else [] d.version;
@@ -238,7 +238,7 @@ unless_past None spec = Ok spec
 unless_past (Some line) spec = Err (record { line = line; cause = causes.Range })
 
 unfoldable pub spec_finished : ℕ → SpecDraftOf → Result PackageSpecOf ScriptFault
-spec_finished next d = unless_past (past_line (length d.components) (records_of d)) (spec_said next d)
+spec_finished next d = unless_past (past_line (length d.components) (records_of d)) (spec_of_draft next d)
 
 -- a fault of the line with this number
 abbrev pub at_spec_line : ℕ → (SpecDraftOf → Result PackageSpecOf ScriptFault) → Result SpecDraftOf ScriptCause → Result PackageSpecOf ScriptFault
@@ -253,4 +253,4 @@ spec_from (line ∷ lines) before d = at_spec_line (before + 1) (spec_from lines
 -- what a text asks of a package, or its first line with a fault and what that is; where there is none, the first record's line
 -- that uses more components than there are
 abbrev pub package_spec_of : List ℕ → Result PackageSpecOf ScriptFault
-package_spec_of text = spec_from (lines_of text) 0 no_spec_said
+package_spec_of text = spec_from (lines_of text) 0 empty_spec_draft

@@ -23,6 +23,6 @@ abbrev pub all_steps : List ScheduleLine → List Step
 all_steps lines = flat_map line_steps lines
 
 -- the step that comes next
-abbrev pub step_said : NextStep → Step
-step_said (next.Said step) = step.now
-step_said next.Tick = full_tick
+abbrev pub step_of_next : NextStep → Step
+step_of_next (next.Said step) = step.now
+step_of_next next.Tick = full_tick

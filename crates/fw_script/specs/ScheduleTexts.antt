@@ -15,13 +15,13 @@ use Rattle.fw_script.specs.Lines.{is_nothing}
 use Rattle.fw_script.specs.Schedules.{script_of}
 
 -- words, one space apart
-unfoldable pub spaced : List (List ℕ) → List ℕ
-spaced [] = []
-spaced (word ∷ words) = word ++ flat_map (λ next. 32 ∷ next) words
+unfoldable pub words_with_spaces : List (List ℕ) → List ℕ
+words_with_spaces [] = []
+words_with_spaces (word ∷ words) = word ++ flat_map (λ next. 32 ∷ next) words
 
 -- a line of these words
 abbrev pub line_of : List (List ℕ) → List ℕ
-line_of words = spaced words ++ 10 ∷ []
+line_of words = words_with_spaces words ++ 10 ∷ []
 
 abbrev pub verdict_word : Verdict → List ℕ
 verdict_word verdicts.VerifyOk = codes "verify-ok"
@@ -104,32 +104,32 @@ pub record AreMissing (missed : List ℕ) : Type 0 where
   pub apart : AreDifferent missed
 
 -- that the event log is asked: at most 64 bytes
-pub record IsRequest (request : List ℕ) : Type 0 where
+pub record IsLogRequest (request : List ℕ) : Type 0 where
   pub few : length request ≤ 64
   pub bytes : IsBytes request
 
-abbrev pub IsSayable : Step → Type 0
-IsSayable (steps.Deliver pair number node) = IsDelivery pair number node
-IsSayable (steps.Tick missed) = AreMissing missed.items
-IsSayable (steps.Start device number) = IsStart device number
-IsSayable (steps.Cancel device) = IsEid device
-IsSayable (steps.Activate device) = IsEid device
-IsSayable (steps.Verdict device verdict) = IsEid device
-IsSayable (steps.Restart node) = IsEid node
-IsSayable (steps.Sel request) = IsRequest request.items
+abbrev pub StepRoundTrips : Step → Type 0
+StepRoundTrips (steps.Deliver pair number node) = IsDelivery pair number node
+StepRoundTrips (steps.Tick missed) = AreMissing missed.items
+StepRoundTrips (steps.Start device number) = IsStart device number
+StepRoundTrips (steps.Cancel device) = IsEid device
+StepRoundTrips (steps.Activate device) = IsEid device
+StepRoundTrips (steps.Verdict device verdict) = IsEid device
+StepRoundTrips (steps.Restart node) = IsEid node
+StepRoundTrips (steps.Sel request) = IsLogRequest request.items
 
-abbrev pub AreSayable : List Step → Type 0
-AreSayable steps = AllByRecursion IsSayable steps
+abbrev pub StepsRoundTrip : List Step → Type 0
+StepsRoundTrip steps = AllByRecursion StepRoundTrips steps
 
 -- THE LAWS
 
 -- What is written of steps reads back as exactly these steps.
 abbrev pub SchedulesReadBack : Type 0
-SchedulesReadBack = (steps : List Step) → AreSayable steps → script_of (schedule_text steps) ≡ Ok steps
+SchedulesReadBack = (steps : List Step) → StepsRoundTrip steps → script_of (schedule_text steps) ≡ Ok steps
 
 -- A schedule reads as no other steps than those that can be said.
-abbrev pub OnlySayableIsRead : Type 0
-OnlySayableIsRead = (text : List ℕ) (steps : List Step) → script_of text ≡ Ok steps → AreSayable steps
+abbrev pub OnlyRoundTripsAreRead : Type 0
+OnlyRoundTripsAreRead = (text : List ℕ) (steps : List Step) → script_of text ≡ Ok steps → StepsRoundTrip steps
 
 -- Steps that are handed over in two portions are written as they are at once, and as many ticks are held back after them.
 pub record IsSameInPortions (idle : ℕ) (first second : List Step) : Type 0 where

@@ -46,9 +46,9 @@ abbrev pub place_of : List ℕ → Result ℕ ScriptCause
 place_of word = number_in 0 (2 ^ 64 - 1) word
 
 -- a step of these values
-abbrev pub made : {A : Type 0} → (A → Step) → Result A ScriptCause → Result Step ScriptCause
-made f (Ok a) = Ok (f a)
-made f (Err cause) = Err cause
+abbrev pub mapped_step : {A : Type 0} → (A → Step) → Result A ScriptCause → Result Step ScriptCause
+mapped_step f (Ok a) = Ok (f a)
+mapped_step f (Err cause) = Err cause
 
 -- a request of the event log
 abbrev pub request_step : Result (List ℕ) ScriptCause → Result Step ScriptCause
@@ -62,15 +62,15 @@ only_eid_of fields = Err causes.Fields
 
 -- a packet comes
 abbrev pub delivery : List ℕ → List ℕ → List ℕ → Result Step ScriptCause
-delivery pair number node = made (λ v. steps.Deliver v.0 v.1.0 v.1.1) (both (eid_of pair) (both (place_of number) (eid_of node)))
+delivery pair number node = mapped_step (λ v. steps.Deliver v.0 v.1.0 v.1.1) (both (eid_of pair) (both (place_of number) (eid_of node)))
 
 -- the identifiers that words are, in order, behind these
-abbrev pub behind : Result (List ℕ × ℕ) ScriptCause → Result (List ℕ) ScriptCause
-behind (Ok v) = Ok (v.0 ++ v.1 ∷ [])
-behind (Err cause) = Err cause
+abbrev pub eids_with : Result (List ℕ × ℕ) ScriptCause → Result (List ℕ) ScriptCause
+eids_with (Ok v) = Ok (v.0 ++ v.1 ∷ [])
+eids_with (Err cause) = Err cause
 
 abbrev pub with_eid : Result (List ℕ) ScriptCause → List ℕ → Result (List ℕ) ScriptCause
-with_eid eids word = behind (both eids (eid_of word))
+with_eid eids word = eids_with (both eids (eid_of word))
 
 abbrev pub eids_from : Result (List ℕ) ScriptCause → List (List ℕ) → Result (List ℕ) ScriptCause
 eids_from eids [] = eids
@@ -93,11 +93,11 @@ miss (word ∷ words) = if nat_lt 17 (length (word ∷ words)) then Err causes.F
 -- what the fields of a step's line say, each directive in turn
 abbrev pub step_of : Directive → List (List ℕ) → Result Step ScriptCause
 step_of directives.Deliver (pair ∷ number ∷ node ∷ []) = delivery pair number node
-step_of directives.Start (eid ∷ number ∷ []) = made (λ v. steps.Start v.0 v.1) (both (eid_of eid) (place_of number))
-step_of directives.Cancel fields = made steps.Cancel (only_eid_of fields)
-step_of directives.Activate fields = made steps.Activate (only_eid_of fields)
-step_of directives.Verdict (eid ∷ verdict ∷ []) = made (λ v. steps.Verdict v.0 v.1) (both (eid_of eid) (verdict_of verdict))
-step_of directives.Restart fields = made steps.Restart (only_eid_of fields)
+step_of directives.Start (eid ∷ number ∷ []) = mapped_step (λ v. steps.Start v.0 v.1) (both (eid_of eid) (place_of number))
+step_of directives.Cancel fields = mapped_step steps.Cancel (only_eid_of fields)
+step_of directives.Activate fields = mapped_step steps.Activate (only_eid_of fields)
+step_of directives.Verdict (eid ∷ verdict ∷ []) = mapped_step (λ v. steps.Verdict v.0 v.1) (both (eid_of eid) (verdict_of verdict))
+step_of directives.Restart fields = mapped_step steps.Restart (only_eid_of fields)
 step_of directives.Miss fields = miss fields
 step_of directives.Sel (request ∷ []) = request_step (bytes_of request)
 step_of d fields = Err causes.Fields
@@ -112,18 +112,18 @@ abbrev pub ticks : Result ℕ ScriptCause → Result (List Step) ScriptCause
 ticks (Ok count) = Ok (repeat count (full_tick ∷ []))
 ticks (Err cause) = Err cause
 
-abbrev pub alone : Result Step ScriptCause → Result (List Step) ScriptCause
-alone (Ok step) = Ok (step ∷ [])
-alone (Err cause) = Err cause
+abbrev pub one_step : Result Step ScriptCause → Result (List Step) ScriptCause
+one_step (Ok step) = Ok (step ∷ [])
+one_step (Err cause) = Err cause
 
-abbrev pub steps_said : Directive → List (List ℕ) → Result (List Step) ScriptCause
-steps_said directives.Tick fields = ticks (ticks_of fields)
-steps_said d fields = alone (step_of d fields)
+abbrev pub steps_of_directive : Directive → List (List ℕ) → Result (List Step) ScriptCause
+steps_of_directive directives.Tick fields = ticks (ticks_of fields)
+steps_of_directive d fields = one_step (step_of d fields)
 
 abbrev pub steps_named : Option Directive → Option (List (List ℕ)) → Result (List Step) ScriptCause
 steps_named None fields = Err causes.Directive
 steps_named (Some d) None = Err causes.Fields
-steps_named (Some d) (Some fields) = steps_said d fields
+steps_named (Some d) (Some fields) = steps_of_directive d fields
 
 -- how many fields a line has at most
 abbrev pub most_fields : Option Directive → ℕ
@@ -147,13 +147,13 @@ unfoldable pub steps_of : List ℕ → Result (List Step) ScriptCause
 steps_of line = if is_skipped line then Ok [] else steps_in (words_of line)
 
 -- steps, and those that follow
-abbrev pub before : List Step → Result (List Step) ScriptFault → Result (List Step) ScriptFault
-before steps (Ok more) = Ok (steps ++ more)
-before steps (Err fault) = Err fault
+abbrev pub steps_then : List Step → Result (List Step) ScriptFault → Result (List Step) ScriptFault
+steps_then steps (Ok more) = Ok (steps ++ more)
+steps_then steps (Err fault) = Err fault
 
 -- a line's steps, and those of the lines that follow
 abbrev pub then_lines : ℕ → Result (List Step) ScriptCause → Result (List Step) ScriptFault → Result (List Step) ScriptFault
-then_lines number (Ok steps) rest = before steps rest
+then_lines number (Ok steps) rest = steps_then steps rest
 then_lines number (Err cause) rest = Err (record { line = number; cause = cause })
 
 -- the steps of lines, the first of which has this number

@@ -5,9 +5,9 @@ use Rattle.std.specs.List.{list_all, list_any}
 use Rattle.hex.specs.Hex.{decode_sized}
 use Rattle.fw_script.specs.declared.faults.ScriptCause.{ScriptCause}
 use Rattle.fw_script.specs.declared.faults.ScriptCause.TheVariants as causes
-use Rattle.fw_script.specs.Configs.{made, path_of}
+use Rattle.fw_script.specs.Configs.{mapped_value, path_of}
 use Rattle.fw_script.specs.Lines.{is_nothing}
-use Rattle.fw_script.specs.Values.{decoded, is_dash, number_in}
+use Rattle.fw_script.specs.Values.{decoded_digits, is_dash, number_in}
 
 -- the fields behind a line's first word, as many as there are; none is empty
 abbrev pub whole_fields : List (List ℕ) → Result (List (List ℕ)) ScriptCause
@@ -33,11 +33,11 @@ with_byte (Some b) (Some bytes) = Some (b ∷ bytes)
 with_byte b bytes = None
 
 -- the bytes that a word stands for: each backslash begins a `\xNN`
-abbrev pub unescaped : List ℕ → Option (List ℕ)
-unescaped [] = Some []
-unescaped (b ∷ x ∷ high ∷ low ∷ rest) =
-    if b == 92 then with_byte (byte_escaped x high low) (unescaped rest) else with_byte (Some b) (unescaped (x ∷ high ∷ low ∷ rest))
-unescaped (b ∷ rest) = if b == 92 then None else with_byte (Some b) (unescaped rest)
+abbrev pub unescaped_word : List ℕ → Option (List ℕ)
+unescaped_word [] = Some []
+unescaped_word (b ∷ x ∷ high ∷ low ∷ rest) =
+    if b == 92 then with_byte (byte_escaped x high low) (unescaped_word rest) else with_byte (Some b) (unescaped_word (x ∷ high ∷ low ∷ rest))
+unescaped_word (b ∷ rest) = if b == 92 then None else with_byte (Some b) (unescaped_word rest)
 
 -- a text of a package: at most 255 bytes
 abbrev pub short_text : Option (List ℕ) → Result (List ℕ) ScriptCause
@@ -45,16 +45,16 @@ short_text None = Err causes.Hex
 short_text (Some bytes) = if nat_lt 255 (length bytes) then Err causes.Limit else Ok bytes
 
 unfoldable pub package_text_of : List ℕ → Result (List ℕ) ScriptCause
-package_text_of word = short_text (if is_dash word then Some [] else unescaped word)
+package_text_of word = short_text (if is_dash word then Some [] else unescaped_word word)
 
 -- a release time: thirteen bytes
 unfoldable pub release_of : List ℕ → Result (List ℕ) ScriptCause
-release_of word = decoded (decode_sized word 13)
+release_of word = decoded_digits (decode_sized word 13)
 
 -- The components that a record uses. In the text they count from 1, and each number is greater than the one before it; as they are
 -- kept they count from 0.
 abbrev pub then_use : Result ℕ ScriptCause → (ℕ → Result (List ℕ) ScriptCause) → Result (List ℕ) ScriptCause
-then_use (Ok n) next = made (λ uses. (n - 1) ∷ uses) (next (n + 1))
+then_use (Ok n) next = mapped_value (λ uses. (n - 1) ∷ uses) (next (n + 1))
 then_use (Err cause) next = Err cause
 
 abbrev pub uses_from : ℕ → List (List ℕ) → Result (List ℕ) ScriptCause
@@ -73,4 +73,4 @@ uses_of words = numbers_used words
 
 -- the path of an image's file, if there is one
 abbrev pub image_path_of : List ℕ → Result (Option (List ℕ)) ScriptCause
-image_path_of word = if is_dash word then Ok None else made Some (path_of word)
+image_path_of word = if is_dash word then Ok None else mapped_value Some (path_of word)

@@ -38,13 +38,13 @@ is_dash word = bytes_eq word (codes "-")
 unfoldable pub text_of : List ℕ → List ℕ
 text_of word = if is_dash word then [] else word
 
-abbrev pub decoded : Result (List ℕ) FromHexError → Result (List ℕ) ScriptCause
-decoded (Ok bytes) = Ok bytes
-decoded (Err fault) = Err causes.Hex
+abbrev pub decoded_digits : Result (List ℕ) FromHexError → Result (List ℕ) ScriptCause
+decoded_digits (Ok bytes) = Ok bytes
+decoded_digits (Err fault) = Err causes.Hex
 
 -- bytes: two hexadecimal digits each
 unfoldable pub bytes_of : List ℕ → Result (List ℕ) ScriptCause
-bytes_of word = if is_dash word then Ok [] else decoded (decode_of word)
+bytes_of word = if is_dash word then Ok [] else decoded_digits (decode_of word)
 
 -- a descriptor's type: four hexadecimal digits
 abbrev pub kind_in : Result (List ℕ) FromHexError → Result ℕ ScriptCause

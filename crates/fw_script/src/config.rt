@@ -3,16 +3,16 @@
 ghost use Rattle.std.specs.Prelude.{◌≡◌, map};
 ghost use Rattle.std.specs.Result.{result_map_both};
 ghost use Rattle.fd_core.specs.Images.{label_of as label_made};
-ghost use Rattle.fw_script.specs.Faults.{Answers, both as both_of};
+ghost use Rattle.fw_script.specs.Faults.{AnswersUnlessMemory, both as both_of};
 ghost use Rattle.fw_script.specs.Values.{bytes_of, text_of};
-ghost use Rattle.fw_script.specs.Configs.{added, described, extended, has_key as has_component, key_of, new_device, numbers_of, told, unit_of, with_component};
+ghost use Rattle.fw_script.specs.Configs.{device_with_component, device_with_descriptor_words, device_with_component_words, has_key as has_component, key_of, new_device, numbers_of, device_with_descriptor, unit_of, with_component};
 ghost use Rattle.fw_script.specs.Seen.{component_of, device_of};
 
 use crate::faults::{ScriptCause, both};
 use crate::values::{kind, number_in, number_u8, number_u16, number_u32, text, with_bytes};
-use fd_core::{Component, Label, MAX_COMPONENTS, MAX_IMAGE};
+use fd_core::{BankComponent, Label, MAX_COMPONENTS, MAX_IMAGE};
 use fwup_wire::code::text_type;
-use fwup_wire::{Descriptor, DescriptorList, Key, Text, Version};
+use fwup_wire::{DescriptorList, DeviceDescriptor, Key, TypedText, Version};
 use mctp_ctl::Endpoint;
 use mctp_wire::Unit;
 use std::alloc::Global;
@@ -45,7 +45,7 @@ pub struct DeviceConfig {
 #[derive(PartialEq, Eq, Drop)]
 pub struct ComponentConfig {
     /// The component.
-    pub component: Component,
+    pub component: BankComponent,
     /// What the image that runs calls itself.
     pub label: Label,
     /// The image that runs, at most 1,048,576 bytes.
@@ -55,7 +55,7 @@ pub struct ComponentConfig {
 /// The numbers of a component's line: the component, and the stamp of its image.
 #[derive(Clone, Copy)]
 pub(crate) struct Numbers {
-    pub component: Component,
+    pub component: BankComponent,
     pub stamp: u32,
 }
 
@@ -100,7 +100,7 @@ pub(crate) fn read_numbers(
         both(number_u8(index), number_u32(stamp)),
     ) {
         Ok((key, (index, stamp))) => Ok(Numbers {
-            component: Component { key, index },
+            component: BankComponent { key, index },
             stamp,
         }),
         Err(cause) => Err(cause),
@@ -113,7 +113,7 @@ fn label_of(stamp: u32, text: &[u8]) -> Label
 {
     Label::new(&Version {
         stamp,
-        text: Text {
+        text: TypedText {
             text_type: text_type::ASCII,
             bytes: text,
         },
@@ -146,18 +146,18 @@ impl DeviceConfig {
 
     /// Adds a descriptor.
     fn tell(&mut self, kind: u16, bytes: &[u8]) -> Result<(), ScriptCause>
-        ensures { result_map_both (λ _. device_of self.new) (λ e. e) result ≡ told (device_of self.old) (record { kind = kind; bytes = bytes.now }) }
+        ensures { result_map_both (λ _. device_of self.new) (λ e. e) result ≡ device_with_descriptor (device_of self.old) (record { kind = kind; bytes = bytes.now }) }
     {
         if bytes.len() + 4 > self.descriptors.room() {
             return Err(ScriptCause::Limit);
         }
-        self.descriptors.push(&Descriptor { kind, bytes });
+        self.descriptors.push(&DeviceDescriptor { kind, bytes });
         Ok(())
     }
 
     /// Adds a component.
     fn add(&mut self, component: ComponentConfig) -> Result<(), ScriptCause>
-        ensures { Answers (λ _. device_of self.new) result (added (device_of self.old) (component_of component)) }
+        ensures { AnswersUnlessMemory (λ _. device_of self.new) result (device_with_component (device_of self.old) (component_of component)) }
     {
         if has_key(self.components.as_slice(), component.component.key) {
             return Err(ScriptCause::Duplicate);
@@ -172,14 +172,14 @@ impl DeviceConfig {
     }
 
     /// Adds the descriptor of a line.
-    #[tactic(auto, unfolding(crate::specs::Configs::described))]
+    #[tactic(auto, unfolding(crate::specs::Configs::device_with_descriptor_words))]
     pub(crate) fn describe(
         &mut self,
         alloc: Global,
         word: &[u8],
         digits: &[u8],
     ) -> Result<(), ScriptCause>
-        ensures { Answers (λ _. device_of self.new) result (described word.now digits.now (device_of self.old)) }
+        ensures { AnswersUnlessMemory (λ _. device_of self.new) result (device_with_descriptor_words word.now digits.now (device_of self.old)) }
     {
         match with_bytes(alloc, kind(word), digits) {
             Ok((kind, bytes)) => self.tell(kind, &bytes),
@@ -188,7 +188,7 @@ impl DeviceConfig {
     }
 
     /// Adds the component of a line.
-    #[tactic(auto, unfolding(crate::specs::Configs::extended))]
+    #[tactic(auto, unfolding(crate::specs::Configs::device_with_component_words))]
     pub(crate) fn extend(
         &mut self,
         alloc: Global,
@@ -196,7 +196,7 @@ impl DeviceConfig {
         label: &[u8],
         image: &[u8],
     ) -> Result<(), ScriptCause>
-        ensures { Answers (λ _. device_of self.new) result (extended numbers label.now image.now (device_of self.old)) }
+        ensures { AnswersUnlessMemory (λ _. device_of self.new) result (device_with_component_words numbers label.now image.now (device_of self.old)) }
     {
         match with_bytes(alloc, numbers, image) {
             Ok((numbers, image)) => self.add(ComponentConfig {

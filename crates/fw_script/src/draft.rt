@@ -2,8 +2,8 @@
 
 ghost use Rattle.std.specs.Prelude.{◌≡◌, IfErr, IfOk, OnOk, length, map, string_bytes};
 ghost use Rattle.std.specs.List.{list_any};
-ghost use Rattle.fw_script.specs.Faults.{Answers, ReadsAs};
-ghost use Rattle.fw_script.specs.Configs.{after_line, agent_line, begun, component_line, config_of, descriptor_line, device_line, directive_of as directive_named, devices_of, extended, finished, in_device, is_bare, is_device as has_device, line_said, may_choose, node_of, nothing_said, package_line, path_of, unit_line, unit_or, uses_eid};
+ghost use Rattle.fw_script.specs.Faults.{AnswersUnlessMemory, ReadsAs};
+ghost use Rattle.fw_script.specs.Configs.{after_line, agent_line, draft_with_device, component_line, config_of, descriptor_line, device_line, directive_of as directive_named, devices_of, device_with_component_words, config_of_draft, in_device, is_bare, is_device as has_device, draft_after_directive, may_choose, node_of, empty_draft, package_line, path_of, unit_line, unit_or, uses_eid};
 ghost use Rattle.fw_script.specs.Seen.{config_seen, device_of};
 ghost use Rattle.fw_script.specs.Whole.{AreWhole};
 
@@ -64,7 +64,7 @@ fn read_node(eid_word: &[u8], uuid_word: &[u8]) -> Result<Endpoint, ScriptCause>
 
 /// A file's path.
 pub(crate) fn read_path(alloc: Global, word: &[u8]) -> Result<String, ScriptCause>
-    ensures { Answers (λ path. string_bytes path) result (path_of word.now) }
+    ensures { AnswersUnlessMemory (λ path. string_bytes path) result (path_of word.now) }
 {
     match str::from_utf8(word) {
         Ok(path) => match String::from_str(alloc, path) {
@@ -140,7 +140,7 @@ impl Model for Draft {
 impl Draft {
     /// Before the first line.
     fn new(alloc: Global) -> Draft
-        ensures { result ≡ nothing_said }
+        ensures { result ≡ empty_draft }
     {
         Draft {
             agent: None,
@@ -180,7 +180,7 @@ impl Draft {
 
     /// Takes the agent's line.
     fn set_agent(&mut self, fields: &[&[u8]]) -> Result<(), ScriptCause>
-        ensures { Answers (λ _. self.new) result (agent_line self.old (map (λ f. f.now) fields.now)) }
+        ensures { AnswersUnlessMemory (λ _. self.new) result (agent_line self.old (map (λ f. f.now) fields.now)) }
     {
         let [eid, uuid] = fields else {
             return Err(ScriptCause::Fields);
@@ -209,7 +209,7 @@ impl Draft {
 
     /// Takes the unit's line.
     fn set_unit(&mut self, fields: &[&[u8]]) -> Result<(), ScriptCause>
-        ensures { Answers (λ _. self.new) result (unit_line self.old (map (λ f. f.now) fields.now)) }
+        ensures { AnswersUnlessMemory (λ _. self.new) result (unit_line self.old (map (λ f. f.now) fields.now)) }
     {
         let [bytes] = fields else {
             return Err(ScriptCause::Fields);
@@ -228,7 +228,7 @@ impl Draft {
 
     /// Begins a device.
     fn begin(&mut self, alloc: Global, endpoint: Endpoint) -> Result<(), ScriptCause>
-        ensures ok { OnOk result (self.new ≡ begun self.old endpoint) }
+        ensures ok { OnOk result (self.new ≡ draft_with_device self.old endpoint) }
         ensures err { IfErr result (λ e. e ≡ ScriptCause.Memory) }
     {
         if let Some(device) = self.last.take() {
@@ -242,7 +242,7 @@ impl Draft {
 
     /// Takes a device's line.
     fn add_device(&mut self, alloc: Global, fields: &[&[u8]]) -> Result<(), ScriptCause>
-        ensures { Answers (λ _. self.new) result (device_line self.old (map (λ f. f.now) fields.now)) }
+        ensures { AnswersUnlessMemory (λ _. self.new) result (device_line self.old (map (λ f. f.now) fields.now)) }
     {
         let [eid, uuid] = fields else {
             return Err(ScriptCause::Fields);
@@ -265,7 +265,7 @@ impl Draft {
 
     /// Takes a descriptor's line.
     fn add_descriptor(&mut self, alloc: Global, fields: &[&[u8]]) -> Result<(), ScriptCause>
-        ensures { Answers (λ _. self.new) result (descriptor_line self.old (map (λ f. f.now) fields.now)) }
+        ensures { AnswersUnlessMemory (λ _. self.new) result (descriptor_line self.old (map (λ f. f.now) fields.now)) }
     {
         let [kind, bytes] = fields else {
             return Err(ScriptCause::Fields);
@@ -287,7 +287,7 @@ impl Draft {
         label: &[u8],
         image: &[u8],
     ) -> Result<(), ScriptCause>
-        ensures { Answers (λ _. self.new) result (in_device self.old (extended numbers label.now image.now)) }
+        ensures { AnswersUnlessMemory (λ _. self.new) result (in_device self.old (device_with_component_words numbers label.now image.now)) }
     {
         if !self.packages.is_empty() {
             return Err(ScriptCause::Order);
@@ -300,7 +300,7 @@ impl Draft {
 
     /// Takes a component's line.
     fn add_component(&mut self, alloc: Global, fields: &[&[u8]]) -> Result<(), ScriptCause>
-        ensures { Answers (λ _. self.new) result (component_line self.old (map (λ f. f.now) fields.now)) }
+        ensures { AnswersUnlessMemory (λ _. self.new) result (component_line self.old (map (λ f. f.now) fields.now)) }
     {
         let [class, ident, index, stamp, label, image] = fields else {
             return Err(ScriptCause::Fields);
@@ -311,7 +311,7 @@ impl Draft {
 
     /// Takes a package's line.
     fn add_package(&mut self, alloc: Global, fields: &[&[u8]]) -> Result<(), ScriptCause>
-        ensures { Answers (λ _. self.new) result (package_line self.old (map (λ f. f.now) fields.now)) }
+        ensures { AnswersUnlessMemory (λ _. self.new) result (package_line self.old (map (λ f. f.now) fields.now)) }
     {
         let [path] = fields else {
             return Err(ScriptCause::Fields);
@@ -336,7 +336,7 @@ impl Draft {
         directive: Directive,
         fields: &[&[u8]],
     ) -> Result<(), ScriptCause>
-        ensures { Answers (λ _. self.new) result (line_said self.old directive (map (λ f. f.now) fields.now)) }
+        ensures { AnswersUnlessMemory (λ _. self.new) result (draft_after_directive self.old directive (map (λ f. f.now) fields.now)) }
     {
         match directive {
             Directive::Agent => self.set_agent(fields),
@@ -351,7 +351,7 @@ impl Draft {
     /// Takes a line.
     #[tactic(auto, unfolding(crate::specs::Configs::after_line))]
     fn take_line(&mut self, alloc: Global, line: &[u8]) -> Result<(), ScriptCause>
-        ensures { Answers (λ _. self.new) result (after_line self.old line.now) }
+        ensures { AnswersUnlessMemory (λ _. self.new) result (after_line self.old line.now) }
     {
         if is_skipped(line) {
             return Ok(());
@@ -367,9 +367,9 @@ impl Draft {
     }
 
     /// Ends behind the last line.
-    #[tactic(auto, unfolding(crate::specs::Configs::finished))]
+    #[tactic(auto, unfolding(crate::specs::Configs::config_of_draft))]
     fn finish(self) -> Result<Config, ScriptCause>
-        ensures { Answers config_seen result (finished self) }
+        ensures { AnswersUnlessMemory config_seen result (config_of_draft self) }
     {
         let Draft {
             agent,

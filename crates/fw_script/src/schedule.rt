@@ -2,9 +2,9 @@
 
 ghost use Rattle.std.specs.Prelude.{◌≡◌, ◌≢◌, ◌≤◌, ◌<◌, ◌+◌, ◌++◌, ◌∷◌, [], Err, IfErr, IfOk, Ok, OnOk, Some, length, map, option_map};
 ghost use Rattle.std.specs.List.{repeat};
-ghost use Rattle.fw_script.specs.Faults.{Answers, ReadsAs};
+ghost use Rattle.fw_script.specs.Faults.{AnswersUnlessMemory, ReadsAs};
 ghost use Rattle.fw_script.specs.ScheduleLines.{all_steps, line_steps, steps_if_any};
-ghost use Rattle.fw_script.specs.Schedules.{delivery as delivery_of, directive_of as directive_named, eids_from, has_twice as stands_twice, only_eid_of, place_of as place_in, script_of, step_of, steps_named, steps_of, steps_said, ticks_of, verdict_of, with_eid as with_eid_of, with_line};
+ghost use Rattle.fw_script.specs.Schedules.{delivery as delivery_of, directive_of as directive_named, eids_from, has_twice as stands_twice, only_eid_of, place_of as place_in, script_of, step_of, steps_named, steps_of, steps_of_directive, ticks_of, verdict_of, with_eid as with_eid_of, with_line};
 ghost use Rattle.fw_script.specs.Lines.{fields_in, words_from};
 ghost use Rattle.fw_script.specs.Seen.{seen_eids};
 ghost use Rattle.fw_steps.specs.Worlds.{full_tick};
@@ -224,7 +224,7 @@ fn miss(fields: &[&[u8]]) -> Result<Step, ScriptCause>
 
 /// The step of a request of the event log.
 fn sel(alloc: Global, fields: &[&[u8]]) -> Result<Step, ScriptCause>
-    ensures { Answers (λ s. s) result (step_of Directive.Sel (map (λ f. f.now) fields.now)) }
+    ensures { AnswersUnlessMemory (λ s. s) result (step_of Directive.Sel (map (λ f. f.now) fields.now)) }
 {
     let [digits] = fields else {
         return Err(ScriptCause::Fields);
@@ -244,7 +244,7 @@ fn sel(alloc: Global, fields: &[&[u8]]) -> Result<Step, ScriptCause>
 /// The step of a line that says one.
 fn step(alloc: Global, directive: Directive, fields: &[&[u8]]) -> Result<Step, ScriptCause>
     requires { directive ≢ Directive.Tick }
-    ensures { Answers (λ s. s) result (step_of directive (map (λ f. f.now) fields.now)) }
+    ensures { AnswersUnlessMemory (λ s. s) result (step_of directive (map (λ f. f.now) fields.now)) }
 {
     match directive {
         Directive::Tick => Err(ScriptCause::Fields),
@@ -270,7 +270,7 @@ fn step(alloc: Global, directive: Directive, fields: &[&[u8]]) -> Result<Step, S
 
 /// What the fields of a line say.
 fn said(alloc: Global, directive: Directive, fields: &[&[u8]]) -> Result<ScheduleLine, ScriptCause>
-    ensures { Answers line_steps result (steps_said directive (map (λ f. f.now) fields.now)) }
+    ensures { AnswersUnlessMemory line_steps result (steps_of_directive directive (map (λ f. f.now) fields.now)) }
 {
     if let Directive::Tick = directive {
         return match ticks(fields) {
@@ -286,7 +286,7 @@ fn said(alloc: Global, directive: Directive, fields: &[&[u8]]) -> Result<Schedul
 
 /// The tick that the nodes behind a line's first word miss.
 fn missed(rest: Option<&[u8]>) -> Result<ScheduleLine, ScriptCause>
-    ensures { Answers line_steps result (steps_named (Some Directive.Miss) (fields_in 17 (words_from (option_map (λ r. r.now) rest.entry)))) }
+    ensures { AnswersUnlessMemory line_steps result (steps_named (Some Directive.Miss) (fields_in 17 (words_from (option_map (λ r. r.now) rest.entry)))) }
 {
     let Some(fields) = fields_after::<MAX_MISSED>(rest) else {
         return Err(ScriptCause::Fields);
@@ -300,7 +300,7 @@ fn missed(rest: Option<&[u8]>) -> Result<ScheduleLine, ScriptCause>
 /// What a line says; nothing where it is skipped.
 #[tactic(auto, unfolding(crate::specs::Schedules::steps_of))]
 fn line_of(alloc: Global, line: &[u8]) -> Result<Option<ScheduleLine>, ScriptCause>
-    ensures { Answers steps_if_any result (steps_of line.now) }
+    ensures { AnswersUnlessMemory steps_if_any result (steps_of line.now) }
 {
     if is_skipped(line) {
         return Ok(None);
@@ -343,7 +343,7 @@ fn push_line(lines: &mut Vec<ScheduleLine>, line: Option<ScheduleLine>) -> Resul
 
 /// Reads what a line says behind the others.
 fn read_line(alloc: Global, text: &[u8], lines: &mut Vec<ScheduleLine>) -> Result<(), ScriptCause>
-    ensures { Answers (λ _. all_steps lines.new.items) result (with_line (all_steps lines.old.items) (steps_of text.now)) }
+    ensures { AnswersUnlessMemory (λ _. all_steps lines.new.items) result (with_line (all_steps lines.old.items) (steps_of text.now)) }
 {
     match line_of(alloc, text) {
         Ok(line) => push_line(lines, line),

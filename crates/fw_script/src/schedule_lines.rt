@@ -116,7 +116,7 @@ impl<'a> Model for LineSteps<'a> {
 
 impl<'a> LineSteps<'a> {
     ghost use Rattle.std.specs.Prelude.{◌≡◌, ◌∷◌, [], IfNone, IfSome};
-    ghost use Rattle.fw_script.specs.ScheduleLines.{all_steps, step_said};
+    ghost use Rattle.fw_script.specs.ScheduleLines.{all_steps, step_of_next};
 
     /// All steps of these lines.
     pub fn of(lines: &'a [ScheduleLine]) -> LineSteps<'a>
@@ -128,7 +128,7 @@ impl<'a> LineSteps<'a> {
     /// The first of the steps that are left, which then isn't; none where none is left.
     #[tactic(auto, using(crate::proofs::AllSteps::ticks_first))]
     pub fn next(&mut self) -> Option<NextStep<'a>>
-        ensures some { IfSome result (λ s. self.old ≡ step_said s ∷ self.new) }
+        ensures some { IfSome result (λ s. self.old ≡ step_of_next s ∷ self.new) }
         ensures none { IfNone result (self.old ≡ []) }
     {
         if self.ticks > 0 {

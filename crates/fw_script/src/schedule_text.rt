@@ -1,8 +1,8 @@
 //! Steps that are written as a schedule's text.
 
 ghost use Rattle.std.specs.Prelude.{◌≡◌, ◌++◌, IfOk, Ok, OnErr, OnOk};
-ghost use Rattle.fw_text.specs.Printing.{Adds};
-ghost use Rattle.fw_script.specs.ScheduleTexts.{AreSayable, idle_after, idle_after_tick, idle_at, is_idle as is_idle_tick, schedule_text, step_text, text_of_steps, text_with, text_with_tick, ticks_text};
+ghost use Rattle.fw_text.specs.Printing.{AppendsText};
+ghost use Rattle.fw_script.specs.ScheduleTexts.{StepsRoundTrip, idle_after, idle_after_tick, idle_at, is_idle as is_idle_tick, schedule_text, step_text, text_of_steps, text_with, text_with_tick, ticks_text};
 ghost use Rattle.fw_script.specs.Schedules.{script_of};
 
 use crate::step_text::{push_step, push_ticks};
@@ -25,7 +25,7 @@ fn is_idle(step: &Step) -> bool
 
 /// Appends the line that says so many ticks, and that of a step behind it.
 fn push_behind(alloc: Global, text: &mut Vec<u8>, idle: u16, step: &Step) -> Result<(), AllocError>
-    ensures { OnOk result (Adds text.old.items text.new.items (ticks_text idle ++ step_text step.now)) }
+    ensures { OnOk result (AppendsText text.old.items text.new.items (ticks_text idle ++ step_text step.now)) }
 {
     push_ticks(alloc, text, idle)?;
     push_step(alloc, text, step)?;
@@ -62,7 +62,7 @@ impl ScheduleText {
 
     /// Appends a tick that nobody misses, or holds it back.
     fn hold(&mut self, alloc: Global, text: &mut Vec<u8>) -> Result<(), AllocError>
-        ensures written { OnOk result (Adds text.old.items text.new.items (text_with_tick self.old)) }
+        ensures written { OnOk result (AppendsText text.old.items text.new.items (text_with_tick self.old)) }
         ensures held { OnOk result (self.new ≡ idle_after_tick self.old) }
         ensures kept { OnErr result (self.new ≡ self.old) }
     {
@@ -84,7 +84,7 @@ impl ScheduleText {
     /// `AllocError` where memory for it is refused. As many ticks are held back then as before; of the text nothing is
     /// promised.
     pub fn push(&mut self, alloc: Global, text: &mut Vec<u8>, step: &Step) -> Result<(), AllocError>
-        ensures written { OnOk result (Adds text.old.items text.new.items (text_with self.old step.now)) }
+        ensures written { OnOk result (AppendsText text.old.items text.new.items (text_with self.old step.now)) }
         ensures held { OnOk result (self.new ≡ idle_after self.old step.now) }
         ensures kept { OnErr result (self.new ≡ self.old) }
     {
@@ -110,7 +110,7 @@ impl ScheduleText {
         text: &mut Vec<u8>,
         steps: &[Step],
     ) -> Result<(), AllocError>
-        ensures written { OnOk result (Adds text.old.items text.new.items (text_of_steps self.old steps.now)) }
+        ensures written { OnOk result (AppendsText text.old.items text.new.items (text_of_steps self.old steps.now)) }
         ensures held { OnOk result (self.new ≡ idle_at self.old steps.now) }
     {
         for step in steps {
@@ -124,7 +124,7 @@ impl ScheduleText {
     /// # Errors
     /// `AllocError` where memory for it is refused. The ticks are held back still; of the text nothing is promised.
     pub fn end(&mut self, alloc: Global, text: &mut Vec<u8>) -> Result<(), AllocError>
-        ensures written { OnOk result (Adds text.old.items text.new.items (ticks_text self.old)) }
+        ensures written { OnOk result (AppendsText text.old.items text.new.items (ticks_text self.old)) }
         ensures held { OnOk result (self.new ≡ 0) }
         ensures kept { OnErr result (self.new ≡ self.old) }
     {
@@ -142,7 +142,7 @@ impl ScheduleText {
 /// `AllocError` where memory for it is refused.
 pub fn write_schedule(alloc: Global, steps: &[Step]) -> Result<Vec<u8>, AllocError>
     ensures text { IfOk result (λ text. text.items ≡ schedule_text steps.now) }
-    ensures reads { AreSayable steps.now → IfOk result (λ text. script_of text.items ≡ Ok steps.now) }
+    ensures reads { StepsRoundTrip steps.now → IfOk result (λ text. script_of text.items ≡ Ok steps.now) }
 {
     let mut text = Vec::new(alloc);
     let mut writer = ScheduleText::new();

@@ -1,9 +1,9 @@
 //! The values of the fields that a package's text has, where a configuration's has none of them.
 
 ghost use Rattle.std.specs.Prelude.{◌≡◌, ◌+◌, ◌<◌, ◌≤◌, ◌⊎◌, ◌∷◌, [], IfErr, IfOk, IfSome, MatchOption, None, Ok, Some, length, map, option_map, string_bytes};
-ghost use Rattle.fw_script.specs.Faults.{Answers, both as both_of};
+ghost use Rattle.fw_script.specs.Faults.{AnswersUnlessMemory, both as both_of};
 ghost use Rattle.fw_script.specs.Lines.{words_from};
-ghost use Rattle.fw_script.specs.SpecFields.{are_numbers as are_all_numbers, byte_escaped, image_path_of, numbers_used, package_text_of, release_of, unescaped, upper_digit_of, uses_from, uses_of, whole_fields, with_byte};
+ghost use Rattle.fw_script.specs.SpecFields.{are_numbers as are_all_numbers, byte_escaped, image_path_of, numbers_used, package_text_of, release_of, unescaped_word, upper_digit_of, uses_from, uses_of, whole_fields, with_byte};
 
 use crate::draft::read_path;
 use crate::faults::ScriptCause;
@@ -22,7 +22,7 @@ pub(crate) fn all_fields<'a>(
     alloc: Global,
     rest: Option<&'a [u8]>,
 ) -> Result<Vec<&'a [u8]>, ScriptCause>
-    ensures { Answers (λ fields. map (λ f. f.now) fields.items) result (whole_fields (words_from (option_map (λ r. r.now) rest.entry))) }
+    ensures { AnswersUnlessMemory (λ fields. map (λ f. f.now) fields.items) result (whole_fields (words_from (option_map (λ r. r.now) rest.entry))) }
 {
     let mut fields = Vec::new(alloc);
     let mut left = rest;
@@ -66,9 +66,9 @@ fn escaped_byte(x: u8, high: u8, low: u8) -> Option<u8>
 
 /// The first byte that a word stands for, if it isn't empty, and what follows it.
 fn first_byte(word: &[u8]) -> Result<Option<(u8, &[u8])>, ScriptCause>
-    ensures byte { IfOk result (λ first. MatchOption first (word.now ≡ []) (λ p. unescaped word.now ≡ with_byte (Some p.0) (unescaped p.1.now))) }
+    ensures byte { IfOk result (λ first. MatchOption first (word.now ≡ []) (λ p. unescaped_word word.now ≡ with_byte (Some p.0) (unescaped_word p.1.now))) }
     ensures shorter { IfOk result (λ first. IfSome first (λ p. length p.1.now < length word.now)) }
-    ensures bad { IfErr result (λ e. unescaped word.now ≡ None) }
+    ensures bad { IfErr result (λ e. unescaped_word word.now ≡ None) }
     ensures fault { IfErr result (λ e. e ≡ ScriptCause.Hex) }
 {
     match word {
@@ -85,8 +85,8 @@ fn first_byte(word: &[u8]) -> Result<Option<(u8, &[u8])>, ScriptCause>
 /// The bytes that a word stands for.
 #[tactic(auto, using(crate::proofs::Specs::behind_more, crate::proofs::Specs::behind_nothing))]
 fn unescape(alloc: Global, word: &[u8]) -> Result<Vec<u8>, ScriptCause>
-    ensures ok { IfOk result (λ bytes. unescaped word.now ≡ Some bytes.items) }
-    ensures fault { IfErr result (λ e. (e ≡ ScriptCause.Memory) ⊎ ((e ≡ ScriptCause.Hex) × (unescaped word.now ≡ None))) }
+    ensures ok { IfOk result (λ bytes. unescaped_word word.now ≡ Some bytes.items) }
+    ensures fault { IfErr result (λ e. (e ≡ ScriptCause.Memory) ⊎ ((e ≡ ScriptCause.Hex) × (unescaped_word word.now ≡ None))) }
 {
     let mut bytes = Vec::new(alloc);
     let mut rest = word;
@@ -108,7 +108,7 @@ fn unescape(alloc: Global, word: &[u8]) -> Result<Vec<u8>, ScriptCause>
 /// A text of a package.
 #[tactic(auto, unfolding(crate::specs::SpecFields::package_text_of))]
 pub(crate) fn package_text(alloc: Global, word: &[u8]) -> Result<Vec<u8>, ScriptCause>
-    ensures { Answers (λ v. v.items) result (package_text_of word.now) }
+    ensures { AnswersUnlessMemory (λ v. v.items) result (package_text_of word.now) }
 {
     if is_dash(word) {
         return Ok(Vec::new(alloc));
@@ -146,7 +146,7 @@ fn are_numbers(words: &[&[u8]]) -> bool
 
 /// The components that these numbers name, which rise.
 fn rising_uses(alloc: Global, words: &[&[u8]]) -> Result<Vec<u16>, ScriptCause>
-    ensures { Answers (λ uses. uses.items) result (uses_from 1 (map (λ w. w.now) words.now)) }
+    ensures { AnswersUnlessMemory (λ uses. uses.items) result (uses_from 1 (map (λ w. w.now) words.now)) }
 {
     let mut uses = Vec::new(alloc);
     let mut least = 1;
@@ -165,7 +165,7 @@ fn rising_uses(alloc: Global, words: &[&[u8]]) -> Result<Vec<u16>, ScriptCause>
 
 /// The components that a record uses.
 pub(crate) fn read_uses(alloc: Global, words: &[&[u8]]) -> Result<Vec<u16>, ScriptCause>
-    ensures { Answers (λ uses. uses.items) result (uses_of (map (λ w. w.now) words.now)) }
+    ensures { AnswersUnlessMemory (λ uses. uses.items) result (uses_of (map (λ w. w.now) words.now)) }
 {
     if let [word] = words
         && is_dash(word)
@@ -180,7 +180,7 @@ pub(crate) fn read_uses(alloc: Global, words: &[&[u8]]) -> Result<Vec<u16>, Scri
 
 /// The path of an image's file, if there is one.
 fn image_path(alloc: Global, word: &[u8]) -> Result<Option<String>, ScriptCause>
-    ensures { Answers (λ path. option_map (λ p. string_bytes p) path) result (image_path_of word.now) }
+    ensures { AnswersUnlessMemory (λ path. option_map (λ p. string_bytes p) path) result (image_path_of word.now) }
 {
     if is_dash(word) {
         return Ok(None);
@@ -197,7 +197,7 @@ pub(crate) fn text_and_uses(
     text: &[u8],
     words: &[&[u8]],
 ) -> Result<(Vec<u8>, Vec<u16>), ScriptCause>
-    ensures { Answers (λ r. (r.0.items, r.1.items)) result (both_of (package_text_of text.now) (uses_of (map (λ w. w.now) words.now))) }
+    ensures { AnswersUnlessMemory (λ r. (r.0.items, r.1.items)) result (both_of (package_text_of text.now) (uses_of (map (λ w. w.now) words.now))) }
 {
     match (package_text(alloc, text), read_uses(alloc, words)) {
         (Ok(text), Ok(uses)) => Ok((text, uses)),
@@ -214,7 +214,7 @@ pub(crate) fn text_and_path(
     text: &[u8],
     path: &[u8],
 ) -> Result<(Vec<u8>, Option<String>), ScriptCause>
-    ensures { Answers (λ r. (r.0.items, option_map (λ p. string_bytes p) r.1)) result (both_of (package_text_of text.now) (image_path_of path.now)) }
+    ensures { AnswersUnlessMemory (λ r. (r.0.items, option_map (λ p. string_bytes p) r.1)) result (both_of (package_text_of text.now) (image_path_of path.now)) }
 {
     match (package_text(alloc, text), image_path(alloc, path)) {
         (Ok(text), Ok(path)) => Ok((text, path)),

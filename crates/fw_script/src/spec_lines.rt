@@ -2,8 +2,8 @@
 
 ghost use Rattle.std.specs.Prelude.{◌≡◌, IfErr, OnOk, length, map, nat_lt};
 ghost use Rattle.std.specs.List.{list_all};
-ghost use Rattle.fw_script.specs.Faults.{Answers, ReadsAs};
-ghost use Rattle.fw_script.specs.PackageSpecs.{after_spec_line, begun, choices_of, component_line, descriptor_line, extended, has_begun as has_said, is_past as is_past_of, line_said, no_spec_said, package_spec_of, past_line as past_line_of, record_line, record_read, records_of, release_line, spec_directive_of, spec_finished, spec_numbers_of, spec_record_of, spec_seen, told, version_line};
+ghost use Rattle.fw_script.specs.Faults.{AnswersUnlessMemory, ReadsAs};
+ghost use Rattle.fw_script.specs.PackageSpecs.{after_spec_line, spec_draft_with_record, choices_of, component_line, descriptor_line, spec_draft_with_component, has_begun as has_said, is_past as is_past_of, spec_draft_after_directive, empty_spec_draft, package_spec_of, past_line as past_line_of, record_line, record_read, records_of, release_line, spec_directive_of, spec_finished, spec_numbers_of, spec_record_of, spec_seen, record_with_descriptor, version_line};
 
 use crate::config::read_key;
 use crate::faults::{ScriptCause, ScriptFault, both};
@@ -121,9 +121,9 @@ impl SpecRecord {
     }
 
     /// Adds the descriptor of a line.
-    #[tactic(auto, unfolding(crate::specs::PackageSpecs::told))]
+    #[tactic(auto, unfolding(crate::specs::PackageSpecs::record_with_descriptor))]
     fn tell(&mut self, alloc: Global, word: &[u8], digits: &[u8]) -> Result<(), ScriptCause>
-        ensures { Answers (λ _. spec_record_of self.new) result (told word.now digits.now (spec_record_of self.old)) }
+        ensures { AnswersUnlessMemory (λ _. spec_record_of self.new) result (record_with_descriptor word.now digits.now (spec_record_of self.old)) }
     {
         let (kind, bytes) = match with_bytes(alloc, kind(word), digits) {
             Ok(read) => read,
@@ -169,7 +169,7 @@ impl Model for SpecDraft {
 impl SpecDraft {
     /// Before the first line.
     fn new(alloc: Global) -> SpecDraft
-        ensures { result ≡ no_spec_said }
+        ensures { result ≡ empty_spec_draft }
     {
         SpecDraft {
             version: None,
@@ -199,7 +199,7 @@ impl SpecDraft {
 
     /// Takes the version's line.
     fn set_version(&mut self, alloc: Global, fields: &[&[u8]]) -> Result<(), ScriptCause>
-        ensures { Answers (λ _. self.new) result (version_line self.old (map (λ f. f.now) fields.now)) }
+        ensures { AnswersUnlessMemory (λ _. self.new) result (version_line self.old (map (λ f. f.now) fields.now)) }
     {
         let [word] = fields else {
             return Err(ScriptCause::Fields);
@@ -218,7 +218,7 @@ impl SpecDraft {
 
     /// Takes the release time's line.
     fn set_release(&mut self, fields: &[&[u8]]) -> Result<(), ScriptCause>
-        ensures { Answers (λ _. self.new) result (release_line self.old (map (λ f. f.now) fields.now)) }
+        ensures { AnswersUnlessMemory (λ _. self.new) result (release_line self.old (map (λ f. f.now) fields.now)) }
     {
         let [word] = fields else {
             return Err(ScriptCause::Fields);
@@ -237,7 +237,7 @@ impl SpecDraft {
 
     /// Begins a record.
     fn begin(&mut self, said: SpecRecord) -> Result<(), ScriptCause>
-        ensures ok { OnOk result (self.new ≡ begun self.old (spec_record_of said)) }
+        ensures ok { OnOk result (self.new ≡ spec_draft_with_record self.old (spec_record_of said)) }
         ensures err { IfErr result (λ e. e ≡ ScriptCause.Memory) }
     {
         if let Some(before) = self.last.take() {
@@ -256,7 +256,7 @@ impl SpecDraft {
         line: usize,
         fields: &[&[u8]],
     ) -> Result<(), ScriptCause>
-        ensures { Answers (λ _. self.new) result (record_line line self.old (map (λ f. f.now) fields.now)) }
+        ensures { AnswersUnlessMemory (λ _. self.new) result (record_line line self.old (map (λ f. f.now) fields.now)) }
     {
         let [flags, text, uses @ ..] = fields else {
             return Err(ScriptCause::Fields);
@@ -279,7 +279,7 @@ impl SpecDraft {
 
     /// Takes a descriptor's line.
     fn add_descriptor(&mut self, alloc: Global, fields: &[&[u8]]) -> Result<(), ScriptCause>
-        ensures { Answers (λ _. self.new) result (descriptor_line self.old (map (λ f. f.now) fields.now)) }
+        ensures { AnswersUnlessMemory (λ _. self.new) result (descriptor_line self.old (map (λ f. f.now) fields.now)) }
     {
         let [kind, bytes] = fields else {
             return Err(ScriptCause::Fields);
@@ -294,7 +294,7 @@ impl SpecDraft {
     }
 
     /// Adds a component.
-    #[tactic(auto, unfolding(crate::specs::PackageSpecs::extended))]
+    #[tactic(auto, unfolding(crate::specs::PackageSpecs::spec_draft_with_component))]
     fn extend(
         &mut self,
         alloc: Global,
@@ -302,7 +302,7 @@ impl SpecDraft {
         text: &[u8],
         path: &[u8],
     ) -> Result<(), ScriptCause>
-        ensures { Answers (λ _. self.new) result (extended numbers text.now path.now self.old) }
+        ensures { AnswersUnlessMemory (λ _. self.new) result (spec_draft_with_component numbers text.now path.now self.old) }
     {
         let (numbers, (text, path)) = match (numbers, text_and_path(alloc, text, path)) {
             (Ok(numbers), Ok(parts)) => (numbers, parts),
@@ -324,7 +324,7 @@ impl SpecDraft {
 
     /// Takes a component's line.
     fn add_component(&mut self, alloc: Global, fields: &[&[u8]]) -> Result<(), ScriptCause>
-        ensures { Answers (λ _. self.new) result (component_line self.old (map (λ f. f.now) fields.now)) }
+        ensures { AnswersUnlessMemory (λ _. self.new) result (component_line self.old (map (λ f. f.now) fields.now)) }
     {
         let [class, ident, stamp, options, method, text, path] = fields else {
             return Err(ScriptCause::Fields);
@@ -341,7 +341,7 @@ impl SpecDraft {
         directive: Directive,
         fields: &[&[u8]],
     ) -> Result<(), ScriptCause>
-        ensures { Answers (λ _. self.new) result (line_said line self.old directive (map (λ f. f.now) fields.now)) }
+        ensures { AnswersUnlessMemory (λ _. self.new) result (spec_draft_after_directive line self.old directive (map (λ f. f.now) fields.now)) }
     {
         match directive {
             Directive::Version => self.set_version(alloc, fields),
@@ -355,7 +355,7 @@ impl SpecDraft {
     /// Takes a line, of this number.
     #[tactic(auto, unfolding(crate::specs::PackageSpecs::after_spec_line))]
     fn take_line(&mut self, alloc: Global, number: usize, line: &[u8]) -> Result<(), ScriptCause>
-        ensures { Answers (λ _. self.new) result (after_spec_line number self.old line.now) }
+        ensures { AnswersUnlessMemory (λ _. self.new) result (after_spec_line number self.old line.now) }
     {
         if is_skipped(line) {
             return Ok(());
@@ -420,7 +420,7 @@ fn read_record(
     text: &[u8],
     uses: &[&[u8]],
 ) -> Result<SpecRecord, ScriptCause>
-    ensures { Answers spec_record_of result (record_read line flags.now text.now (map (λ w. w.now) uses.now)) }
+    ensures { AnswersUnlessMemory spec_record_of result (record_read line flags.now text.now (map (λ w. w.now) uses.now)) }
 {
     match (number_u32(flags), text_and_uses(alloc, text, uses)) {
         (Ok(flags), Ok((set_text, uses))) => Ok(SpecRecord {

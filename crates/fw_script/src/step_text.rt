@@ -2,8 +2,8 @@
 
 ghost use Rattle.std.specs.Prelude.{◌≡◌, ◌++◌, ◌∷◌, [], OnOk, decimal};
 ghost use Rattle.std.specs.List.{flat_map};
-ghost use Rattle.fw_text.specs.Printing.{Adds};
-ghost use Rattle.fw_script.specs.ScheduleTexts.{spaced, step_text, ticks_text, verdict_word as word_for_verdict, words_for, words_for_ticks};
+ghost use Rattle.fw_text.specs.Printing.{AppendsText};
+ghost use Rattle.fw_script.specs.ScheduleTexts.{words_with_spaces, step_text, ticks_text, verdict_word as word_for_verdict, words_for, words_for_ticks};
 
 use fd_core::Verdict;
 use fw_text::{push_data, push_number, push_words};
@@ -11,9 +11,9 @@ use fw_world::{LogRequest, Missed, Step};
 use std::alloc::{AllocError, Global};
 
 /// Appends a number as a line's next word.
-#[tactic(auto, unfolding(fw_text::specs::Printing::numbered))]
+#[tactic(auto, unfolding(fw_text::specs::Printing::word_and_number))]
 fn push_place(alloc: Global, text: &mut Vec<u8>, number: usize) -> Result<(), AllocError>
-    ensures { OnOk result (Adds text.old.items text.new.items (32 ∷ decimal number)) }
+    ensures { OnOk result (AppendsText text.old.items text.new.items (32 ∷ decimal number)) }
 {
     push_number(alloc, text, " ", number)?;
     Ok(())
@@ -21,7 +21,7 @@ fn push_place(alloc: Global, text: &mut Vec<u8>, number: usize) -> Result<(), Al
 
 /// Appends an endpoint identifier as a line's next word.
 fn push_eid(alloc: Global, text: &mut Vec<u8>, eid: u8) -> Result<(), AllocError>
-    ensures { OnOk result (Adds text.old.items text.new.items (32 ∷ decimal eid)) }
+    ensures { OnOk result (AppendsText text.old.items text.new.items (32 ∷ decimal eid)) }
 {
     push_place(alloc, text, usize::from(eid))?;
     Ok(())
@@ -29,7 +29,7 @@ fn push_eid(alloc: Global, text: &mut Vec<u8>, eid: u8) -> Result<(), AllocError
 
 /// Appends endpoint identifiers as a line's next words.
 fn push_eids(alloc: Global, text: &mut Vec<u8>, eids: &[u8]) -> Result<(), AllocError>
-    ensures { OnOk result (Adds text.old.items text.new.items (flat_map (λ eid. 32 ∷ decimal eid) eids.now)) }
+    ensures { OnOk result (AppendsText text.old.items text.new.items (flat_map (λ eid. 32 ∷ decimal eid) eids.now)) }
 {
     for eid in eids {
         push_eid(alloc, text, *eid)?;
@@ -57,7 +57,7 @@ fn push_delivery(
     number: usize,
     node: u8,
 ) -> Result<(), AllocError>
-    ensures { OnOk result (Adds text.old.items text.new.items (spaced (words_for (Step.Deliver pair number node)))) }
+    ensures { OnOk result (AppendsText text.old.items text.new.items (words_with_spaces (words_for (Step.Deliver pair number node)))) }
 {
     push_words(text, "deliver")?;
     push_eid(alloc, text, pair)?;
@@ -73,7 +73,7 @@ fn push_start(
     device: u8,
     number: usize,
 ) -> Result<(), AllocError>
-    ensures { OnOk result (Adds text.old.items text.new.items (spaced (words_for (Step.Start device number)))) }
+    ensures { OnOk result (AppendsText text.old.items text.new.items (words_with_spaces (words_for (Step.Start device number)))) }
 {
     push_words(text, "start")?;
     push_eid(alloc, text, device)?;
@@ -88,7 +88,7 @@ fn push_verdict(
     device: u8,
     verdict: Verdict,
 ) -> Result<(), AllocError>
-    ensures { OnOk result (Adds text.old.items text.new.items (spaced (words_for (Step.Verdict device verdict)))) }
+    ensures { OnOk result (AppendsText text.old.items text.new.items (words_with_spaces (words_for (Step.Verdict device verdict)))) }
 {
     push_words(text, "verdict")?;
     push_eid(alloc, text, device)?;
@@ -99,7 +99,7 @@ fn push_verdict(
 
 /// Appends a word and an endpoint identifier.
 fn push_named(alloc: Global, text: &mut Vec<u8>, word: &str, eid: u8) -> Result<(), AllocError>
-    ensures { OnOk result (Adds text.old.items text.new.items (spaced (word.now ∷ decimal eid ∷ []))) }
+    ensures { OnOk result (AppendsText text.old.items text.new.items (words_with_spaces (word.now ∷ decimal eid ∷ []))) }
 {
     push_words(text, word)?;
     push_eid(alloc, text, eid)?;
@@ -108,7 +108,7 @@ fn push_named(alloc: Global, text: &mut Vec<u8>, word: &str, eid: u8) -> Result<
 
 /// Appends the words that say which nodes miss a tick.
 fn push_missed(alloc: Global, text: &mut Vec<u8>, missed: &Missed) -> Result<(), AllocError>
-    ensures { OnOk result (Adds text.old.items text.new.items (spaced (words_for (Step.Tick missed.now)))) }
+    ensures { OnOk result (AppendsText text.old.items text.new.items (words_with_spaces (words_for (Step.Tick missed.now)))) }
 {
     push_words(text, "miss")?;
     push_eids(alloc, text, missed.as_slice())?;
@@ -117,7 +117,7 @@ fn push_missed(alloc: Global, text: &mut Vec<u8>, missed: &Missed) -> Result<(),
 
 /// Appends the words that say that the event log is asked.
 fn push_request(alloc: Global, text: &mut Vec<u8>, request: &LogRequest) -> Result<(), AllocError>
-    ensures { OnOk result (Adds text.old.items text.new.items (spaced (words_for (Step.Sel request.now)))) }
+    ensures { OnOk result (AppendsText text.old.items text.new.items (words_with_spaces (words_for (Step.Sel request.now)))) }
 {
     push_words(text, "sel")?;
     push_words(text, " ")?;
@@ -127,7 +127,7 @@ fn push_request(alloc: Global, text: &mut Vec<u8>, request: &LogRequest) -> Resu
 
 /// Appends the words that say a step.
 fn push_said(alloc: Global, text: &mut Vec<u8>, step: &Step) -> Result<(), AllocError>
-    ensures { OnOk result (Adds text.old.items text.new.items (spaced (words_for step.now))) }
+    ensures { OnOk result (AppendsText text.old.items text.new.items (words_with_spaces (words_for step.now))) }
 {
     match step {
         Step::Deliver(pair, number, node) => push_delivery(alloc, text, *pair, *number, *node),
@@ -144,7 +144,7 @@ fn push_said(alloc: Global, text: &mut Vec<u8>, step: &Step) -> Result<(), Alloc
 /// Appends the line that says a step; a tick's names the nodes that miss it.
 #[tactic(auto, unfolding(crate::specs::ScheduleTexts::step_text))]
 pub(crate) fn push_step(alloc: Global, text: &mut Vec<u8>, step: &Step) -> Result<(), AllocError>
-    ensures { OnOk result (Adds text.old.items text.new.items (step_text step.now)) }
+    ensures { OnOk result (AppendsText text.old.items text.new.items (step_text step.now)) }
 {
     push_said(alloc, text, step)?;
     push_words(text, "\n")?;
@@ -153,7 +153,7 @@ pub(crate) fn push_step(alloc: Global, text: &mut Vec<u8>, step: &Step) -> Resul
 
 /// Appends the words that say so many ticks.
 fn push_tick_words(alloc: Global, text: &mut Vec<u8>, count: u16) -> Result<(), AllocError>
-    ensures { OnOk result (Adds text.old.items text.new.items (spaced (words_for_ticks count))) }
+    ensures { OnOk result (AppendsText text.old.items text.new.items (words_with_spaces (words_for_ticks count))) }
 {
     push_words(text, "tick")?;
     if count == 1 {
@@ -165,7 +165,7 @@ fn push_tick_words(alloc: Global, text: &mut Vec<u8>, count: u16) -> Result<(), 
 
 /// Appends the line that says so many ticks that nobody misses, and nothing of none.
 pub(crate) fn push_ticks(alloc: Global, text: &mut Vec<u8>, count: u16) -> Result<(), AllocError>
-    ensures { OnOk result (Adds text.old.items text.new.items (ticks_text count)) }
+    ensures { OnOk result (AppendsText text.old.items text.new.items (ticks_text count)) }
 {
     if count == 0 {
         return Ok(());

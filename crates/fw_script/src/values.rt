@@ -4,7 +4,7 @@ ghost use Rattle.std.specs.Prelude.{◌≡◌, ◌≤◌, ◌<◌, ◌^◌, ◌&
 ghost use Rattle.std.specs.List.{list_all};
 ghost use Rattle.std.specs.Char.{is_ascii_digit};
 ghost use Rattle.std.specs.Str.Parse.{digits_value};
-ghost use Rattle.fw_script.specs.Faults.{Answers, both as both_of};
+ghost use Rattle.fw_script.specs.Faults.{AnswersUnlessMemory, both as both_of};
 ghost use Rattle.fw_script.specs.Values.{bytes_of, eid_of, is_dash as stands_for_nothing, kind_of, number_in as number_within, text_of, uuid_of};
 
 use crate::faults::{ScriptCause, both};
@@ -117,7 +117,7 @@ pub fn text(word: &[u8]) -> &[u8]
 /// Bytes.
 #[tactic(auto, unfolding(crate::specs::Values::bytes_of))]
 pub fn bytes(alloc: Global, word: &[u8]) -> Result<Vec<u8>, ScriptCause>
-    ensures { Answers (λ v. v.items) result (bytes_of word.now) }
+    ensures { AnswersUnlessMemory (λ v. v.items) result (bytes_of word.now) }
 {
     if is_dash(word) {
         return Ok(Vec::new(alloc));
@@ -147,7 +147,7 @@ pub fn with_bytes<T: Drop>(
     value: Result<T, ScriptCause>,
     word: &[u8],
 ) -> Result<(T, Vec<u8>), ScriptCause>
-    ensures { Answers (λ r. (r.0, r.1.items)) result (both_of value (bytes_of word.now)) }
+    ensures { AnswersUnlessMemory (λ r. (r.0, r.1.items)) result (both_of value (bytes_of word.now)) }
 {
     match bytes(alloc, word) {
         Ok(bytes) => both(value, Ok(bytes)),

@@ -5,7 +5,7 @@ use Rattle.std.specs.List.{AllByRecursion}
 use Rattle.std.proofs.lemmas.List.Elements.{All-from_recursion}
 use Rattle.std.proofs.lemmas.List.{drop_more, length-map, map-append, take_more}
 use Rattle.fd_core.proofs.Rows.{apart_more}
-use Rattle.fd_core.specs.Banks.{AreApart}
+use Rattle.fd_core.specs.Banks.{HaveKeysOnce}
 use Rattle.fd_core.specs.Components.{HasComponents}
 use Rattle.fd_core.specs.Images.{RowOf, key_of}
 use Rattle.fwup_wire.specs.declared.values.Key.{Key}
@@ -66,7 +66,7 @@ rest_new rows row keys h = subst (λ ks. AreNew ks keys) (sym (map-append key_of
 pub record Filled (total : List RowOf) (rows : List RowOf) (left : List ComponentConfigOf) : Type 0 where
   pub all : rows ++ map row_made left ≡ total
   pub new : AreNew (map key_of rows) (keys_of left)
-  pub apart : AreApart (map key_of rows)
+  pub apart : HaveKeysOnce (map key_of rows)
 
 moved : (total rows : List RowOf) (x : ComponentConfigOf) (left : List ComponentConfigOf) → Filled total rows (x ∷ left) → Filled total (rows ++ row_made x ∷ []) left
 moved total rows x left h = record {

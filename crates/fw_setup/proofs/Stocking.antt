@@ -17,7 +17,7 @@ use Rattle.fw_store.specs.declared.faults.OpenFault.{OpenFault}
 use Rattle.fw_store.specs.declared.faults.OpenFault.TheVariants as reasons
 use Rattle.fw_steps.specs.Headline.{AreDifferent}
 use Rattle.fw_setup.specs.Nodes.{row_made}
-use Rattle.fw_setup.specs.Stocks.{AreStocked, CanOpen, IsFaulty, IsStocked, IsUnmade, IsUnopened, StoresOf, image_configured, images_configured, stocked, stocked_by, stocked_device}
+use Rattle.fw_setup.specs.Stocks.{HaveStoredImages, CanOpen, IsFaulty, HasStoredImages, IsUnmade, IsUnopened, StoresOf, image_configured, images_configured, component_with_kept, stocked_by, stocked_device}
 use Rattle.fw_setup.specs.declared.stores.Unopened.{Unopened}
 
 -- the image of a component is found where its key stands first, and not before
@@ -36,12 +36,12 @@ running_made (c ∷ cs) = ap (λ ks. image_configured c ∷ ks) (running_made cs
 
 -- one component more has its image
 pub stocked_more : (kept : List KeptOf) (os xs : List ComponentConfig) (i : ℕ) (x y : ComponentConfig) → i < length os → x ≡ get_or xs i x → i < length xs
-    → component_of y ≡ stocked kept (component_of x)
-    → map component_of xs ≡ map (stocked kept) (take i (map component_of os)) ++ drop i (map component_of os)
-    → map component_of (slice_set xs i y) ≡ map (stocked kept) (take (i + 1) (map component_of os)) ++ drop (i + 1) (map component_of os)
+    → component_of y ≡ component_with_kept kept (component_of x)
+    → map component_of xs ≡ map (component_with_kept kept) (take i (map component_of os)) ++ drop i (map component_of os)
+    → map component_of (slice_set xs i y) ≡ map (component_with_kept kept) (take (i + 1) (map component_of os)) ++ drop (i + 1) (map component_of os)
 stocked_more kept os xs i x y lt is within e h =
     map-set component_of xs i y ∙ ap (λ c. slice_set (map component_of xs) i c) e
-    ∙ map_over_more (stocked kept) (map component_of os) (map component_of xs) i (component_of x) (subst (λ n. i < n) (sym (length-map os component_of)) lt) h
+    ∙ map_over_more (component_with_kept kept) (map component_of os) (map component_of xs) i (component_of x) (subst (λ n. i < n) (sym (length-map os component_of)) lt) h
     (ap component_of is ∙ sym (get_or-map component_of xs i x (component_of x) within))
 
 -- as many images as components, or others
@@ -61,38 +61,38 @@ keyed_one : (c : ComponentConfigOf) (o : Option ImageOf) → (stocked_by c o).co
 keyed_one c None = refl
 keyed_one c (Some image) = refl
 
-keys_stocked : (kept : List KeptOf) (cs : List ComponentConfigOf) → keys_of (map (stocked kept) cs) ≡ keys_of cs
+keys_stocked : (kept : List KeptOf) (cs : List ComponentConfigOf) → keys_of (map (component_with_kept kept) cs) ≡ keys_of cs
 keys_stocked kept [] = refl
 keys_stocked kept (c ∷ cs) =
-    ap (λ x. x.key ∷ keys_of (map (stocked kept) cs)) (keyed_one c (image_for kept c.component.key)) ∙ ap (λ ks. c.component.key ∷ ks) (keys_stocked kept cs)
+    ap (λ x. x.key ∷ keys_of (map (component_with_kept kept) cs)) (keyed_one c (image_for kept c.component.key)) ∙ ap (λ ks. c.component.key ∷ ks) (keys_stocked kept cs)
 
 device_stocked : (kept : List KeptOf) (x : DeviceConfigOf) → IsDevice x → IsDevice (stocked_device kept x)
 device_stocked kept x h = record {
   eid = h.eid;
-  few = subst (λ n. n ≤ 3) (sym (length-map x.components (stocked kept))) h.few;
+  few = subst (λ n. n ≤ 3) (sym (length-map x.components (component_with_kept kept))) h.few;
   new = subst (AreNew []) (sym (keys_stocked kept x.components)) h.new;
 }
 
-eids_stocked : (s : StoresOf) (xs ys : List DeviceConfigOf) → AreStocked s xs ys → eids_of ys ≡ eids_of xs
+eids_stocked : (s : StoresOf) (xs ys : List DeviceConfigOf) → HaveStoredImages s xs ys → eids_of ys ≡ eids_of xs
 eids_stocked s [] [] h = refl
 eids_stocked s [] (y ∷ ys) h = absurd h
 eids_stocked s (x ∷ xs) [] h = absurd h
 eids_stocked s (x ∷ xs) (y ∷ ys) h = ap (λ (z : DeviceConfigOf). z.endpoint.eid ∷ eids_of ys) h.0.is ∙ ap (λ es. x.endpoint.eid ∷ es) (eids_stocked s xs ys h.1)
 
-length_stocked : (s : StoresOf) (xs ys : List DeviceConfigOf) → AreStocked s xs ys → length ys ≡ length xs
+length_stocked : (s : StoresOf) (xs ys : List DeviceConfigOf) → HaveStoredImages s xs ys → length ys ≡ length xs
 length_stocked s [] [] h = refl
 length_stocked s [] (y ∷ ys) h = absurd h
 length_stocked s (x ∷ xs) [] h = absurd h
 length_stocked s (x ∷ xs) (y ∷ ys) h = ap (λ n. suc n) (length_stocked s xs ys h.1)
 
-each_stocked : (s : StoresOf) (xs ys : List DeviceConfigOf) → AreStocked s xs ys → AllByRecursion IsDevice xs → AllByRecursion IsDevice ys
+each_stocked : (s : StoresOf) (xs ys : List DeviceConfigOf) → HaveStoredImages s xs ys → AllByRecursion IsDevice xs → AllByRecursion IsDevice ys
 each_stocked s [] [] h each = tt
 each_stocked s [] (y ∷ ys) h each = absurd h
 each_stocked s (x ∷ xs) [] h each = absurd h
 each_stocked s (x ∷ xs) (y ∷ ys) h each = (subst IsDevice (sym h.0.is) (device_stocked h.0.kept x each.0), each_stocked s xs ys h.1 each.1)
 
 -- a whole configuration is whole with other images
-pub whole_stocked : (s : StoresOf) (agent : ℕ) (xs ys : List DeviceConfigOf) → AreStocked s xs ys → AreWhole agent xs → AreWhole agent ys
+pub whole_stocked : (s : StoresOf) (agent : ℕ) (xs ys : List DeviceConfigOf) → HaveStoredImages s xs ys → AreWhole agent xs → AreWhole agent ys
 whole_stocked s agent xs ys h w = record {
   agent_eid = w.agent_eid;
   some = subst (λ n. 1 ≤ n) (sym (length_stocked s xs ys h)) w.some;
@@ -106,14 +106,14 @@ whole_stocked s agent xs ys h w = record {
 -- the first so many devices have what their stores keep, and the others are as they were
 abbrev pub AreSoFar : StoresOf → (os xs : List DeviceConfigOf) → ℕ → Type 0
 AreSoFar s os xs zero = xs ≡ os
-AreSoFar s (o ∷ os) (x ∷ xs) (suc i) = IsStocked s o x × AreSoFar s os xs i
+AreSoFar s (o ∷ os) (x ∷ xs) (suc i) = HasStoredImages s o x × AreSoFar s os xs i
 AreSoFar s os xs (suc i) = ⊥
 
-one_more : (s : StoresOf) (os xs : List DeviceConfigOf) (i : ℕ) (x y : DeviceConfigOf) → i < length os → x ≡ get_or xs i x → IsStocked s x y → AreSoFar s os xs i
+one_more : (s : StoresOf) (os xs : List DeviceConfigOf) (i : ℕ) (x y : DeviceConfigOf) → i < length os → x ≡ get_or xs i x → HasStoredImages s x y → AreSoFar s os xs i
     → AreSoFar s os (slice_set xs i y) (suc i)
 one_more s [] xs i x y lt is new h = absurd (omega arith)
 one_more s (o ∷ os) [] zero x y lt is new h = absurd (cc)
-one_more s (o ∷ os) (z ∷ zs) zero x y lt is new h = (subst (λ v. IsStocked s v y) (is ∙ ap (λ l. get_or l 0 x) h) new, ap (λ l. drop 1 l) h)
+one_more s (o ∷ os) (z ∷ zs) zero x y lt is new h = (subst (λ v. HasStoredImages s v y) (is ∙ ap (λ l. get_or l 0 x) h) new, ap (λ l. drop 1 l) h)
 one_more s (o ∷ os) [] (suc i) x y lt is new h = absurd h
 one_more s (o ∷ os) (z ∷ zs) (suc i) x y lt is new h = (h.0, one_more s os zs i x y (omega arith) is new h.1)
 
@@ -129,7 +129,7 @@ opened_so_far s [] xs (suc i) h = tt
 opened_so_far s (o ∷ os) [] (suc i) h = absurd h
 opened_so_far s (o ∷ os) (x ∷ xs) (suc i) h = (λ known. subst IsOk (sym (h.0.found known)) refl, opened_so_far s os xs i h.1)
 
-all_so_far : (s : StoresOf) (os xs : List DeviceConfigOf) (i : ℕ) → i ≡ length os → AreSoFar s os xs i → AreStocked s os xs
+all_so_far : (s : StoresOf) (os xs : List DeviceConfigOf) (i : ℕ) → i ≡ length os → AreSoFar s os xs i → HaveStoredImages s os xs
 all_so_far s [] [] zero e h = tt
 all_so_far s [] (x ∷ xs) zero e h = absurd (cc)
 all_so_far s (o ∷ os) xs zero e h = absurd (omega (arith, e))
@@ -144,7 +144,7 @@ AreSeenSoFar s os xs i = AreSoFar s (map device_of os) (map device_of xs) i
 seen_at : (xs : List DeviceConfig) (i : ℕ) (x : DeviceConfig) → i < length xs → x ≡ get_or xs i x → device_of x ≡ get_or (map device_of xs) i (device_of x)
 seen_at xs i x lt is = ap device_of is ∙ sym (get_or-map device_of xs i x (device_of x) lt)
 
-pub seen_more : (s : StoresOf) (os xs : List DeviceConfig) (i : ℕ) (x y : DeviceConfig) → i < length os → i < length xs → x ≡ get_or xs i x → IsStocked s (device_of x) (device_of y)
+pub seen_more : (s : StoresOf) (os xs : List DeviceConfig) (i : ℕ) (x y : DeviceConfig) → i < length os → i < length xs → x ≡ get_or xs i x → HasStoredImages s (device_of x) (device_of y)
     → AreSeenSoFar s os xs i → AreSeenSoFar s os (slice_set xs i y) (i + 1)
 seen_more s os xs i x y lt within is new h =
     let next : i + 1 ≡ suc i = omega arith in
@@ -152,7 +152,7 @@ seen_more s os xs i x y lt within is new h =
     (subst (λ l. AreSoFar s (map device_of os) l (suc i)) (sym (map-set device_of xs i y))
     (one_more s (map device_of os) (map device_of xs) i (device_of x) (device_of y) (subst (λ n. i < n) (sym (length-map os device_of)) lt) (seen_at xs i x within is) new h))
 
-pub seen_all : (s : StoresOf) (os xs : List DeviceConfig) (i : ℕ) → i ≡ length os → AreSeenSoFar s os xs i → AreStocked s (map device_of os) (map device_of xs)
+pub seen_all : (s : StoresOf) (os xs : List DeviceConfig) (i : ℕ) → i ≡ length os → AreSeenSoFar s os xs i → HaveStoredImages s (map device_of os) (map device_of xs)
 seen_all s os xs i e h = all_so_far s (map device_of os) (map device_of xs) i (e ∙ sym (length-map os device_of)) h
 
 -- why the next one isn't opened
@@ -189,7 +189,7 @@ made_so s x why (inl e) = record { damaged = λ d known. absurd (cc); foreign = 
 made_so s x why (inr e) = record { damaged = λ d known. absurd (cc); foreign = λ d known. absurd (cc) }
 
 -- the device whose folder can't be made is among those that are configured, and each store before it can be opened
-stocked_at : (s : StoresOf) (xs ys : List DeviceConfigOf) (i : ℕ) (y : DeviceConfigOf) → AreStocked s xs ys → slice_get ys i ≡ Some y → IsSomeAnd (slice_get xs i) (λ x. y.endpoint.eid ≡ x.endpoint.eid)
+stocked_at : (s : StoresOf) (xs ys : List DeviceConfigOf) (i : ℕ) (y : DeviceConfigOf) → HaveStoredImages s xs ys → slice_get ys i ≡ Some y → IsSomeAnd (slice_get xs i) (λ x. y.endpoint.eid ≡ x.endpoint.eid)
 stocked_at s [] [] i y h at = absurd (cc)
 stocked_at s [] (z ∷ zs) i y h at = absurd h
 stocked_at s (x ∷ xs) [] i y h at = absurd h
@@ -198,13 +198,13 @@ stocked_at s (x ∷ xs) (z ∷ zs) zero y h at =
     ap (λ (v : DeviceConfigOf). v.endpoint.eid) (sym same) ∙ ap (λ (v : DeviceConfigOf). v.endpoint.eid) h.0.is
 stocked_at s (x ∷ xs) (z ∷ zs) (suc i) y h at = stocked_at s xs zs i y h.1 at
 
-opened_before : (s : StoresOf) (xs ys : List DeviceConfigOf) (i : ℕ) → AreStocked s xs ys → AllByRecursion (CanOpen s) (take i xs)
+opened_before : (s : StoresOf) (xs ys : List DeviceConfigOf) (i : ℕ) → HaveStoredImages s xs ys → AllByRecursion (CanOpen s) (take i xs)
 opened_before s xs ys zero h = tt
 opened_before s [] ys (suc i) h = tt
 opened_before s (x ∷ xs) [] (suc i) h = absurd h
 opened_before s (x ∷ xs) (y ∷ ys) (suc i) h = (λ known. subst IsOk (sym (h.0.found known)) refl, opened_before s xs ys i h.1)
 
-unmade_at : (s : StoresOf) (xs ys : List DeviceConfigOf) (e : Unopened) (o : Option DeviceConfigOf) (u : IsUnmade ys e) → AreStocked s xs ys → slice_get xs u.place ≡ o
+unmade_at : (s : StoresOf) (xs ys : List DeviceConfigOf) (e : Unopened) (o : Option DeviceConfigOf) (u : IsUnmade ys e) → HaveStoredImages s xs ys → slice_get xs u.place ≡ o
     → IsSomeAnd o (λ x. u.device.endpoint.eid ≡ x.endpoint.eid) → IsUnopened s xs e
 unmade_at s xs ys e None u h is same = absurd same
 unmade_at s xs ys e (Some x) u h is same = record {
@@ -216,7 +216,7 @@ unmade_at s xs ys e (Some x) u h is same = record {
   so = made_so s x e.why u.why;
 }
 
-pub unmade_so : (s : StoresOf) (xs ys : List DeviceConfigOf) (e : Unopened) → AreStocked s xs ys → IsUnmade ys e → IsUnopened s xs e
+pub unmade_so : (s : StoresOf) (xs ys : List DeviceConfigOf) (e : Unopened) → HaveStoredImages s xs ys → IsUnmade ys e → IsUnopened s xs e
 unmade_so s xs ys e h u = unmade_at s xs ys e (slice_get xs u.place) u h refl (stocked_at s xs ys u.place u.device h u.at)
 
 -- the first whose folder can't be made

@@ -7,8 +7,8 @@ use Rattle.fw_package.specs.Choice.{component_at, plan_of, record_number}
 use Rattle.fw_package.specs.Package.{PackageText}
 use Rattle.fw_package.specs.declared.fault.PlanFault.{PlanFault}
 use Rattle.fwup_wire.specs.Values.{AnswerOf}
-use Rattle.ua_core.specs.Learn.{LearnRow, pass_row, query_row, request_row}
-use Rattle.ua_core.specs.Lent.{told_descriptor}
+use Rattle.ua_core.specs.Learn.{SessionLearnRow, pass_row, query_row, request_row}
+use Rattle.ua_core.specs.Lent.{package_descriptor}
 use Rattle.ua_core.specs.Session.{Stage}
 use Rattle.ua_core.specs.declared.state.Cause.{Cause}
 use Rattle.ua_core.specs.declared.state.Cause.TheVariants as causes
@@ -24,12 +24,12 @@ found_cause p rows None = Some causes.NoRecord
 found_cause p rows (Some chosen) = plan_cause p rows (plan_of p chosen)
 
 abbrev pub forecast_cause : PackageText → DeviceState → Option Cause
-forecast_cause p v = found_cause p v.rows (record_number p (map told_descriptor v.descriptors))
+forecast_cause p v = found_cause p v.rows (record_number p (map package_descriptor v.descriptors))
 
 -- where a row of the session's table leads
-abbrev pub led_to : Stage → LearnRow → Stage
-led_to g LearnRow.Stay = g
-led_to g (LearnRow.Go h) = h
+abbrev pub led_to : Stage → SessionLearnRow → Stage
+led_to g SessionLearnRow.Stay = g
+led_to g (SessionLearnRow.Go h) = h
 
 -- from a component that is passed, with the device's answer
 abbrev pub pass_one : PackageText → List RowOf → Stage → Stage
@@ -58,5 +58,5 @@ failed_by (Stage.Failed cause) = Some cause
 failed_by g = None
 
 -- A session that learns what a device answers fails with the cause that is foretold, and where none is, it doesn't fail.
-abbrev pub ForetellsSessions : Type 0
-ForetellsSessions = (p : PackageText) (v : DeviceState) → failed_by (session_led p v) ≡ forecast_cause p v
+abbrev pub ForecastsSessions : Type 0
+ForecastsSessions = (p : PackageText) (v : DeviceState) → failed_by (session_led p v) ≡ forecast_cause p v

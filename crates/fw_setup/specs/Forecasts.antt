@@ -12,9 +12,9 @@ use Rattle.fw_package.specs.Package.{ComponentOf, DescriptorOf, PackageText, Rec
 use Rattle.fw_package.specs.declared.fault.PlanFault.{PlanFault}
 use Rattle.fw_package.specs.declared.fault.PlanFault.TheVariants as plans
 use Rattle.fw_script.specs.Configs.{DeviceConfigOf}
-use Rattle.fw_text.specs.Printing.{data_text, in_eight, in_four, numbered, quoted}
+use Rattle.fw_text.specs.Printing.{data_text, in_eight, in_four, word_and_number, word_and_quoted}
 use Rattle.ua_core.specs.Learn.{is_to_do}
-use Rattle.ua_core.specs.Lent.{key_of, sent_stamp, told_descriptor}
+use Rattle.ua_core.specs.Lent.{key_of, sent_stamp, package_descriptor}
 use Rattle.fw_setup.specs.Nodes.{device_made}
 
 -- what a device with these images answers when it is passed a component: no restriction, or which one
@@ -37,13 +37,13 @@ component_word c code =
 -- what runs for the component's key: its stamp and its text, or dashes where the device has no such component
 abbrev pub active_text : Option RowOf → List ℕ
 active_text None = codes " active - -"
-active_text (Some row) = in_eight (codes " active ") row.active.label.stamp ++ quoted (codes " ") row.active.label.text
+active_text (Some row) = in_eight (codes " active ") row.active.label.stamp ++ word_and_quoted (codes " ") row.active.label.text
 
 -- a component's line. Its stamp is the one that is sent: all ones where its options don't use it
 unfoldable pub offer_line : List RowOf → ComponentOf → List ℕ
 offer_line rows c =
-    numbered (codes "component ") c.classification ++ numbered (codes " ident ") c.identifier ++ numbered (codes " size ") (length c.image)
-    ++ in_eight (codes " stamp ") (sent_stamp c) ++ quoted (codes " version ") c.text.bytes ++ active_text (row_of rows (key_of c))
+    word_and_number (codes "component ") c.classification ++ word_and_number (codes " ident ") c.identifier ++ word_and_number (codes " size ") (length c.image)
+    ++ in_eight (codes " stamp ") (sent_stamp c) ++ word_and_quoted (codes " version ") c.text.bytes ++ active_text (row_of rows (key_of c))
     ++ codes " " ++ component_word c (passed rows c) ++ codes "\n"
 
 -- the lines of these components
@@ -52,7 +52,7 @@ offer_lines p rows ns = flat_map (λ n. offer_line rows (component_at p n)) ns
 
 -- a device's line begins with its endpoint identifier and the package's number
 unfoldable pub device_head : (number eid : ℕ) → List ℕ
-device_head number eid = numbered (codes "device ") eid ++ numbered (codes " package ") number
+device_head number eid = word_and_number (codes "device ") eid ++ word_and_number (codes " package ") number
 
 -- where no record is for it
 unfoldable pub no_record_line : (number eid : ℕ) → List ℕ
@@ -65,9 +65,9 @@ first_lacked device (d ∷ ds) = if is_among device d then first_lacked device d
 
 -- why a record isn't for the device: the descriptor that it lacks, or the record has none
 unfoldable pub lack_line : (record_number : ℕ) → Option DescriptorOf → List ℕ
-lack_line n None = numbered (codes "record ") n ++ codes " has none\n"
+lack_line n None = word_and_number (codes "record ") n ++ codes " has none\n"
 lack_line n (Some d) =
-    numbered (codes "record ") n ++ in_four (codes " lacks descriptor ") d.kind ++ codes " " ++ data_text d.bytes ++ codes "\n"
+    word_and_number (codes "record ") n ++ in_four (codes " lacks descriptor ") d.kind ++ codes " " ++ data_text d.bytes ++ codes "\n"
 
 -- the lines of records, from number n on
 abbrev pub lack_lines : (device : List DescriptorOf) → ℕ → List RecordOf → List ℕ
@@ -77,7 +77,7 @@ lack_lines device n (r ∷ rs) = lack_line n (first_lacked device r.descriptors)
 -- where a record is, which counts from 1: its set text, and the word of the update
 unfoldable pub chosen_line : (number eid chosen : ℕ) → RecordOf → List ℕ → List ℕ
 chosen_line number eid chosen r word =
-    device_head number eid ++ numbered (codes " record ") (chosen + 1) ++ quoted (codes " set ") r.set_text.bytes ++ codes " " ++ word ++ codes "\n"
+    device_head number eid ++ word_and_number (codes " record ") (chosen + 1) ++ word_and_quoted (codes " set ") r.set_text.bytes ++ codes " " ++ word ++ codes "\n"
 
 -- the session fails with the cause Plan, for this reason
 abbrev pub plan_word : PlanFault → List ℕ
@@ -102,12 +102,12 @@ planned_text number eid chosen p rows (Ok ns) =
 
 -- the lines where this record is for the device, or none
 abbrev pub found_text : (number eid : ℕ) → PackageText → DeviceState → Option ℕ → List ℕ
-found_text number eid p v None = no_record_line number eid ++ lack_lines (map told_descriptor v.descriptors) 1 p.records
+found_text number eid p v None = no_record_line number eid ++ lack_lines (map package_descriptor v.descriptors) 1 p.records
 found_text number eid p v (Some chosen) = planned_text number eid chosen p v.rows (plan_of p chosen)
 
 -- the lines of a device, for the package of this number
 abbrev pub device_text : (number eid : ℕ) → PackageText → DeviceState → List ℕ
-device_text number eid p v = found_text number eid p v (record_number p (map told_descriptor v.descriptors))
+device_text number eid p v = found_text number eid p v (record_number p (map package_descriptor v.descriptors))
 
 -- what is printed of a configuration's devices, in their order: of a device its descriptors and images alone, so that any unit does
 abbrev pub configured_text : (number : ℕ) → PackageText → DeviceConfigOf → List ℕ

@@ -23,12 +23,12 @@ stocked_by c None = c
 stocked_by c (Some image) = record c { label = image.label; image = image.bytes }
 
 -- a component with the image that is kept for its key, where one is
-abbrev pub stocked : List KeptOf → ComponentConfigOf → ComponentConfigOf
-stocked kept c = stocked_by c (image_for kept c.component.key)
+abbrev pub component_with_kept : List KeptOf → ComponentConfigOf → ComponentConfigOf
+component_with_kept kept c = stocked_by c (image_for kept c.component.key)
 
 -- a device with the images that are kept for its components
 abbrev pub stocked_device : List KeptOf → DeviceConfigOf → DeviceConfigOf
-stocked_device kept x = record x { components = map (stocked kept) x.components }
+stocked_device kept x = record x { components = map (component_with_kept kept) x.components }
 
 -- What is known of the stores of devices: whether the files are known that each device's folder has, and which they are.
 pub record StoresOf : Type 0 where
@@ -40,16 +40,16 @@ abbrev pub stores_in : Bool → ((root : List ℕ) → (device : ℕ) → Files)
 stores_in is_known files root = record { is_known = is_known; files = files root }
 
 -- A device with what is found in its folder over its configured images.
-pub record IsStocked (s : StoresOf) (x y : DeviceConfigOf) : Type 0 where
+pub record HasStoredImages (s : StoresOf) (x y : DeviceConfigOf) : Type 0 where
   pub kept : List KeptOf
   pub found : s.is_known ≡ true → found_in (images_configured x.components) (s.files x.endpoint.eid) ≡ Ok kept
   pub is : y ≡ stocked_device kept x
 
 -- each of these devices, in their order
-abbrev pub AreStocked : StoresOf → (xs ys : List DeviceConfigOf) → Type 0
-AreStocked s [] [] = Unit {0}
-AreStocked s (x ∷ xs) (y ∷ ys) = IsStocked s x y × AreStocked s xs ys
-AreStocked s xs ys = ⊥
+abbrev pub HaveStoredImages : StoresOf → (xs ys : List DeviceConfigOf) → Type 0
+HaveStoredImages s [] [] = Unit {0}
+HaveStoredImages s (x ∷ xs) (y ∷ ys) = HasStoredImages s x y × HaveStoredImages s xs ys
+HaveStoredImages s xs ys = ⊥
 
 -- Why a device's store isn't opened: its folder is damaged or foreign only where that is so of its files.
 pub record IsFaulty (s : StoresOf) (x : DeviceConfigOf) (why : OpenFault) : Type 0 where

@@ -1,7 +1,7 @@
 //! Where the banks of a configuration's devices are made.
 
 ghost use Rattle.std.specs.Prelude.{◌≡◌, [], IfErr, IfOk, map};
-ghost use Rattle.fd_core.specs.Banks.{AreApart};
+ghost use Rattle.fd_core.specs.Banks.{HaveKeysOnce};
 ghost use Rattle.fd_core.specs.Images.{key_of};
 ghost use Rattle.fw_script.specs.Seen.{component_of};
 ghost use Rattle.fw_script.specs.Whole.{AreNew, keys_of};
@@ -34,7 +34,7 @@ pub trait Banks<B: Bank + Drop> {
     ) -> Result<B, BanksFault>
         requires new { AreNew [] (keys_of (map component_of components.now)) }
         ensures rows { IfOk result (λ b. B.rows b ≡ map row_made (map component_of components.now)) }
-        ensures apart { IfOk result (λ b. AreApart (map key_of (B.rows b))) }
+        ensures apart { IfOk result (λ b. HaveKeysOnce (map key_of (B.rows b))) }
         ensures faults { IfOk result (λ b. B.faults b ≡ 0) };
 }
 
@@ -51,7 +51,7 @@ impl Banks<MemBank> for MemBanks {
     ) -> Result<MemBank, BanksFault>
         requires new { AreNew [] (keys_of (map component_of components.now)) }
         ensures rows { IfOk result (λ b. b.rows ≡ map row_made (map component_of components.now)) }
-        ensures apart { IfOk result (λ b. AreApart (map key_of b.rows)) }
+        ensures apart { IfOk result (λ b. HaveKeysOnce (map key_of b.rows)) }
         ensures faults { IfOk result (λ b. b.faults ≡ 0) }
         ensures memory { IfErr result (λ e. e ≡ BanksFault.Memory) }
     {
@@ -69,7 +69,7 @@ impl Banks<MemBank> for MemBanks {
 pub fn mem_bank(alloc: Global, components: &[ComponentConfig]) -> Result<MemBank, AllocError>
     requires { AreNew [] (keys_of (map component_of components.now)) }
     ensures rows { IfOk result (λ b. b.rows ≡ map row_made (map component_of components.now)) }
-    ensures apart { IfOk result (λ b. AreApart (map key_of b.rows)) }
+    ensures apart { IfOk result (λ b. HaveKeysOnce (map key_of b.rows)) }
     ensures faults { IfOk result (λ b. b.faults ≡ 0) }
 {
     let mut bank = MemBank::new(alloc);

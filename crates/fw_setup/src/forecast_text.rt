@@ -7,8 +7,8 @@ ghost use Rattle.fw_package.specs.Choice.{plan_of};
 ghost use Rattle.fw_package.specs.Lent.{component_seen, record_seen};
 ghost use Rattle.fw_package.specs.Package.{descriptor_of};
 ghost use Rattle.fw_script.specs.Seen.{component_of, device_of};
-ghost use Rattle.fw_text.specs.Printing.{Adds};
-ghost use Rattle.ua_core.specs.Lent.{told_descriptor};
+ghost use Rattle.fw_text.specs.Printing.{AppendsText};
+ghost use Rattle.ua_core.specs.Lent.{package_descriptor};
 ghost use Rattle.fw_setup.specs.Forecasts.{active_text, chosen_line, configured_text, device_head, forecast_of, lack_line, lack_lines, no_record_line, offer_line, offer_lines, planned_text};
 ghost use Rattle.fw_setup.specs.Nodes.{row_made};
 
@@ -18,7 +18,7 @@ use crate::foretold::{
 use fw_package::{Component, Descriptor, Package, Plan, Record, Records};
 use fw_script::{ComponentConfig, DeviceConfig};
 use fw_text::{push_data, push_eight, push_four, push_next, push_number, push_quoted, push_words};
-use fwup_wire::Descriptors;
+use fwup_wire::DeviceDescriptors;
 use std::alloc::{AllocError, Global};
 
 /// Which update is meant: of which device, with the package of which number, from 1 on.
@@ -30,7 +30,7 @@ struct Meant {
 
 /// Appends what a device's line begins with.
 fn push_head(alloc: Global, text: &mut Vec<u8>, meant: Meant) -> Result<(), AllocError>
-    ensures { OnOk result (Adds text.old.items text.new.items (device_head meant.number meant.eid)) }
+    ensures { OnOk result (AppendsText text.old.items text.new.items (device_head meant.number meant.eid)) }
 {
     push_number(alloc, text, "device ", usize::from(meant.eid))?;
     push_number(alloc, text, " package ", meant.number)?;
@@ -39,7 +39,7 @@ fn push_head(alloc: Global, text: &mut Vec<u8>, meant: Meant) -> Result<(), Allo
 
 /// Appends the line of a device for which there is no record.
 fn push_no_record(alloc: Global, text: &mut Vec<u8>, meant: Meant) -> Result<(), AllocError>
-    ensures { OnOk result (Adds text.old.items text.new.items (no_record_line meant.number meant.eid)) }
+    ensures { OnOk result (AppendsText text.old.items text.new.items (no_record_line meant.number meant.eid)) }
 {
     push_head(alloc, text, meant)?;
     push_words(text, " record - set - NoRecord\n")?;
@@ -55,7 +55,7 @@ fn push_chosen(
     contents: &Record<'_>,
     word: &str,
 ) -> Result<(), AllocError>
-    ensures { OnOk result (Adds text.old.items text.new.items (chosen_line meant.number meant.eid chosen (record_seen contents.now) word.now)) }
+    ensures { OnOk result (AppendsText text.old.items text.new.items (chosen_line meant.number meant.eid chosen (record_seen contents.now) word.now)) }
 {
     push_head(alloc, text, meant)?;
     push_next(alloc, text, " record ", chosen)?;
@@ -73,7 +73,7 @@ fn push_lack(
     number: usize,
     lacked: Option<Descriptor<'_>>,
 ) -> Result<(), AllocError>
-    ensures { OnOk result (Adds text.old.items text.new.items (lack_line number (option_map descriptor_of lacked.entry))) }
+    ensures { OnOk result (AppendsText text.old.items text.new.items (lack_line number (option_map descriptor_of lacked.entry))) }
 {
     push_number(alloc, text, "record ", number)?;
     let Some(descriptor) = lacked else {
@@ -95,7 +95,7 @@ fn push_lacks(
     device: &[Descriptor<'_>],
     mut records: Records<'_>,
 ) -> Result<(), AllocError>
-    ensures { OnOk result (Adds text.old.items text.new.items (lack_lines (map descriptor_of device.now) 1 records.entry)) }
+    ensures { OnOk result (AppendsText text.old.items text.new.items (lack_lines (map descriptor_of device.now) 1 records.entry)) }
 {
     for number in 0..records.len() {
         let Some(contents) = records.next() else {
@@ -117,7 +117,7 @@ fn push_active(
     text: &mut Vec<u8>,
     active: Option<&ComponentConfig>,
 ) -> Result<(), AllocError>
-    ensures { OnOk result (Adds text.old.items text.new.items (active_text (option_map (λ c. row_made (component_of c.now)) active.entry))) }
+    ensures { OnOk result (AppendsText text.old.items text.new.items (active_text (option_map (λ c. row_made (component_of c.now)) active.entry))) }
 {
     let Some(config) = active else {
         push_words(text, " active - -")?;
@@ -135,7 +135,7 @@ fn push_offer(
     components: &[ComponentConfig],
     component: Component<'_>,
 ) -> Result<(), AllocError>
-    ensures { OnOk result (Adds text.old.items text.new.items (offer_line (map row_made (map component_of components.now)) (component_seen component.entry))) }
+    ensures { OnOk result (AppendsText text.old.items text.new.items (offer_line (map row_made (map component_of components.now)) (component_seen component.entry))) }
 {
     push_number(
         alloc,
@@ -166,7 +166,7 @@ fn push_offers(
     numbers: &[usize],
 ) -> Result<(), AllocError>
     requires { All (λ n. n < length contents.now.components) numbers.now }
-    ensures { OnOk result (Adds text.old.items text.new.items (offer_lines contents.now (map row_made (map component_of components.now)) numbers.now)) }
+    ensures { OnOk result (AppendsText text.old.items text.new.items (offer_lines contents.now (map row_made (map component_of components.now)) numbers.now)) }
 {
     for number in numbers {
         push_offer(alloc, text, components, contents.component_at(*number))?;
@@ -184,7 +184,7 @@ fn push_planned(
     chosen: usize,
 ) -> Result<(), AllocError>
     requires { chosen < length contents.now.records }
-    ensures { OnOk result (Adds text.old.items text.new.items (planned_text meant.number meant.eid chosen contents.now (map row_made (map component_of components.now)) (plan_of contents.now chosen))) }
+    ensures { OnOk result (AppendsText text.old.items text.new.items (planned_text meant.number meant.eid chosen contents.now (map row_made (map component_of components.now)) (plan_of contents.now chosen))) }
 {
     let record = contents.record_at(chosen);
     let plan = match contents.plan(chosen) {
@@ -205,9 +205,9 @@ fn push_planned(
 /// `AllocError` where memory for them is refused.
 pub fn known<'a>(
     alloc: Global,
-    descriptors: Descriptors<'a>,
+    descriptors: DeviceDescriptors<'a>,
 ) -> Result<Vec<Descriptor<'a>>, AllocError>
-    ensures { IfOk result (λ known. map descriptor_of known.items ≡ map told_descriptor descriptors.entry) }
+    ensures { IfOk result (λ known. map descriptor_of known.items ≡ map package_descriptor descriptors.entry) }
 {
     let mut known = Vec::new(alloc);
     for descriptor in descriptors {
@@ -227,7 +227,7 @@ fn push_device(
     contents: &Package<'_>,
     device: &DeviceConfig,
 ) -> Result<(), AllocError>
-    ensures { OnOk result (Adds text.old.items text.new.items (configured_text number contents.now (device_of device.now))) }
+    ensures { OnOk result (AppendsText text.old.items text.new.items (configured_text number contents.now (device_of device.now))) }
 {
     let meant = Meant {
         number,

@@ -11,7 +11,7 @@ mod store_banks;
 mod stores;
 
 pub use banks::{Banks, BanksFault, MemBanks, mem_bank};
-pub use forecast_laws::foretells_sessions;
+pub use forecast_laws::forecasts_sessions;
 pub use forecast_text::{forecast, known};
 pub use foretold::{
     component_word, first_lacked, key, passed, plan_word, running, sent_stamp, update_word,

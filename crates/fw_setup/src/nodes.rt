@@ -10,7 +10,7 @@ ghost use Rattle.fw_setup.specs.Nodes.{device_made, node_made, nodes_made};
 
 use crate::banks::{Banks, BanksFault, MemBanks};
 use arrayvec::ArrayVec;
-use fd_core::{Bank, Component, Device, MAX_COMPONENTS, MemBank};
+use fd_core::{Bank, BankComponent, Device, MAX_COMPONENTS, MemBank};
 use fw_node::DeviceNode;
 use fw_package::Package;
 use fw_script::{ComponentConfig, DeviceConfig};
@@ -21,7 +21,7 @@ use mctp_wire::Unit;
 use std::alloc::{AllocError, Global};
 
 /// The list of these components.
-fn component_list(components: &[ComponentConfig]) -> ArrayVec<Component, MAX_COMPONENTS>
+fn component_list(components: &[ComponentConfig]) -> ArrayVec<BankComponent, MAX_COMPONENTS>
     requires { length components.now ≤ 3 }
     ensures { result.items ≡ map (λ c. c.component) (map component_of components.now) }
 {

@@ -4,7 +4,7 @@ ghost use Rattle.std.specs.Prelude.{◌≡◌, IfOk, OnOk, Some, map, option_map
 ghost use Rattle.fd_core.specs.Images.{key_of};
 ghost use Rattle.fw_script.specs.Seen.{component_of, device_of};
 ghost use Rattle.fw_setup.specs.Nodes.{row_made};
-ghost use Rattle.fw_setup.specs.Stocks.{images_configured, stocked, stocked_by, stocked_device};
+ghost use Rattle.fw_setup.specs.Stocks.{images_configured, component_with_kept, stocked_by, stocked_device};
 ghost use Rattle.fw_store.specs.Kept.{image_for};
 
 use fw_script::{ComponentConfig, DeviceConfig};
@@ -78,7 +78,7 @@ fn stock_component(
     config: &mut ComponentConfig,
     images: &[Stored],
 ) -> Result<(), AllocError>
-    ensures { OnOk result (component_of config.new ≡ stocked images.now (component_of config.old)) }
+    ensures { OnOk result (component_of config.new ≡ component_with_kept images.now (component_of config.old)) }
 {
     match kept_for(images, config.component.key) {
         Some(image) => replace(alloc, config, &image),
@@ -92,7 +92,7 @@ fn stock_all(
     components: &mut [ComponentConfig],
     images: &[Stored],
 ) -> Result<(), AllocError>
-    ensures { OnOk result (map component_of components.new ≡ map (stocked images.now) (map component_of components.old)) }
+    ensures { OnOk result (map component_of components.new ≡ map (component_with_kept images.now) (map component_of components.old)) }
 {
     for config in components.iter_mut() {
         stock_component(alloc, config, images)?;

@@ -1,7 +1,7 @@
 //! Banks over the stores of devices.
 
 ghost use Rattle.std.specs.Prelude.{◌≡◌, ◌≢◌, ◌⊎◌, ◌++◌, ◌∷◌, [], IfErr, IfOk, IsSomeAnd, OnOk, false, map, slice_get, true};
-ghost use Rattle.fd_core.specs.Banks.{AreApart};
+ghost use Rattle.fd_core.specs.Banks.{HaveKeysOnce};
 ghost use Rattle.fd_core.specs.Images.{key_of};
 ghost use Rattle.fw_script.specs.Seen.{component_of};
 ghost use Rattle.fw_script.specs.Whole.{AreNew, keys_of};
@@ -68,7 +68,7 @@ fn kept_bank<F: Folder + Drop>(
     requires new { AreNew [] (keys_of (map component_of components.now)) }
     requires kept { store.memory.images.items ≡ images_configured (map component_of components.now) }
     ensures rows { IfOk result (λ b. b.rows ≡ map row_made (map component_of components.now)) }
-    ensures apart { IfOk result (λ b. AreApart (map key_of b.rows)) }
+    ensures apart { IfOk result (λ b. HaveKeysOnce (map key_of b.rows)) }
     ensures faults { IfOk result (λ b. b.faults ≡ 0) }
     ensures kept { IfOk result (λ b. b.kept ≡ store.memory.images.items) }
 {
@@ -119,7 +119,7 @@ impl<F: Folder + Drop> Banks<KeptBank<FolderStore<F>>> for StoreBanks<F> {
     ) -> Result<KeptBank<FolderStore<F>>, BanksFault>
         requires new { AreNew [] (keys_of (map component_of components.now)) }
         ensures rows { IfOk result (λ b. b.rows ≡ map row_made (map component_of components.now)) }
-        ensures apart { IfOk result (λ b. AreApart (map key_of b.rows)) }
+        ensures apart { IfOk result (λ b. HaveKeysOnce (map key_of b.rows)) }
         ensures faults { IfOk result (λ b. b.faults ≡ 0) }
         ensures taken { IfOk result (λ b. IsSomeAnd (slice_get self.old.stores.items 0) (λ s. (s.device ≡ device) × (s.store.memory.images.items ≡ b.kept))) }
         ensures left { OnOk result (IsSomeAnd (slice_get self.old.stores.items 0) (λ s. self.old.stores.items ≡ s ∷ self.new.stores.items)) }

@@ -3,7 +3,7 @@
 ghost use Rattle.std.specs.Prelude.{◌≡◌, ◌⊎◌, Bool, Err, IfErr, IfOk, List, None, Ok, OnOk, false, map, true, ℕ};
 ghost use Rattle.fw_script.specs.Seen.{component_of, device_of};
 ghost use Rattle.fw_script.specs.Whole.{AreWhole, eids_of};
-ghost use Rattle.fw_setup.specs.Stocks.{AreStocked, IsFaulty, IsStocked, IsUnmade, IsUnopened, images_configured, stores_in};
+ghost use Rattle.fw_setup.specs.Stocks.{HaveStoredImages, IsFaulty, HasStoredImages, IsUnmade, IsUnopened, images_configured, stores_in};
 ghost use Rattle.fw_store.specs.Opening.{found_in};
 
 use crate::stocks::{configured_images, stock};
@@ -132,7 +132,7 @@ fn open_device<F: Folder + Drop, S: Stores<F>>(
     root: &str,
     device: &mut DeviceConfig,
 ) -> Result<FolderStore<F>, OpenFault>
-    ensures stocked { OnOk result (IsStocked (stores_in (S.is_known stores.now) (S.files stores.now) root.now) (device_of device.old) (device_of device.new)) }
+    ensures stocked { OnOk result (HasStoredImages (stores_in (S.is_known stores.now) (S.files stores.now) root.now) (device_of device.old) (device_of device.new)) }
     ensures untouched { IfOk result (λ s. S.is_known stores.now ≡ true → F.files s.folder ≡ S.files stores.now root.now device.old.endpoint.eid) }
     ensures fault { IfErr result (IsFaulty (stores_in (S.is_known stores.now) (S.files stores.now) root.now) (device_of device.old)) }
 {
@@ -157,7 +157,7 @@ fn read_device<F: Folder + Drop, S: Stores<F>>(
     root: &str,
     device: &mut DeviceConfig,
 ) -> Result<(), OpenFault>
-    ensures stocked { OnOk result (IsStocked (stores_in (S.is_known stores.now) (S.files stores.now) root.now) (device_of device.old) (device_of device.new)) }
+    ensures stocked { OnOk result (HasStoredImages (stores_in (S.is_known stores.now) (S.files stores.now) root.now) (device_of device.old) (device_of device.new)) }
     ensures fault { IfErr result (IsFaulty (stores_in (S.is_known stores.now) (S.files stores.now) root.now) (device_of device.old)) }
 {
     let Ok(folder) = stores.at(alloc, root, device.endpoint.eid) else {
@@ -208,7 +208,7 @@ pub fn open_stores<F: Folder + Drop, S: Stores<F>>(
     root: &str,
     devices: &mut [DeviceConfig],
 ) -> Result<StoreBanks<F>, Unopened>
-    ensures stocked { OnOk result (AreStocked (stores_in (S.is_known stores.now) (S.files stores.now) root.now) (map device_of devices.old) (map device_of devices.new)) }
+    ensures stocked { OnOk result (HaveStoredImages (stores_in (S.is_known stores.now) (S.files stores.now) root.now) (map device_of devices.old) (map device_of devices.new)) }
     ensures whole { OnOk result ((agent : ℕ) → AreWhole agent (map device_of devices.old) → AreWhole agent (map device_of devices.new)) }
     ensures order { IfOk result (λ b. map (λ s. s.device) b.stores.items ≡ eids_of (map device_of devices.old)) }
     ensures fault { IfErr result (IsUnopened (stores_in (S.is_known stores.now) (S.files stores.now) root.now) (map device_of devices.old)) }
@@ -245,7 +245,7 @@ pub fn read_stores<F: Folder + Drop, S: Stores<F>>(
     root: &str,
     devices: &mut [DeviceConfig],
 ) -> Result<(), Unopened>
-    ensures stocked { OnOk result (AreStocked (stores_in (S.is_known stores.now) (S.files stores.now) root.now) (map device_of devices.old) (map device_of devices.new)) }
+    ensures stocked { OnOk result (HaveStoredImages (stores_in (S.is_known stores.now) (S.files stores.now) root.now) (map device_of devices.old) (map device_of devices.new)) }
     ensures whole { OnOk result ((agent : ℕ) → AreWhole agent (map device_of devices.old) → AreWhole agent (map device_of devices.new)) }
     ensures fault { IfErr result (IsUnopened (stores_in (S.is_known stores.now) (S.files stores.now) root.now) (map device_of devices.old)) }
 {

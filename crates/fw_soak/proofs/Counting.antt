@@ -8,7 +8,7 @@ use Rattle.exch_lane.specs.Lanes.{Sent}
 use Rattle.fw_node.specs.Nodes.{DeviceNodeOf}
 use Rattle.fw_steps.specs.Worlds.{SiteOf}
 use Rattle.fw_steps.specs.declared.step.Step.{Step}
-use Rattle.fw_soak.specs.Counts.{counted, greater, greatest, longest_at, lost_at, marked_along, no_update, update_along}
+use Rattle.fw_soak.specs.Counts.{capped_count, greater, greatest, longest_at, lost_at, marked_along, no_update, update_along}
 
 -- a mark past the last changes nothing
 pub unmarked_past : (marks : List Bool) (place : ℕ) → length marks ≤ place → slice_set marks place true ≡ marks
@@ -26,7 +26,7 @@ shorter x (y ∷ ys) zero e = let same : y ≡ x = cc in ap (λ z. z ∷ ys) sam
 shorter x (y ∷ ys) (suc n) e = shorter x ys n e
 
 -- the packets of one more device
-counted_more : (a b : ℕ) → counted (counted a + b) ≡ counted (a + b)
+counted_more : (a b : ℕ) → capped_count (capped_count a + b) ≡ capped_count (a + b)
 counted_more a b = omega arith
 
 sum_more : (f : SiteOf → ℕ) (xs : List SiteOf) (i : ℕ) (x : SiteOf) → slice_get xs i ≡ Some x → sum_by f (take (i + 1) xs) ≡ sum_by f (take i xs) + f x
@@ -37,8 +37,8 @@ sum_more f xs i x e =
 
 lost_by : (ss : List Step) (xs : List SiteOf) (i : ℕ) (o : Option SiteOf) (node : DeviceNodeOf) (ps : List Sent) (lost total : ℕ) → slice_get xs i ≡ o
     → option_map (λ x. x.node) o ≡ Some node → option_map (λ x. x.packets) o ≡ Some ps
-    → lost ≡ length (filter not (marked_along node.endpoint.eid (replicate (length ps) false) ss)) → total ≡ counted (sum_by (lost_at ss) (take i xs))
-    → counted (total + lost) ≡ counted (sum_by (lost_at ss) (take (i + 1) xs))
+    → lost ≡ length (filter not (marked_along node.endpoint.eid (replicate (length ps) false) ss)) → total ≡ capped_count (sum_by (lost_at ss) (take i xs))
+    → capped_count (total + lost) ≡ capped_count (sum_by (lost_at ss) (take (i + 1) xs))
 lost_by ss xs i None node ps lost total at is has told before = absurd (cc)
 lost_by ss xs i (Some x) node ps lost total at is has told before =
     let same : x.node ≡ node = cc in
@@ -46,13 +46,13 @@ lost_by ss xs i (Some x) node ps lost total at is has told before =
     let here : lost ≡ lost_at ss x =
     told ∙ sym (ap (λ n. length (filter not (marked_along n.endpoint.eid (replicate (length ps) false) ss))) same)
     ∙ sym (ap (λ qs. length (filter not (marked_along x.node.endpoint.eid (replicate (length qs) false) ss))) packets) in
-    ap (λ t. counted (t + lost)) before ∙ counted_more (sum_by (lost_at ss) (take i xs)) lost
-    ∙ ap (λ n. counted (sum_by (lost_at ss) (take i xs) + n)) here ∙ ap counted (sym (sum_more (lost_at ss) xs i x at))
+    ap (λ t. capped_count (t + lost)) before ∙ counted_more (sum_by (lost_at ss) (take i xs)) lost
+    ∙ ap (λ n. capped_count (sum_by (lost_at ss) (take i xs) + n)) here ∙ ap capped_count (sym (sum_more (lost_at ss) xs i x at))
 
 pub lost_more : (ss : List Step) (xs : List SiteOf) (i : ℕ) (node : DeviceNodeOf) (ps : List Sent) (lost total : ℕ)
     → option_map (λ x. x.node) (slice_get xs i) ≡ Some node → option_map (λ x. x.packets) (slice_get xs i) ≡ Some ps
-    → lost ≡ length (filter not (marked_along node.endpoint.eid (replicate (length ps) false) ss)) → total ≡ counted (sum_by (lost_at ss) (take i xs))
-    → counted (total + lost) ≡ counted (sum_by (lost_at ss) (take (i + 1) xs))
+    → lost ≡ length (filter not (marked_along node.endpoint.eid (replicate (length ps) false) ss)) → total ≡ capped_count (sum_by (lost_at ss) (take i xs))
+    → capped_count (total + lost) ≡ capped_count (sum_by (lost_at ss) (take (i + 1) xs))
 lost_more ss xs i node ps lost total is has told before = lost_by ss xs i (slice_get xs i) node ps lost total refl is has told before
 
 -- the updates of one more device

@@ -3,14 +3,14 @@ use Rattle.std.proofs.Common.{◌≡◌, ◌<◌, ◌∙◌, ℕ, suc, List, [],
 use Rattle.std.specs.Prelude.{is_some, option_map}
 use Rattle.fw_package.specs.Choice.{component_at, has_key, sole_image}
 use Rattle.fw_package.specs.Package.{ComponentOf, PackageText}
-use Rattle.fw_soak.specs.Naming.{sole_behind}
+use Rattle.fw_soak.specs.Naming.{sole_image_after}
 
 -- two are too many
-sole_some : (d : ComponentOf) (cs : List ComponentOf) → sole_image (d ∷ cs) ≡ sole_behind (Some d.image) cs
+sole_some : (d : ComponentOf) (cs : List ComponentOf) → sole_image (d ∷ cs) ≡ sole_image_after (Some d.image) cs
 sole_some d [] = refl
 sole_some d (c ∷ cs) = refl
 
-sole_all : (cs : List ComponentOf) → sole_image cs ≡ sole_behind None cs
+sole_all : (cs : List ComponentOf) → sole_image cs ≡ sole_image_after None cs
 sole_all [] = refl
 sole_all (c ∷ cs) = sole_some c cs
 
@@ -21,7 +21,7 @@ keyed p classification identifier ns = filter (has_key classification identifier
 -- of all these numbers those are left, which the package has, behind an image that was found or none
 pub record Looks (p : PackageText) (classification identifier : ℕ) (all left : List ℕ) (found : Option (List ℕ)) : Type 0 where
   pub there : All (λ n. n < length p.components) left
-  pub same : sole_behind found (keyed p classification identifier left) ≡ sole_behind None (keyed p classification identifier all)
+  pub same : sole_image_after found (keyed p classification identifier left) ≡ sole_image_after None (keyed p classification identifier all)
 
 rest_there : (k : ℕ) (n : ℕ) (rest : List ℕ) → All (λ m. m < k) (n ∷ rest) → All (λ m. m < k) rest
 rest_there k n rest h i d lt = h (suc i) d (omega arith)
@@ -45,7 +45,7 @@ looks_past p classification identifier all left rest n found x e is other l =
     let k : Looks p classification identifier all (n ∷ rest) found = subst (λ xs. Looks p classification identifier all xs found) e l in
     record {
       there = rest_there (length p.components) n rest k.there;
-      same = ap (sole_behind found) (sym (keyed_past p classification identifier n rest h)) ∙ k.same;
+      same = ap (sole_image_after found) (sym (keyed_past p classification identifier n rest h)) ∙ k.same;
     }
 
 -- the first with the key
@@ -58,7 +58,7 @@ looks_here p classification identifier all left rest n None x e is same none l =
     let k : Looks p classification identifier all (n ∷ rest) None = subst (λ xs. Looks p classification identifier all xs None) e l in
     record {
       there = rest_there (length p.components) n rest k.there;
-      same = ap (λ y. sole_behind (Some y.image) (keyed p classification identifier rest)) is ∙ ap (sole_behind None) (sym (keyed_here p classification identifier n rest h)) ∙ k.same;
+      same = ap (λ y. sole_image_after (Some y.image) (keyed p classification identifier rest)) is ∙ ap (sole_image_after None) (sym (keyed_here p classification identifier n rest h)) ∙ k.same;
     }
 
 -- no more

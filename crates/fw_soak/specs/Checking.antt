@@ -3,9 +3,9 @@ use Rattle.std.specs.Prelude.{ℕ, ◌==◌, ◌&&◌, ◌||◌, ◌++◌, Bool,
 use Rattle.std.specs.Cmp.Lexicographic.{pointwise}
 use Rattle.std.specs.List.{list_all}
 use Rattle.fw_package.specs.Package.{PackageText}
-use Rattle.fd_core.specs.Images.{ImageOf, Put, RowOf, active_of, row_of}
-use Rattle.ua_core.specs.Lent.{told_descriptor}
-use Rattle.fw_message.specs.History.{EntryOf, same_put}
+use Rattle.fd_core.specs.Images.{ImageOf, KeyedImage, RowOf, active_of, row_of}
+use Rattle.ua_core.specs.Lent.{package_descriptor}
+use Rattle.fw_message.specs.History.{EntryOf, same_image}
 use Rattle.fw_message.specs.Worlds.{NotedOf}
 use Rattle.fw_steps.specs.Worlds.{SiteOf, WorldOf, site_for}
 use Rattle.fw_script.specs.Configs.{ComponentConfigOf, DeviceConfigOf}
@@ -13,16 +13,16 @@ use Rattle.fw_soak.specs.Checks.{device_for, recorded_image, runs_after}
 use Rattle.fw_soak.specs.Naming.{is_named}
 
 -- some package names it for a device, if that is configured
-abbrev pub is_named_for : List PackageText → Put → Option DeviceConfigOf → Bool
+abbrev pub is_named_for : List PackageText → KeyedImage → Option DeviceConfigOf → Bool
 is_named_for packages p None = false
-is_named_for packages p (Some d) = is_named packages (map told_descriptor d.descriptors) p
+is_named_for packages p (Some d) = is_named packages (map package_descriptor d.descriptors) p
 
 -- an entry says that this was applied
-abbrev pub applies : Put → EntryOf → Bool
-applies p (EntryOf.Applied q) = same_put p.key p.bytes q.key q.bytes
+abbrev pub applies : KeyedImage → EntryOf → Bool
+applies p (EntryOf.Applied q) = same_image p.key p.bytes q.key q.bytes
 applies p e = false
 
-abbrev pub has_applied : List NotedOf → (device : ℕ) → Put → Bool
+abbrev pub has_applied : List NotedOf → (device : ℕ) → KeyedImage → Bool
 has_applied [] device p = false
 has_applied (x ∷ xs) device p = ((x.device == device) && applies p x.entry) || has_applied xs device p
 

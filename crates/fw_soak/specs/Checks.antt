@@ -5,8 +5,8 @@ use Rattle.std.specs.List.{AllByRecursion}
 use Rattle.fw_package.specs.Choice.{component_at, image_for}
 use Rattle.fw_package.specs.Package.{DescriptorOf, PackageText}
 use Rattle.fwup_wire.specs.declared.values.Key.{Key}
-use Rattle.fd_core.specs.Images.{Put, RowOf, active_of, row_of, same_key}
-use Rattle.ua_core.specs.Lent.{key_of, package_at, told_descriptor}
+use Rattle.fd_core.specs.Images.{KeyedImage, RowOf, active_of, row_of, same_key}
+use Rattle.ua_core.specs.Lent.{key_of, package_at, package_descriptor}
 use Rattle.ua_core.specs.declared.planned.Recorded.{Recorded}
 use Rattle.fw_message.specs.History.{EntryOf}
 use Rattle.fw_message.specs.Worlds.{NotedOf, noted_of}
@@ -19,21 +19,21 @@ device_for [] eid = None
 device_for (d ∷ ds) eid = if d.endpoint.eid == eid then Some d else device_for ds eid
 
 -- Some package names these very bytes for a device with these descriptors, under this key.
-abbrev pub IsNamed : List PackageText → List DescriptorOf → Put → Type 0
-IsNamed [] device p = ⊥
-IsNamed (x ∷ xs) device p = (image_for x device p.key.classification p.key.identifier ≡ Some p.bytes) ⊎ IsNamed xs device p
+abbrev pub IsNamedImage : List PackageText → List DescriptorOf → KeyedImage → Type 0
+IsNamedImage [] device p = ⊥
+IsNamedImage (x ∷ xs) device p = (image_for x device p.key.classification p.key.identifier ≡ Some p.bytes) ⊎ IsNamedImage xs device p
 
 -- so for a configured device
-abbrev pub IsNamedFor : List PackageText → Put → DeviceConfigOf → Type 0
-IsNamedFor packages p d = IsNamed packages (map told_descriptor d.descriptors) p
+abbrev pub IsNamedFor : List PackageText → KeyedImage → DeviceConfigOf → Type 0
+IsNamedFor packages p d = IsNamedImage packages (map package_descriptor d.descriptors) p
 
 -- The device applied these very bytes for this key.
-abbrev pub HasApplied : List NotedOf → (device : ℕ) → Put → Type 0
+abbrev pub HasApplied : List NotedOf → (device : ℕ) → KeyedImage → Type 0
 HasApplied [] device p = ⊥
 HasApplied (x ∷ xs) device p = (x ≡ noted_of device (EntryOf.Applied p)) ⊎ HasApplied xs device p
 
 -- the image of a package's component that the agent recorded, under its key
-abbrev pub recorded_image : List PackageText → Recorded → Put
+abbrev pub recorded_image : List PackageText → Recorded → KeyedImage
 recorded_image packages r =
     record {
       key = key_of (component_at (package_at packages r.«package») r.component);
@@ -42,42 +42,42 @@ recorded_image packages r =
 
 -- What happened to a device is right, where this happened before: what the agent recorded as applied, that device had applied;
 -- and what the device activated, a package names for it.
-abbrev pub IsRight : List PackageText → List DeviceConfigOf → (before : List NotedOf) → (device : ℕ) → EntryOf → Type 0
-IsRight packages devices before device (EntryOf.Applied p) = Unit {0}
-IsRight packages devices before device (EntryOf.Recording r) = HasApplied before device (recorded_image packages r)
-IsRight packages devices before device (EntryOf.Activated p) = IsSomeAnd (device_for devices device) (IsNamedFor packages p)
+abbrev pub IsLawfulEntry : List PackageText → List DeviceConfigOf → (before : List NotedOf) → (device : ℕ) → EntryOf → Type 0
+IsLawfulEntry packages devices before device (EntryOf.Applied p) = Unit {0}
+IsLawfulEntry packages devices before device (EntryOf.Recording r) = HasApplied before device (recorded_image packages r)
+IsLawfulEntry packages devices before device (EntryOf.Activated p) = IsSomeAnd (device_for devices device) (IsNamedFor packages p)
 
 -- so is all that happened behind that
-abbrev pub AreRight : List PackageText → List DeviceConfigOf → (before : List NotedOf) → List NotedOf → Type 0
-AreRight packages devices before [] = Unit {0}
-AreRight packages devices before (x ∷ xs) =
-    IsRight packages devices before x.device x.entry × AreRight packages devices (before ++ x ∷ []) xs
+abbrev pub AreLawfulEntries : List PackageText → List DeviceConfigOf → (before : List NotedOf) → List NotedOf → Type 0
+AreLawfulEntries packages devices before [] = Unit {0}
+AreLawfulEntries packages devices before (x ∷ xs) =
+    IsLawfulEntry packages devices before x.device x.entry × AreLawfulEntries packages devices (before ++ x ∷ []) xs
 
 -- what runs under a key of a device behind an entry of the history that is the device's, or isn't
-abbrev pub runs_behind : (own : Bool) → EntryOf → Key → (runs : List ℕ) → List ℕ
-runs_behind true (EntryOf.Activated p) key runs = if same_key key p.key then p.bytes else runs
-runs_behind own e key runs = runs
+abbrev pub runs_after_entry : (own : Bool) → EntryOf → Key → (runs : List ℕ) → List ℕ
+runs_after_entry true (EntryOf.Activated p) key runs = if same_key key p.key then p.bytes else runs
+runs_after_entry own e key runs = runs
 
 -- The image that runs under a key of a device after what happened: the last that it activated, or else the one that it began with.
 abbrev pub runs_after : List NotedOf → (device : ℕ) → Key → (first : List ℕ) → List ℕ
 runs_after [] device key first = first
-runs_after (x ∷ xs) device key first = runs_after xs device key (runs_behind (x.device == device) x.entry key first)
+runs_after (x ∷ xs) device key first = runs_after xs device key (runs_after_entry (x.device == device) x.entry key first)
 
 -- The bank runs that image for a component.
-abbrev pub RunsIt : List NotedOf → (device : ℕ) → List RowOf → ComponentConfigOf → Type 0
-RunsIt history device rows c =
+abbrev pub RunsImage : List NotedOf → (device : ℕ) → List RowOf → ComponentConfigOf → Type 0
+RunsImage history device rows c =
     IsSomeAnd (active_of (row_of rows c.component.key)) (λ i. i.bytes ≡ runs_after history device c.component.key c.image)
 
-abbrev pub RunsThem : List NotedOf → DeviceConfigOf → SiteOf → Type 0
-RunsThem history d x = AllByRecursion (RunsIt history d.endpoint.eid x.node.half.core.device.rows) d.components
+abbrev pub RunsImages : List NotedOf → DeviceConfigOf → SiteOf → Type 0
+RunsImages history d x = AllByRecursion (RunsImage history d.endpoint.eid x.node.half.core.device.rows) d.components
 
 -- The device is there, and its bank runs those images.
-abbrev pub RunsWhatItMay : WorldOf → DeviceConfigOf → Type 0
-RunsWhatItMay w d = IsSomeAnd (site_for w.sites d.endpoint.eid) (RunsThem w.history d)
+abbrev pub RunsAllowedImages : WorldOf → DeviceConfigOf → Type 0
+RunsAllowedImages w d = IsSomeAnd (site_for w.sites d.endpoint.eid) (RunsImages w.history d)
 
 -- Nothing is wrong with a world: each image that a device activated is, byte for byte, one that a package names for it; each
 -- component that the agent recorded as applied, that device had applied with those very bytes; and what each bank runs is the
 -- image that was activated last, or else the one that was configured.
 pub record IsClean (packages : List PackageText) (devices : List DeviceConfigOf) (w : WorldOf) : Type 0 where
-  pub history : AreRight packages devices [] w.history
-  pub banks : AllByRecursion (RunsWhatItMay w) devices
+  pub history : AreLawfulEntries packages devices [] w.history
+  pub banks : AllByRecursion (RunsAllowedImages w) devices

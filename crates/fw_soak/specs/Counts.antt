@@ -7,7 +7,7 @@ use Rattle.fw_steps.specs.Worlds.{SiteOf, WorldOf}
 use Rattle.fw_steps.specs.declared.step.Step.{Step}
 use Rattle.fw_steps.specs.declared.step.Step.TheVariants as steps
 use Rattle.fw_soak.specs.Courses.{CourseOf}
-use Rattle.fw_soak.specs.declared.counts.Update.{Update}
+use Rattle.fw_soak.specs.declared.counts.SoakUpdate.{SoakUpdate}
 
 -- images that devices activated
 abbrev pub is_activated : EntryOf → Bool
@@ -50,38 +50,38 @@ abbrev pub losses_in : CourseOf → ℕ
 losses_in c = sum_by (lost_at c.steps) c.world.sites
 
 -- a count stops at its last value
-abbrev pub counted : ℕ → ℕ
-counted n = min n (2 ^ 64 - 1)
+abbrev pub capped_count : ℕ → ℕ
+capped_count n = min n (2 ^ 64 - 1)
 
 -- the greater of two numbers
 abbrev pub greater : ℕ → ℕ → ℕ
 greater a b = if nat_lt a b then b else a
 
 -- nothing goes on yet, and nothing ended
-abbrev pub no_update : Update
+abbrev pub no_update : SoakUpdate
 no_update = record { since = None; longest = 0 }
 
-abbrev pub starts_if : Bool → Update → Update
+abbrev pub starts_if : Bool → SoakUpdate → SoakUpdate
 starts_if true u = record { since = Some 0; longest = u.longest }
 starts_if false u = u
 
 -- an update ends that began so many ticks ago, or none
-abbrev pub ended : Option ℕ → (longest : ℕ) → Update
-ended None longest = record { since = None; longest = longest }
-ended (Some since) longest = record { since = None; longest = greater longest since }
+abbrev pub update_after_end : Option ℕ → (longest : ℕ) → SoakUpdate
+update_after_end None longest = record { since = None; longest = longest }
+update_after_end (Some since) longest = record { since = None; longest = greater longest since }
 
-abbrev pub ends_if : Bool → Update → Update
-ends_if true u = ended u.since u.longest
+abbrev pub ends_if : Bool → SoakUpdate → SoakUpdate
+ends_if true u = update_after_end u.since u.longest
 ends_if false u = u
 
 -- An update begins where the operator starts it, and ends where he has the device activate. It lasts so many ticks.
-abbrev pub update_after : (device : ℕ) → Update → Step → Update
+abbrev pub update_after : (device : ℕ) → SoakUpdate → Step → SoakUpdate
 update_after device u (steps.Start eid number) = starts_if (eid == device) u
 update_after device u (steps.Activate eid) = ends_if (eid == device) u
-update_after device u (steps.Tick missed) = record { since = option_map (λ t. counted (t + 1)) u.since; longest = u.longest }
+update_after device u (steps.Tick missed) = record { since = option_map (λ t. capped_count (t + 1)) u.since; longest = u.longest }
 update_after device u s = u
 
-abbrev pub update_along : (device : ℕ) → Update → List Step → Update
+abbrev pub update_along : (device : ℕ) → SoakUpdate → List Step → SoakUpdate
 update_along device u [] = u
 update_along device u (s ∷ ss) = update_along device (update_after device u s) ss
 

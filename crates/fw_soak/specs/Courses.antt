@@ -30,5 +30,5 @@ abbrev pub IsCourse : SetupOf → CourseOf → Type 0
 IsCourse s c = Run (opening_of s) c.steps c.world
 
 -- A run goes on from one moment to another: what leads to the one leads on to the other.
-pub record GoesOn (c d : CourseOf) : Type 0 where
+pub record ContinuesRun (c d : CourseOf) : Type 0 where
   pub goes : (o : WorldOf) → Run o c.steps c.world → Run o d.steps d.world

@@ -3,7 +3,7 @@ use Rattle.std.specs.Prelude.{ℕ, ◌≡◌, ◌+◌, Bool, if◌then◌else◌
 use Rattle.std.specs.List.{AllByRecursion, sum_by}
 use Rattle.fw_steps.specs.declared.step.Step.{Step}
 use Rattle.fw_soak.specs.Checking.{is_clean}
-use Rattle.fw_soak.specs.Counts.{activations_in, counted, greater, greatest, longest_in, losses_in, restarts_in}
+use Rattle.fw_soak.specs.Counts.{activations_in, capped_count, greater, greatest, longest_in, losses_in, restarts_in}
 use Rattle.fw_soak.specs.Courses.{CourseOf, IsCourse, SetupOf}
 use Rattle.fw_soak.specs.declared.summary.Summary.{Summary}
 
@@ -14,8 +14,8 @@ ends_clean s c = is_clean s.packages s.devices c.world
 abbrev pub violates_if : (clean : Bool) → ℕ
 violates_if clean = if clean then 0 else 1
 
-abbrev pub violates : SetupOf → CourseOf → ℕ
-violates s c = violates_if (ends_clean s c)
+abbrev pub violation_count : SetupOf → CourseOf → ℕ
+violation_count s c = violates_if (ends_clean s c)
 
 -- the steps of the first run that doesn't end so
 abbrev pub first_violation : SetupOf → List CourseOf → Option (List Step)
@@ -30,30 +30,30 @@ no_runs = record { runs = 0; activations = 0; losses = 0; restarts = 0; longest 
 abbrev pub with_run : (clean : Bool) → Summary → CourseOf → Summary
 with_run clean sum c =
     record {
-      runs = counted (sum.runs + 1);
-      activations = counted (sum.activations + activations_in c.world.history);
-      losses = counted (sum.losses + counted (losses_in c));
-      restarts = counted (sum.restarts + restarts_in c.steps);
+      runs = capped_count (sum.runs + 1);
+      activations = capped_count (sum.activations + activations_in c.world.history);
+      losses = capped_count (sum.losses + capped_count (losses_in c));
+      restarts = capped_count (sum.restarts + restarts_in c.steps);
       longest = greater sum.longest (longest_in c);
-      violations = counted (sum.violations + violates_if clean);
+      violations = capped_count (sum.violations + violates_if clean);
     }
 
-abbrev pub kept_with : (clean : Bool) → Option (List Step) → CourseOf → Option (List Step)
-kept_with clean (Some steps) c = Some steps
-kept_with clean None c = if clean then None else Some c.steps
+abbrev pub first_kept_with : (clean : Bool) → Option (List Step) → CourseOf → Option (List Step)
+first_kept_with clean (Some steps) c = Some steps
+first_kept_with clean None c = if clean then None else Some c.steps
 
 -- These runs were made, each from the world before the first step, and this is what is counted of them.
 pub record AreSummed (s : SetupOf) (cs : List CourseOf) (sum : Summary) : Type 0 where
   pub each : AllByRecursion (IsCourse s) cs
-  pub runs : sum.runs ≡ counted (length cs)
-  pub activations : sum.activations ≡ counted (sum_by (λ c. activations_in c.world.history) cs)
-  pub losses : sum.losses ≡ counted (sum_by losses_in cs)
-  pub restarts : sum.restarts ≡ counted (sum_by (λ c. restarts_in c.steps) cs)
+  pub runs : sum.runs ≡ capped_count (length cs)
+  pub activations : sum.activations ≡ capped_count (sum_by (λ c. activations_in c.world.history) cs)
+  pub losses : sum.losses ≡ capped_count (sum_by losses_in cs)
+  pub restarts : sum.restarts ≡ capped_count (sum_by (λ c. restarts_in c.steps) cs)
   pub longest : sum.longest ≡ greatest 0 (map longest_in cs)
-  pub violations : sum.violations ≡ counted (sum_by (violates s) cs)
+  pub violations : sum.violations ≡ capped_count (sum_by (violation_count s) cs)
 
 -- So many runs were made, and this is what is said of them, and kept of the first violation.
-pub record IsSoaked (s : SetupOf) (runs : ℕ) (sum : Summary) (kept : Option (List Step)) : Type 0 where
+pub record SoakOk (s : SetupOf) (runs : ℕ) (sum : Summary) (kept : Option (List Step)) : Type 0 where
   pub courses : List CourseOf
   pub made : length courses ≡ runs
   pub summed : AreSummed s courses sum

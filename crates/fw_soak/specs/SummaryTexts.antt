@@ -1,10 +1,10 @@
 -- The text of a summary: a line for each number.
 use Rattle.std.specs.Prelude.{ℕ, List, [], ◌∷◌, ◌++◌, codes}
-use Rattle.fw_text.specs.Printing.{numbered}
+use Rattle.fw_text.specs.Printing.{word_and_number}
 use Rattle.fw_soak.specs.declared.summary.Summary.{Summary}
 
 abbrev pub line_of : List ℕ → ℕ → List ℕ
-line_of word n = numbered word n ++ codes "\n"
+line_of word n = word_and_number word n ++ codes "\n"
 
 abbrev pub summary_text : Summary → List ℕ
 summary_text s =

@@ -2,15 +2,15 @@
 
 ghost use Rattle.std.specs.Prelude.{[], ◌≡◌, ◌==◌, ◌&&◌, IfOk, map, option_map, true};
 ghost use Rattle.std.specs.List.{list_all};
-ghost use Rattle.fw_message.specs.Entries.{entry_of, event_of, put_of};
+ghost use Rattle.fw_message.specs.Entries.{entry_of, event_of, keyed_image_of};
 ghost use Rattle.fw_script.specs.Seen.{component_of, device_of};
 ghost use Rattle.fw_steps.specs.Worlds.{site_for};
 ghost use Rattle.fw_soak.specs.Checking.{applies, are_right, has_applied, is_clean, is_named_for, is_right, is_running, runs_it, runs_them, runs_what_it_may};
-ghost use Rattle.fw_soak.specs.Checks.{AreRight, IsClean, device_for, recorded_image, runs_after};
+ghost use Rattle.fw_soak.specs.Checks.{AreLawfulEntries, IsClean, device_for, recorded_image, runs_after};
 
 use crate::naming::is_named;
 use fd_core::{Bank, Key};
-use fw_message::{Entry, Event, Image};
+use fw_message::{Entry, HistoryEvent, Image};
 use fw_node::DeviceNode;
 use fw_package::Package;
 use fw_script::{ComponentConfig, DeviceConfig};
@@ -52,7 +52,7 @@ fn is_named_for(
     device: u8,
     image: &Image<'_>,
 ) -> Result<bool, AllocError>
-    ensures { IfOk result (λ named. named ≡ is_named_for packages.now (put_of image.now) (device_for (map device_of devices.now) device)) }
+    ensures { IfOk result (λ named. named ≡ is_named_for packages.now (keyed_image_of image.now) (device_for (map device_of devices.now) device)) }
 {
     let Some(config) = device_for(devices, device) else {
         return Ok(false);
@@ -95,7 +95,7 @@ fn applies(entry: &Entry<'_>, device: u8, image: Lent<'_>) -> bool
         return false;
     }
     match &entry.event {
-        Event::Applied(applied) => image.key == applied.key
+        HistoryEvent::Applied(applied) => image.key == applied.key
             && image.bytes == applied.bytes.as_slice(),
         _ => false,
     }
@@ -124,12 +124,18 @@ fn is_right(
     ensures { IfOk result (λ right. right ≡ is_right packages.now (map device_of devices.now) (map entry_of before.now) entry.now.device (event_of entry.now.event)) }
 {
     match &entry.event {
-        Event::Applied(_) => Ok(true),
-        Event::Recorded(recorded) => {
+        HistoryEvent::Applied(_) => Ok(true),
+        HistoryEvent::Recorded(recorded) => {
             let image = recorded_image(packages, *recorded);
             Ok(has_applied(before, entry.device, image))
         }
-        Event::Activated(image) => is_named_for(alloc, packages, devices, entry.device, image),
+        HistoryEvent::Activated(image) => is_named_for(
+            alloc,
+            packages,
+            devices,
+            entry.device,
+            image,
+        ),
     }
 }
 
@@ -163,8 +169,8 @@ pub fn is_right_history(
     devices: &[DeviceConfig],
     history: &[Entry<'_>],
 ) -> Result<bool, AllocError>
-    ensures sound { IfOk result (λ right. right ≡ true → AreRight packages.now (map device_of devices.now) [] (map entry_of history.now)) }
-    ensures complete { IfOk result (λ right. AreRight packages.now (map device_of devices.now) [] (map entry_of history.now) → right ≡ true) }
+    ensures sound { IfOk result (λ right. right ≡ true → AreLawfulEntries packages.now (map device_of devices.now) [] (map entry_of history.now)) }
+    ensures complete { IfOk result (λ right. AreLawfulEntries packages.now (map device_of devices.now) [] (map entry_of history.now) → right ≡ true) }
 {
     match are_right(alloc, packages, devices, history) {
         Ok(right) => Ok(right),
@@ -180,7 +186,7 @@ fn runs_after<'a>(history: &'a [Entry<'_>], device: u8, component: &'a Component
     let mut runs = component.image.as_slice();
     for entry in history {
         if entry.device == device {
-            if let Event::Activated(image) = &entry.event {
+            if let HistoryEvent::Activated(image) = &entry.event {
                 if component.component.key == image.key {
                     runs = image.bytes.as_slice();
                 }

@@ -2,10 +2,10 @@
 
 ghost use Rattle.std.specs.Prelude.{◌≡◌, ◌+◌, IfOk, false, filter, length, map, not, option_map, replicate, true};
 ghost use Rattle.fw_message.specs.Entries.{entry_of};
-ghost use Rattle.fw_soak.specs.Counts.{activations_in, counted, ends_if, greater, longest_in, losses_in, marked_along, marked_by, no_update, restarts_in, starts_if, update_after, update_along};
+ghost use Rattle.fw_soak.specs.Counts.{activations_in, capped_count, ends_if, greater, longest_in, losses_in, marked_along, marked_by, no_update, restarts_in, starts_if, update_after, update_along};
 
 use fd_core::Bank;
-use fw_message::{Entry, Event};
+use fw_message::{Entry, HistoryEvent};
 use fw_world::{Step, World};
 use std::alloc::{AllocError, Global};
 
@@ -15,7 +15,7 @@ pub(crate) fn activations(history: &[Entry<'_>]) -> usize
 {
     let mut count = 0;
     for entry in history {
-        if let Event::Activated(_) = &entry.event {
+        if let HistoryEvent::Activated(_) = &entry.event {
             count += 1;
         }
     }
@@ -94,7 +94,7 @@ pub(crate) fn losses<B: Bank + Drop>(
     world: &World<'_, B>,
     steps: &[Step],
 ) -> Result<u64, AllocError>
-    ensures { IfOk result (λ losses. losses ≡ counted (losses_in (record { steps = steps.now; world = world.now }))) }
+    ensures { IfOk result (λ losses. losses ≡ capped_count (losses_in (record { steps = steps.now; world = world.now }))) }
 {
     let mut losses: u64 = 0;
     for place in 0..world.device_count() {
@@ -112,14 +112,14 @@ pub(crate) fn losses<B: Bank + Drop>(
 
 /// An update that goes on, and the longest that ended.
 #[derive(Clone, Copy)]
-pub(crate) struct Update {
+pub(crate) struct SoakUpdate {
     /// The ticks since its start.
     since: Option<u64>,
     /// The ticks of the longest.
     longest: u64,
 }
 
-impl Update {
+impl SoakUpdate {
     /// It begins.
     fn start(&mut self)
         ensures { self.new ≡ starts_if true self.old }
@@ -141,7 +141,7 @@ impl Update {
 
     /// A tick passes.
     fn tick(&mut self)
-        ensures since { self.new.since ≡ option_map (λ t. counted (t + 1)) self.old.since }
+        ensures since { self.new.since ≡ option_map (λ t. capped_count (t + 1)) self.old.since }
         ensures longest { self.new.longest ≡ self.old.longest }
     {
         if let Some(since) = self.since {
@@ -166,7 +166,7 @@ impl Update {
 fn longest_of(steps: &[Step], device: u8) -> u64
     ensures { result ≡ (update_along device no_update steps.now).longest }
 {
-    let mut update = Update {
+    let mut update = SoakUpdate {
         since: None,
         longest: 0,
     };

@@ -3,7 +3,7 @@
 ghost use Rattle.std.specs.Prelude.{[], ◌≡◌, IfOk, map};
 ghost use Rattle.fw_script.specs.Seen.{device_of};
 ghost use Rattle.fw_script.specs.Whole.{AreWhole};
-ghost use Rattle.fw_soak.specs.Courses.{GoesOn, opening_of};
+ghost use Rattle.fw_soak.specs.Courses.{ContinuesRun, opening_of};
 ghost use Rattle.fw_soak.specs.Setups.{setup_of};
 
 use crate::chances::Chances;
@@ -15,12 +15,12 @@ use std::marker::Model;
 
 /// A run. Its steps lead to its world.
 #[derive(Drop)]
-pub(crate) struct Course<'a> {
+pub(crate) struct SoakCourse<'a> {
     world: World<'a, FailBank>,
     steps: Vec<Step>,
 }
 
-impl<'a> Model for Course<'a> {
+impl<'a> Model for SoakCourse<'a> {
     ghost use Rattle.fw_soak.specs.Courses.{CourseOf};
 
     ghost Value = { CourseOf };
@@ -28,7 +28,7 @@ impl<'a> Model for Course<'a> {
     ghost view = { λ c. record { steps = c.steps.items; world = c.world } };
 }
 
-impl<'a> Course<'a> {
+impl<'a> SoakCourse<'a> {
     /// A run of no step. Of the calls of each device's bank one fails by chance, or none.
     ///
     /// # Errors
@@ -37,13 +37,13 @@ impl<'a> Course<'a> {
         alloc: Global,
         setup: &Setup<'a>,
         chances: &mut Chances,
-    ) -> Result<Course<'a>, AllocError>
+    ) -> Result<SoakCourse<'a>, AllocError>
         requires { AreWhole setup.now.agent.eid (map device_of setup.now.devices.now) }
         ensures none { IfOk result (λ c. c.steps ≡ []) }
         ensures opens { IfOk result (λ c. c.world ≡ opening_of (setup_of setup.now)) }
     {
         let world = opening(alloc, setup, chances)?;
-        Ok(Course {
+        Ok(SoakCourse {
             world,
             steps: Vec::new(alloc),
         })
@@ -69,7 +69,7 @@ impl<'a> Course<'a> {
     /// `AllocError` where memory is refused. Nothing has changed then.
     #[tactic(auto, using(crate::proofs::Coursing::going))]
     pub(crate) fn take(&mut self, step: Step) -> Result<bool, AllocError>
-        ensures { GoesOn self.old self.new }
+        ensures { ContinuesRun self.old self.new }
     {
         let Ok(()) = self.steps.reserve(1) else {
             return Err(AllocError);

@@ -14,5 +14,5 @@ mod turns;
 
 pub use checker::{is_clean, is_right_history};
 pub use setup::Setup;
-pub use soaking::{Onlooker, Soaked, soak};
+pub use soaking::{SoakObserver, Soaked, soak};
 pub use summary::{Summary, summary_text};

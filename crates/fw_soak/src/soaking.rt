@@ -4,11 +4,11 @@ ghost use Rattle.std.specs.Prelude.{◌≡◌, IfOk, None, OnOk, map, option_map
 ghost use Rattle.fw_script.specs.Seen.{device_of};
 ghost use Rattle.fw_script.specs.Whole.{AreWhole};
 ghost use Rattle.fw_soak.specs.Setups.{setup_of};
-ghost use Rattle.fw_soak.specs.Summaries.{IsSoaked, kept_with, no_runs, with_run};
+ghost use Rattle.fw_soak.specs.Summaries.{SoakOk, first_kept_with, no_runs, with_run};
 
 use crate::checker::is_clean;
 use crate::counts::{activations, longest, losses, restarts};
-use crate::course::Course;
+use crate::course::SoakCourse;
 use crate::setup::Setup;
 use crate::summary::Summary;
 use crate::turns::run;
@@ -26,7 +26,7 @@ pub struct Soaked {
 }
 
 /// Looks on while runs are made.
-pub trait Onlooker {
+pub trait SoakObserver {
     /// Sees what is said of the runs so far.
     fn see(&mut self, summary: &Summary);
 }
@@ -35,7 +35,7 @@ pub trait Onlooker {
 fn with_run(
     alloc: Global,
     summary: Summary,
-    course: &Course<'_>,
+    course: &SoakCourse<'_>,
     clean: bool,
 ) -> Result<Summary, AllocError>
     ensures { IfOk result (λ s. s ≡ with_run clean summary course.now) }
@@ -85,9 +85,9 @@ impl Soaked {
     }
 
     /// One more run was made.
-    fn add(&mut self, alloc: Global, course: Course<'_>, clean: bool) -> Result<(), AllocError>
+    fn add(&mut self, alloc: Global, course: SoakCourse<'_>, clean: bool) -> Result<(), AllocError>
         ensures summary { OnOk result (self.new.summary ≡ with_run clean self.old.summary course.entry) }
-        ensures kept { OnOk result (option_map (λ k. k.items) self.new.kept ≡ kept_with clean (option_map (λ k. k.items) self.old.kept) course.entry) }
+        ensures kept { OnOk result (option_map (λ k. k.items) self.new.kept ≡ first_kept_with clean (option_map (λ k. k.items) self.old.kept) course.entry) }
     {
         self.summary = with_run(alloc, self.summary, &course, clean)?;
         if !clean && self.kept.is_none() {
@@ -104,7 +104,7 @@ impl Soaked {
 /// # Errors
 /// `AllocError` where memory is refused.
 #[tactic(auto, using(crate::proofs::Summing::summing))]
-pub fn soak<V: Onlooker>(
+pub fn soak<V: SoakObserver>(
     alloc: Global,
     setup: &Setup<'_>,
     roughness: Roughness,
@@ -112,7 +112,7 @@ pub fn soak<V: Onlooker>(
     onlooker: &mut V,
 ) -> Result<Soaked, AllocError>
     requires { AreWhole setup.now.agent.eid (map device_of setup.now.devices.now) }
-    ensures soaked { IfOk result (λ s. IsSoaked (setup_of setup.now) runs s.summary (option_map (λ k. k.items) s.kept)) }
+    ensures soaked { IfOk result (λ s. SoakOk (setup_of setup.now) runs s.summary (option_map (λ k. k.items) s.kept)) }
     ensures none { IfOk result (λ s. s.kept ≡ None → s.summary.violations ≡ 0) }
 {
     let mut soaked = Soaked::new();

@@ -1,7 +1,7 @@
 //! What is said of many runs.
 
 ghost use Rattle.std.specs.Prelude.{◌≡◌, IfOk, OnOk};
-ghost use Rattle.fw_text.specs.Printing.{Adds, numbered};
+ghost use Rattle.fw_text.specs.Printing.{AppendsText, word_and_number};
 ghost use Rattle.fw_soak.specs.SummaryTexts.{line_of, summary_text};
 
 use fw_text::{push_number, push_words};
@@ -26,7 +26,7 @@ pub struct Summary {
 
 /// Appends a line of a word and a number.
 fn push_line(alloc: Global, text: &mut Vec<u8>, word: &str, number: u64) -> Result<(), AllocError>
-    ensures { OnOk result (Adds text.old.items text.new.items (line_of word.now number)) }
+    ensures { OnOk result (AppendsText text.old.items text.new.items (line_of word.now number)) }
 {
     push_number(alloc, text, word, number as usize)?;
     push_words(text, "\n")?;

@@ -1,9 +1,9 @@
 //! The packets of a run, and what becomes of them.
 
-ghost use Rattle.fw_soak.specs.Courses.{GoesOn};
+ghost use Rattle.fw_soak.specs.Courses.{ContinuesRun};
 
 use crate::chances::Chances;
-use crate::course::Course;
+use crate::course::SoakCourse;
 use fd_core::FailBank;
 use fw_edge::{Fate, Roughness};
 use fw_world::{Step, World};
@@ -57,8 +57,8 @@ fn next_of(world: &World<'_, FailBank>, place: usize, met: usize) -> Option<Arri
 
 /// A packet comes.
 #[tactic(auto, using(crate::proofs::Coursing::going))]
-fn arrive(course: &mut Course<'_>, arrival: Arrival) -> Result<(), AllocError>
-    ensures { GoesOn course.old course.new }
+fn arrive(course: &mut SoakCourse<'_>, arrival: Arrival) -> Result<(), AllocError>
+    ensures { ContinuesRun course.old course.new }
 {
     course.take(Step::Deliver(arrival.pair, arrival.number, arrival.node))?;
     Ok(())
@@ -87,11 +87,11 @@ impl Traffic {
     #[tactic(auto, using(crate::proofs::Coursing::going))]
     fn send(
         &mut self,
-        course: &mut Course<'_>,
+        course: &mut SoakCourse<'_>,
         arrival: Arrival,
         wait: u32,
     ) -> Result<(), AllocError>
-        ensures { GoesOn course.old course.new }
+        ensures { ContinuesRun course.old course.new }
     {
         if wait == 0 {
             return arrive(course, arrival);
@@ -107,11 +107,11 @@ impl Traffic {
     #[tactic(auto, using(crate::proofs::Coursing::going))]
     fn meet(
         &mut self,
-        course: &mut Course<'_>,
+        course: &mut SoakCourse<'_>,
         arrival: Arrival,
         chances: &mut Chances,
     ) -> Result<(), AllocError>
-        ensures { GoesOn course.old course.new }
+        ensures { ContinuesRun course.old course.new }
     {
         match chances.fate(self.roughness) {
             Fate::Lost => Ok(()),
@@ -127,11 +127,11 @@ impl Traffic {
     #[tactic(auto, using(crate::proofs::Coursing::going))]
     fn meet_next(
         &mut self,
-        course: &mut Course<'_>,
+        course: &mut SoakCourse<'_>,
         place: usize,
         chances: &mut Chances,
     ) -> Result<bool, AllocError>
-        ensures { GoesOn course.old course.new }
+        ensures { ContinuesRun course.old course.new }
     {
         let Some(met) = self.met.get_mut(place) else {
             return Ok(false);
@@ -148,10 +148,10 @@ impl Traffic {
     #[tactic(auto, using(crate::proofs::Coursing::going))]
     fn meet_round(
         &mut self,
-        course: &mut Course<'_>,
+        course: &mut SoakCourse<'_>,
         chances: &mut Chances,
     ) -> Result<bool, AllocError>
-        ensures { GoesOn course.old course.new }
+        ensures { ContinuesRun course.old course.new }
     {
         let mut any = false;
         for place in 0..self.met.len() {
@@ -164,8 +164,8 @@ impl Traffic {
 
     /// What is held back and due comes.
     #[tactic(auto, using(crate::proofs::Coursing::going))]
-    fn release(&mut self, course: &mut Course<'_>) -> Result<(), AllocError>
-        ensures { GoesOn course.old course.new }
+    fn release(&mut self, course: &mut SoakCourse<'_>) -> Result<(), AllocError>
+        ensures { ContinuesRun course.old course.new }
     {
         let now = course.world().now();
         for _ in 0..self.late.len() {
@@ -190,10 +190,10 @@ impl Traffic {
     #[tactic(auto, using(crate::proofs::Coursing::going))]
     pub(crate) fn exchange(
         &mut self,
-        course: &mut Course<'_>,
+        course: &mut SoakCourse<'_>,
         chances: &mut Chances,
     ) -> Result<(), AllocError>
-        ensures { GoesOn course.old course.new }
+        ensures { ContinuesRun course.old course.new }
     {
         self.release(course)?;
         for _ in 0..ROUNDS {
@@ -211,11 +211,11 @@ impl Traffic {
     #[tactic(auto, using(crate::proofs::Coursing::going))]
     pub(crate) fn repeat(
         &self,
-        course: &mut Course<'_>,
+        course: &mut SoakCourse<'_>,
         place: usize,
         chances: &mut Chances,
     ) -> Result<(), AllocError>
-        ensures { GoesOn course.old course.new }
+        ensures { ContinuesRun course.old course.new }
     {
         let Some(met) = self.met.get(place) else {
             return Ok(());

@@ -3,11 +3,11 @@
 ghost use Rattle.std.specs.Prelude.{◌<◌, IfOk, map};
 ghost use Rattle.fw_script.specs.Seen.{device_of};
 ghost use Rattle.fw_script.specs.Whole.{AreWhole};
-ghost use Rattle.fw_soak.specs.Courses.{GoesOn, IsCourse};
+ghost use Rattle.fw_soak.specs.Courses.{ContinuesRun, IsCourse};
 ghost use Rattle.fw_soak.specs.Setups.{setup_of};
 
 use crate::chances::Chances;
-use crate::course::Course;
+use crate::course::SoakCourse;
 use crate::setup::Setup;
 use crate::traffic::Traffic;
 use fd_core::{FailBank, Verdict};
@@ -80,13 +80,13 @@ fn all_over(world: &World<'_, FailBank>) -> bool {
 /// The operator starts the update of the device at a place with some package, if the session is free.
 #[tactic(auto, using(crate::proofs::Coursing::going))]
 fn start(
-    course: &mut Course<'_>,
+    course: &mut SoakCourse<'_>,
     place: usize,
     packages: u32,
     chances: &mut Chances,
 ) -> Result<(), AllocError>
     requires { 0 < packages }
-    ensures { GoesOn course.old course.new }
+    ensures { ContinuesRun course.old course.new }
 {
     let number = chances.below(packages) as usize + 1;
     let Some(node) = course.world().device_at(place) else {
@@ -100,14 +100,14 @@ fn start(
 /// The operator starts the update of each device, each by one chance in so many.
 #[tactic(auto, using(crate::proofs::Coursing::going))]
 fn start_some(
-    course: &mut Course<'_>,
+    course: &mut SoakCourse<'_>,
     packages: u32,
     times: u32,
     chances: &mut Chances,
 ) -> Result<(), AllocError>
     requires some { 0 < packages }
     requires times { 0 < times }
-    ensures { GoesOn course.old course.new }
+    ensures { ContinuesRun course.old course.new }
 {
     for place in 0..course.world().device_count() {
         if chances.one_in(times) {
@@ -120,12 +120,12 @@ fn start_some(
 /// The operator starts the updates of which the agent knows nothing any more, since it started anew, each by one chance in so many.
 #[tactic(auto, using(crate::proofs::Coursing::going))]
 fn start_idle(
-    course: &mut Course<'_>,
+    course: &mut SoakCourse<'_>,
     packages: u32,
     chances: &mut Chances,
 ) -> Result<(), AllocError>
     requires { 0 < packages }
-    ensures { GoesOn course.old course.new }
+    ensures { ContinuesRun course.old course.new }
 {
     for place in 0..course.world().device_count() {
         if state_at(course.world(), place) == Some(SessionState::Idle) && chances.one_in(PAUSE) {
@@ -160,8 +160,8 @@ fn activation_at(world: &World<'_, FailBank>, place: usize) -> Option<Step> {
 
 /// Each device has the verdict that it waits for, and each session that waits for that has its device activate.
 #[tactic(auto, using(crate::proofs::Coursing::going))]
-fn attend(course: &mut Course<'_>, chances: &mut Chances) -> Result<(), AllocError>
-    ensures { GoesOn course.old course.new }
+fn attend(course: &mut SoakCourse<'_>, chances: &mut Chances) -> Result<(), AllocError>
+    ensures { ContinuesRun course.old course.new }
 {
     for place in 0..course.world().device_count() {
         if let Some(step) = verdict_at(course.world(), place, chances) {
@@ -177,11 +177,11 @@ fn attend(course: &mut Course<'_>, chances: &mut Chances) -> Result<(), AllocErr
 /// The agent or a device starts anew, an update is cancelled, or a packet comes once more.
 #[tactic(auto, using(crate::proofs::Coursing::going))]
 fn upset(
-    course: &mut Course<'_>,
+    course: &mut SoakCourse<'_>,
     traffic: &Traffic,
     chances: &mut Chances,
 ) -> Result<(), AllocError>
-    ensures { GoesOn course.old course.new }
+    ensures { ContinuesRun course.old course.new }
 {
     let place = chances.below(16) as usize % course.world().device_count();
     let Some(node) = course.world().device_at(place) else {
@@ -201,12 +201,12 @@ fn upset(
 /// A turn: a tick, packets, verdicts and activations; and by chance an upset.
 #[tactic(auto, using(crate::proofs::Coursing::going))]
 fn turn(
-    course: &mut Course<'_>,
+    course: &mut SoakCourse<'_>,
     traffic: &mut Traffic,
     upsets: &mut Upsets,
     chances: &mut Chances,
 ) -> Result<(), AllocError>
-    ensures { GoesOn course.old course.new }
+    ensures { ContinuesRun course.old course.new }
 {
     course.take(Step::Tick(Missed::new()))?;
     traffic.exchange(course, chances)?;
@@ -220,12 +220,12 @@ fn turn(
 /// Takes turns until each session is Done or Failed and the operator lets it be. Without a package there is nothing to do.
 #[tactic(auto, using(crate::proofs::Coursing::going))]
 fn take_turns(
-    course: &mut Course<'_>,
+    course: &mut SoakCourse<'_>,
     traffic: &mut Traffic,
     packages: u32,
     chances: &mut Chances,
 ) -> Result<(), AllocError>
-    ensures { GoesOn course.old course.new }
+    ensures { ContinuesRun course.old course.new }
 {
     if packages == 0 {
         return Ok(());
@@ -255,12 +255,12 @@ pub(crate) fn run<'a>(
     setup: &Setup<'a>,
     roughness: Roughness,
     number: u32,
-) -> Result<Course<'a>, AllocError>
+) -> Result<SoakCourse<'a>, AllocError>
     requires { AreWhole setup.now.agent.eid (map device_of setup.now.devices.now) }
     ensures { IfOk result (IsCourse (setup_of setup.now)) }
 {
     let mut chances = Chances::new(roughness.seed, u64::from(number));
-    let mut course = Course::begin(alloc, setup, &mut chances)?;
+    let mut course = SoakCourse::begin(alloc, setup, &mut chances)?;
     let mut traffic = Traffic::new(alloc, roughness, setup.devices.len())?;
     let packages = setup.packages.len().min(255) as u32;
     take_turns(&mut course, &mut traffic, packages, &mut chances)?;

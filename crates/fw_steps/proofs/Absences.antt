@@ -3,7 +3,7 @@
 use Rattle.std.proofs.Common.{◌≡◌, ◌∙◌, ◌+◌, ◌==◌, ◌++◌, ℕ, zero, suc, Bool, true, false, if◌then◌else◌, is_some, List, [], ◌∷◌, map, Option, Some, None, IsSomeAnd, refl, ap, arith, append-nil}
 use Rattle.std.specs.Option.{option_map}
 use Rattle.exch_lane.specs.Lanes.{Sent}
-use Rattle.fd_core.specs.Images.{RowOf, dropped, unapplied}
+use Rattle.fd_core.specs.Images.{RowOf, rows_after_drop, row_without_applied}
 use Rattle.fw_package.specs.Package.{PackageText}
 use Rattle.ua_core.specs.Session.{TimedOf}
 use Rattle.fw_node.specs.Agents.{AgentOf, agent_restarts, agent_ticks}
@@ -51,9 +51,9 @@ agent_is_absent packages ps (suc units) =
 
 -- A DEVICE
 
-dropped_twice : (rows : List RowOf) → dropped (dropped rows) ≡ dropped rows
+dropped_twice : (rows : List RowOf) → rows_after_drop (rows_after_drop rows) ≡ rows_after_drop rows
 dropped_twice [] = refl
-dropped_twice (r ∷ rs) = ap (λ (xs : List RowOf). unapplied r ∷ xs) (dropped_twice rs)
+dropped_twice (r ∷ rs) = ap (λ (xs : List RowOf). row_without_applied r ∷ xs) (dropped_twice rs)
 
 -- A device that restarted, ticked and restarts is one that restarted.
 device_again : (n : DeviceNodeOf) → device_restarts (device_after_call (device_restarts n) DeviceCall.Ticks) ≡ device_restarts n

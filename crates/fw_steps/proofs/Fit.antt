@@ -5,27 +5,27 @@ use Rattle.std.proofs.lemmas.Bool.{eq-eqb}
 use Rattle.std.proofs.lemmas.List.{drop_more, length-append}
 use Rattle.fwup_wire.specs.Descriptors.{HasDescriptorWidths, descriptor_bytes, descriptors_bytes}
 use Rattle.fwup_wire.specs.Items.{EachItem}
-use Rattle.fwup_wire.specs.Values.{DescriptorOf}
+use Rattle.fwup_wire.specs.Values.{DeviceDescriptorOf}
 use Rattle.fwup_wire.specs.declared.values.Key.{Key}
-use Rattle.fd_core.specs.Banks.{AreApart, has_key}
+use Rattle.fd_core.specs.Banks.{HaveKeysOnce, has_key}
 use Rattle.fd_core.specs.Images.{ImageOf, RowOf, active_of, key_of, row_of, same_key}
 use Rattle.fd_core.specs.States.{DeviceState}
-use Rattle.fd_core.specs.declared.parts.Component.{Component}
+use Rattle.fd_core.specs.declared.parts.BankComponent.{BankComponent}
 use Rattle.fd_core.proofs.Rows.{same_both}
 use Rattle.fw_message.specs.Laws.{IsUnapplied}
 use Rattle.fw_steps.specs.Widths.{HasDescriptorListWidths, HasImageWidths, HasKeyAndLabelWidths, HasKindWidth, HasPhaseWidths, HasRowWidths, HasComponentKeyWidths, HasWidthsAsNew}
 
-many : (ds : List DescriptorOf) → 4 * length ds ≤ length (descriptors_bytes ds)
+many : (ds : List DeviceDescriptorOf) → 4 * length ds ≤ length (descriptors_bytes ds)
 many [] = omega arith
 many (d ∷ ds) = rw (length-append (descriptor_bytes d) (descriptors_bytes ds)) (omega (arith, many ds))
 
-widths : (ds : List DescriptorOf) → AllByRecursion HasKindWidth ds → length (descriptors_bytes ds) < 65536 → EachItem HasDescriptorWidths ds
+widths : (ds : List DeviceDescriptorOf) → AllByRecursion HasKindWidth ds → length (descriptors_bytes ds) < 65536 → EachItem HasDescriptorWidths ds
 widths [] h short = tt
 widths (d ∷ ds) h short =
     let all : length (descriptor_bytes d) + length (descriptors_bytes ds) < 65536 = rw (length-append (descriptor_bytes d) (descriptors_bytes ds)) at short in
     ((h.0, omega (arith, all)), widths ds h.1 (omega (arith, all)))
 
-pub descriptors_fit : (ds : List DescriptorOf) (room : ℕ) → room + length (descriptors_bytes ds) ≡ 246 → AllByRecursion HasKindWidth ds → HasDescriptorListWidths ds
+pub descriptors_fit : (ds : List DeviceDescriptorOf) (room : ℕ) → room + length (descriptors_bytes ds) ≡ 246 → AllByRecursion HasKindWidth ds → HasDescriptorListWidths ds
 descriptors_fit ds room is h = record { widths = widths ds h (omega (arith, is)); few = omega (arith, is, many ds); short = omega (arith, is) }
 
 -- what runs, as it was found
@@ -41,7 +41,7 @@ neither : (a b : Bool) → (a || b) ≡ false → (a ≡ false) × (b ≡ false)
 neither false b e = (refl, e)
 neither true b e = absurd (cc)
 
-keys_fit : (rows : List RowOf) (cs : List Component) → AllByRecursion (HasKeyAndLabelWidths rows) cs → AllByRecursion HasComponentKeyWidths cs
+keys_fit : (rows : List RowOf) (cs : List BankComponent) → AllByRecursion (HasKeyAndLabelWidths rows) cs → AllByRecursion HasComponentKeyWidths cs
 keys_fit rows [] h = tt
 keys_fit rows (c ∷ cs) h = (h.0.key, keys_fit rows cs h.1)
 
@@ -49,7 +49,7 @@ keys_fit rows (c ∷ cs) h = (h.0.key, keys_fit rows cs h.1)
 abbrev KeysFind : List RowOf → List Key → Type 0
 KeysFind rows keys = AllByRecursion (λ k. IfSome (active_of (row_of rows k)) HasImageWidths) keys
 
-keys_find : (rows : List RowOf) (cs : List Component) → AllByRecursion (HasKeyAndLabelWidths rows) cs → KeysFind rows (map (λ c. c.key) cs)
+keys_find : (rows : List RowOf) (cs : List BankComponent) → AllByRecursion (HasKeyAndLabelWidths rows) cs → KeysFind rows (map (λ c. c.key) cs)
 keys_find rows [] h = tt
 keys_find rows (c ∷ cs) h = (h.0.label, keys_find rows cs h.1)
 
@@ -68,7 +68,7 @@ here_if : (same : Bool) (row : RowOf) (o : Option RowOf) → same ≡ true → I
 here_if true row o e h = h
 here_if false row o e h = absurd (cc)
 
-rows_fit : (rows : List RowOf) → AreApart (map key_of rows) → AllByRecursion IsUnapplied rows → KeysFind rows (map key_of rows) → AllByRecursion HasRowWidths rows
+rows_fit : (rows : List RowOf) → HaveKeysOnce (map key_of rows) → AllByRecursion IsUnapplied rows → KeysFind rows (map key_of rows) → AllByRecursion HasRowWidths rows
 rows_fit [] apart none h = tt
 rows_fit (row ∷ rows) apart none h = (
   record { active = here_if (same_key row.key row.key) row (row_of rows row.key) (same_itself row.key) h.0; applied = subst (λ o. IfSome o HasImageWidths) (sym none.0) tt },

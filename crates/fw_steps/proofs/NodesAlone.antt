@@ -4,14 +4,14 @@
 use Rattle.std.proofs.Common.{◌≡◌, ◌∙◌, ◌+◌, ◌==◌, ◌&&◌, ◌++◌, ℕ, Bool, true, false, not, if◌then◌else◌, List, [], ◌∷◌, Option, Some, None, IfSome, IsSomeAnd, refl, sym, ap, subst}
 use Rattle.std.specs.List.{filter}
 use Rattle.std.specs.Option.{option_map}
-use Rattle.exch_lane.specs.Lanes.{Sent, numbered}
+use Rattle.exch_lane.specs.Lanes.{Sent, item_numbered}
 use Rattle.fw_package.specs.Package.{PackageText}
 use Rattle.ua_core.specs.Session.{SessionOf}
-use Rattle.fw_node.specs.Agents.{AgentOf, agent_hears, ready_for}
+use Rattle.fw_node.specs.Agents.{AgentOf, agent_on_packet, ready_for}
 use Rattle.fw_node.specs.Nodes.{DeviceNodeOf, device_restarts}
 use Rattle.fw_steps.specs.Alone.{AgentCall, AgentIsAlone, DeviceCall, DevicesAreAlone, agent_after_activation, agent_after_call, agent_after_calls, agent_after_log_request, agent_step_calls, agent_run_calls, agent_receipt, device_after_call, device_after_calls, device_step_calls, device_run_calls, device_receipt}
-use Rattle.fw_steps.specs.Headline.{Leads, Run, world_after}
-use Rattle.fw_steps.specs.Worlds.{SiteOf, WorldOf, activates_on, agent_pass_sends, agent_passes, asks_log, at_agent, at_device, counts, delivers, packets_of, place_of, posts, site_for, site_goes_on, site_passes, ticks}
+use Rattle.fw_steps.specs.Headline.{StepsTo, Run, world_after}
+use Rattle.fw_steps.specs.Worlds.{SiteOf, WorldOf, activates_on, agent_pass_sends, agent_passes, world_after_log_request, at_agent, at_device, counts, world_after_deliver, packets_of, place_of, posts, site_for, site_after_tick, site_passes, world_after_tick}
 use Rattle.fw_steps.specs.declared.step.Step.{Step}
 use Rattle.fw_steps.specs.declared.step.Step.TheVariants as steps
 use Rattle.fw_steps.proofs.DevicesAreIsolated.Nodes.{activates_sites, log_sites}
@@ -35,7 +35,7 @@ agent_nothing true w = refl
 agent_nothing false w = refl
 
 agent_receives : (works : Bool) (faults : ℕ) (w : WorldOf) (node : ℕ) (o : Option Sent)
-    → (delivers works faults w node o).agent ≡ agent_after_calls w.packages w.agent (agent_receipt (node == w.agent.endpoint.eid) w.now o)
+    → (world_after_deliver works faults w node o).agent ≡ agent_after_calls w.packages w.agent (agent_receipt (node == w.agent.endpoint.eid) w.now o)
 agent_receives works faults w node None = agent_nothing (node == w.agent.endpoint.eid) w
 agent_receives works faults w node (Some p) =
     agent_comes (node == w.agent.endpoint.eid) w (at_device works faults w p.bytes (place_of w.sites node) (site_for w.sites node)) p
@@ -54,12 +54,12 @@ agent_anew : (mine : Bool) (w u v : WorldOf) (n : AgentOf) → u.agent ≡ agent
 agent_anew true w u v n e f = e
 agent_anew false w u v n e f = f
 
-agent_log_request : (w : WorldOf) (bytes : List ℕ) → (asks_log w bytes).agent ≡ agent_after_log_request w.now bytes w.agent
+agent_log_request : (w : WorldOf) (bytes : List ℕ) → (world_after_log_request w bytes).agent ≡ agent_after_log_request w.now bytes w.agent
 agent_log_request w [] = refl
 agent_log_request w (command ∷ bytes) = refl
 
 pub agent_steps : (works : Bool) (faults : ℕ) (w : WorldOf) (s : Step) → (world_after works faults w s).agent ≡ agent_after_calls w.packages w.agent (agent_step_calls w s)
-agent_steps works faults w (steps.Deliver device number node) = agent_receives works faults w node (numbered (packets_of w device) number)
+agent_steps works faults w (steps.Deliver device number node) = agent_receives works faults w node (item_numbered (packets_of w device) number)
 agent_steps works faults w (steps.Tick missed) = agent_passing (counts missed.items w.agent.endpoint.eid) w.packages (w.now + 1) w.agent
 agent_steps works faults w (steps.Start device number) = refl
 agent_steps works faults w (steps.Cancel device) = refl
@@ -71,7 +71,7 @@ agent_steps works faults w (steps.Sel bytes) = agent_log_request w bytes.items
 pub agent_is_alone : AgentIsAlone
 agent_is_alone w v [] run = ap (λ (x : WorldOf). x.agent) run
 agent_is_alone w v (s ∷ ss) run =
-    let l : Leads w s run.0 = run.1 in
+    let l : StepsTo w s run.0 = run.1 in
     let packages : run.0.packages ≡ w.packages = ap (λ (x : WorldOf). x.packages) l.after ∙ packages_stay l.works l.faults w s in
     let stepped : run.0.agent ≡ agent_after_calls w.packages w.agent (agent_step_calls w s) = ap (λ (x : WorldOf). x.agent) l.after ∙ agent_steps l.works l.faults w s in
     agent_is_alone run.0 v ss run.2
@@ -113,7 +113,7 @@ receipt_if false works faults p = refl
 
 agent_receipt_site : (w : WorldOf) (bytes : List ℕ) (eid : ℕ) (x : SiteOf) → site_for w.sites eid ≡ Some x → NodeThen x.node (site_for (at_agent w bytes).sites eid)
 agent_receipt_site w bytes eid x e =
-    let sent = (agent_hears w.packages w.agent bytes w.now).sent in
+    let sent = (agent_on_packet w.packages w.agent bytes w.now).sent in
     node_then _ (with_packets w.now (filter (is_to eid) sent) x) x.node
     (posts_at w.now sent w.sites eid ∙ ap (option_map (with_packets w.now (filter (is_to eid) sent))) e) refl
 
@@ -125,7 +125,7 @@ device_comes false here works faults w u p eid x e f =
     rw (receipt_if here works faults p) (node_if here (heard_site works faults w.now p.bytes) (site_for u.sites eid) x (DeviceCall.Receives works faults p.bytes) f refl)
 
 device_receives : (works : Bool) (faults : ℕ) (w : WorldOf) (node eid : ℕ) (x : SiteOf) (o : Option Sent) → site_for w.sites eid ≡ Some x
-    → NodeThen (device_after_calls x.node (device_receipt (not (node == w.agent.endpoint.eid) && (node == eid)) works faults o)) (site_for (delivers works faults w node o).sites eid)
+    → NodeThen (device_after_calls x.node (device_receipt (not (node == w.agent.endpoint.eid) && (node == eid)) works faults o)) (site_for (world_after_deliver works faults w node o).sites eid)
 device_receives works faults w node eid x None e = device_nothing (not (node == w.agent.endpoint.eid) && (node == eid)) works faults (site_for w.sites eid) x e
 device_receives works faults w node eid x (Some p) e =
     device_comes (node == w.agent.endpoint.eid) (node == eid) works faults w (at_device works faults w p.bytes (place_of w.sites node) (site_for w.sites node)) p eid x e
@@ -139,13 +139,13 @@ device_passes true now x = refl
 device_passes false now x = refl
 
 device_ticks : (missed : List ℕ) (w : WorldOf) (eid : ℕ) (x : SiteOf) → site_for w.sites eid ≡ Some x
-    → NodeThen (device_after_calls x.node (if counts missed eid then DeviceCall.Ticks ∷ [] else [])) (site_for (ticks missed w).sites eid)
+    → NodeThen (device_after_calls x.node (if counts missed eid then DeviceCall.Ticks ∷ [] else [])) (site_for (world_after_tick missed w).sites eid)
 device_ticks missed w eid x e =
     let sent = agent_pass_sends (counts missed w.agent.endpoint.eid) w.packages w.agent in
     let put = with_packets (w.now + 1) (filter (is_to eid) sent) in
-    node_then _ (site_goes_on missed (w.now + 1) (put x)) _
-    (site_changed (site_goes_on missed (w.now + 1)) (goes_on_eid missed (w.now + 1)) (posts (w.now + 1) w.sites sent) eid
-    ∙ ap (option_map (site_goes_on missed (w.now + 1))) (posts_at (w.now + 1) sent w.sites eid ∙ ap (option_map put) e))
+    node_then _ (site_after_tick missed (w.now + 1) (put x)) _
+    (site_changed (site_after_tick missed (w.now + 1)) (goes_on_eid missed (w.now + 1)) (posts (w.now + 1) w.sites sent) eid
+    ∙ ap (option_map (site_after_tick missed (w.now + 1))) (posts_at (w.now + 1) sent w.sites eid ∙ ap (option_map put) e))
     (device_passes (counts missed x.node.endpoint.eid) (w.now + 1) (put x)
     ∙ ap (λ (k : ℕ). device_after_calls x.node (if counts missed k then DeviceCall.Ticks ∷ [] else [])) (site_found w.sites eid x e))
 
@@ -159,7 +159,7 @@ device_anew false here w u v eid x e f = node_if here (λ y. record y { node = d
 -- the other steps
 pub device_steps : (works : Bool) (faults : ℕ) (w : WorldOf) (s : Step) (eid : ℕ) (x : SiteOf) → site_for w.sites eid ≡ Some x
     → NodeThen (device_after_calls x.node (device_step_calls eid works faults w s)) (site_for (world_after works faults w s).sites eid)
-device_steps works faults w (steps.Deliver device number node) eid x e = device_receives works faults w node eid x (numbered (packets_of w device) number) e
+device_steps works faults w (steps.Deliver device number node) eid x e = device_receives works faults w node eid x (item_numbered (packets_of w device) number) e
 device_steps works faults w (steps.Tick missed) eid x e = device_ticks missed.items w eid x e
 device_steps works faults w (steps.Start device number) eid x e = node_then (site_for w.sites eid) x x.node e refl
 device_steps works faults w (steps.Cancel device) eid x e = node_then (site_for w.sites eid) x x.node e refl
@@ -190,7 +190,7 @@ device_runs : (eid : ℕ) (w v : WorldOf) (ss : List Step) (run : Run w ss v) (x
     → NodeThen (device_after_calls x.node (device_run_calls eid w ss v run)) (site_for v.sites eid)
 device_runs eid w v [] run x e = node_then (site_for v.sites eid) x x.node (ap (λ (u : WorldOf). site_for u.sites eid) run ∙ e) refl
 device_runs eid w v (s ∷ ss) run x e =
-    let l : Leads w s run.0 = run.1 in
+    let l : StepsTo w s run.0 = run.1 in
     device_on run.0 v eid x.node (device_step_calls eid l.works l.faults w s) (device_run_calls eid run.0 ss v run.2) (site_for run.0.sites eid) refl
     (subst (λ (u : WorldOf). NodeThen (device_after_calls x.node (device_step_calls eid l.works l.faults w s)) (site_for u.sites eid)) (sym l.after) (device_steps l.works l.faults w s eid x e))
     (λ y f. device_runs eid run.0 v ss run.2 y f)

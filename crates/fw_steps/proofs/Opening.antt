@@ -13,7 +13,7 @@ use Rattle.fw_node.specs.Nodes.{DeviceNodeOf, new_device_node}
 use Rattle.fw_package.specs.Package.{PackageText}
 use Rattle.fw_steps.specs.Headline.{AreNewNodes, IsNewNode, IsOpeningWorld, new_site, new_world, unit_of}
 use Rattle.fw_steps.specs.Widths.{HasDeviceWidths, HavePackageWidths, HasWidthsAsNew}
-use Rattle.fw_steps.specs.Sites.{RoomyOf, sites_of}
+use Rattle.fw_steps.specs.Sites.{SiteWithRoom, sites_of}
 use Rattle.fw_steps.specs.Worlds.{WorldOf}
 
 new_components : (u : «Unit») (agent : ℕ) (n : DeviceNodeOf) → IsNewNode u agent n → HasComponents n.half.core.device
@@ -29,7 +29,7 @@ new_node u endpoint agent d unit components idle unapplied eid =
     record { device = d; is = refl; unit = unit; idle = idle; unapplied = All-from_recursion IsUnapplied d.device.rows unapplied; components = components; eid = eid }
 
 -- there are as many of them as there are nodes
-pub as_many : (ss : List RoomyOf) (nodes : List DeviceNodeOf) → sites_of ss ≡ map new_site nodes → length ss ≡ length nodes
+pub as_many : (ss : List SiteWithRoom) (nodes : List DeviceNodeOf) → sites_of ss ≡ map new_site nodes → length ss ≡ length nodes
 as_many ss nodes is = sym (length-map ss (λ s. s.site)) ∙ ap length is ∙ length-map nodes new_site
 
 -- all can be said of new devices

@@ -3,14 +3,14 @@
 use Rattle.std.proofs.Common.{◌≡◌, ◌∙◌, ◌+◌, ◌==◌, ◌&&◌, ◌++◌, ℕ, Bool, true, false, not, if◌then◌else◌, List, [], ◌∷◌, Option, Some, None, IfSome, IsSomeAnd, refl, sym, ap, subst, append_assoc, append-nil}
 use Rattle.std.specs.List.{filter}
 use Rattle.std.specs.Option.{option_map}
-use Rattle.exch_lane.specs.Lanes.{Sent, numbered}
+use Rattle.exch_lane.specs.Lanes.{Sent, item_numbered}
 use Rattle.fw_package.specs.Package.{PackageText}
 use Rattle.fd_core.specs.declared.states.Verdict.{Verdict}
-use Rattle.fw_node.specs.Agents.{AgentOf, agent_hears, ready_for}
+use Rattle.fw_node.specs.Agents.{AgentOf, agent_on_packet, ready_for}
 use Rattle.fw_node.specs.Nodes.{device_restarts}
 use Rattle.fw_steps.specs.Alone.{AgentCall, DeviceCall, PacketsAreTheirs, agent_step_calls, agent_receipt, agent_step_packets, device_step_calls, device_receipt, device_call_packets, site_step_packets, is_for, pair_step_packets, pair_run_packets, step_date}
-use Rattle.fw_steps.specs.Headline.{Leads, Run, world_after}
-use Rattle.fw_steps.specs.Worlds.{SiteOf, WorldOf, agent_pass_sends, at_agent, at_device, counts, delivers, packets_of, place_of, posts, sent_now, site_for, site_goes_on, site_passes, ticks}
+use Rattle.fw_steps.specs.Headline.{StepsTo, Run, world_after}
+use Rattle.fw_steps.specs.Worlds.{SiteOf, WorldOf, agent_pass_sends, at_agent, at_device, counts, world_after_deliver, packets_of, place_of, posts, sent_now, site_for, site_after_tick, site_passes, world_after_tick}
 use Rattle.fw_steps.specs.declared.step.Step.{Step}
 use Rattle.fw_steps.specs.declared.step.Step.TheVariants as steps
 use Rattle.fw_steps.proofs.DevicesAreIsolated.Nodes.{activates_sites, log_sites}
@@ -53,7 +53,7 @@ packets_come : (agent here works : Bool) (faults : ℕ) (w u : WorldOf) (p : Sen
     ++ sent_now w.now (site_step_packets (Some x) (device_receipt (not agent && here) works faults (Some p)))))
     (site_for (if agent then at_agent w p.bytes else u).sites eid)
 packets_come true here works faults w u p eid x e f =
-    let sent = (agent_hears w.packages w.agent p.bytes w.now).sent in
+    let sent = (agent_on_packet w.packages w.agent p.bytes w.now).sent in
     has_now _ (with_packets w.now (filter (is_to eid) sent) x) _ (posts_at w.now sent w.sites eid ∙ ap (option_map (with_packets w.now (filter (is_to eid) sent))) e)
     (rw (for_same eid sent, append-nil (sent_now w.now (filter (is_for eid) sent))) refl)
 packets_come false true works faults w u p eid x e f = has_now _ (heard_site works faults w.now p.bytes x) _ f refl
@@ -62,7 +62,7 @@ packets_come false false works faults w u p eid x e f = none_more _ x _ f refl
 packets_received : (works : Bool) (faults : ℕ) (w : WorldOf) (node eid : ℕ) (x : SiteOf) (o : Option Sent) → site_for w.sites eid ≡ Some x
     → HasNow (x.packets ++ (sent_now w.now (filter (is_for eid) (agent_step_packets w.packages w.agent (agent_receipt (node == w.agent.endpoint.eid) w.now o)))
     ++ sent_now w.now (site_step_packets (Some x) (device_receipt (not (node == w.agent.endpoint.eid) && (node == eid)) works faults o))))
-    (site_for (delivers works faults w node o).sites eid)
+    (site_for (world_after_deliver works faults w node o).sites eid)
 packets_received works faults w node eid x None e =
     none_more (site_for w.sites eid) x _ e (nothing_received (node == w.agent.endpoint.eid) (not (node == w.agent.endpoint.eid) && (node == eid)) works faults w.now w eid x)
 packets_received works faults w node eid x (Some p) e =
@@ -84,16 +84,16 @@ passes_packets false t ps x = rw (append-nil (sent_now t ps)) refl
 packets_ticked : (missed : List ℕ) (w : WorldOf) (eid : ℕ) (x : SiteOf) → site_for w.sites eid ≡ Some x
     → HasNow (x.packets ++ (sent_now (w.now + 1) (filter (is_for eid) (agent_step_packets w.packages w.agent (if counts missed w.agent.endpoint.eid then AgentCall.Ticks (w.now + 1) ∷ [] else [])))
     ++ sent_now (w.now + 1) (site_step_packets (Some x) (if counts missed eid then DeviceCall.Ticks ∷ [] else []))))
-    (site_for (ticks missed w).sites eid)
+    (site_for (world_after_tick missed w).sites eid)
 packets_ticked missed w eid x e =
     let t = w.now + 1 in
     let agent = counts missed w.agent.endpoint.eid in
     let sent = agent_pass_sends agent w.packages w.agent in
     let put = with_packets t (filter (is_to eid) sent) in
     let own = counts missed x.node.endpoint.eid in
-    has_now _ (site_goes_on missed t (put x)) _
-    (site_changed (site_goes_on missed t) (goes_on_eid missed t) (posts t w.sites sent) eid
-    ∙ ap (option_map (site_goes_on missed t)) (posts_at t sent w.sites eid ∙ ap (option_map put) e))
+    has_now _ (site_after_tick missed t (put x)) _
+    (site_changed (site_after_tick missed t) (goes_on_eid missed t) (posts t w.sites sent) eid
+    ∙ ap (option_map (site_after_tick missed t)) (posts_at t sent w.sites eid ∙ ap (option_map put) e))
     (passes_packets own t (filter (is_to eid) sent) x
     ∙ ap (λ (ps : List (List ℕ)). x.packets ++ (sent_now t ps ++ sent_now t (site_step_packets (Some x) (if own then DeviceCall.Ticks ∷ [] else []))))
     (for_same eid sent ∙ ap (filter (is_for eid)) (agent_ticking agent w.packages t w.agent))
@@ -126,7 +126,7 @@ restart_packets false here u v eid x ps e f q = changed_quietly here (λ y. reco
 packets_cases : (works : Bool) (faults : ℕ) (w : WorldOf) (s : Step) (eid : ℕ) (x : SiteOf) → site_for w.sites eid ≡ Some x
     → HasNow (x.packets ++ (sent_now (step_date w.now s) (filter (is_for eid) (agent_step_packets w.packages w.agent (agent_step_calls w s)))
     ++ sent_now (step_date w.now s) (site_step_packets (Some x) (device_step_calls eid works faults w s)))) (site_for (world_after works faults w s).sites eid)
-packets_cases works faults w (steps.Deliver device number node) eid x e = packets_received works faults w node eid x (numbered (packets_of w device) number) e
+packets_cases works faults w (steps.Deliver device number node) eid x e = packets_received works faults w node eid x (item_numbered (packets_of w device) number) e
 packets_cases works faults w (steps.Tick missed) eid x e = packets_ticked missed.items w eid x e
 packets_cases works faults w (steps.Start device number) eid x e = none_more _ x _ e refl
 packets_cases works faults w (steps.Cancel device) eid x e = none_more _ x _ e refl
@@ -165,7 +165,7 @@ theirs_along : (eid : ℕ) (w v : WorldOf) (ss : List Step) (run : Run w ss v) (
     → HasNow (x.packets ++ pair_run_packets eid w ss v run) (site_for v.sites eid)
 theirs_along eid w v [] run x e = none_more (site_for v.sites eid) x [] (ap (λ (u : WorldOf). site_for u.sites eid) run ∙ e) refl
 theirs_along eid w v (s ∷ ss) run x e =
-    let l : Leads w s run.0 = run.1 in
+    let l : StepsTo w s run.0 = run.1 in
     theirs_on run.0 v eid x.packets (pair_step_packets eid l.works l.faults w s) (pair_run_packets eid run.0 ss v run.2) (site_for run.0.sites eid) refl
     (subst (λ (u : WorldOf). HasNow (x.packets ++ pair_step_packets eid l.works l.faults w s) (site_for u.sites eid)) (sym l.after) (packets_steps l.works l.faults w s eid x e))
     (λ y f. theirs_along eid run.0 v ss run.2 y f)

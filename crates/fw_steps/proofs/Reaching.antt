@@ -2,18 +2,18 @@
 use Rattle.std.proofs.Common.{◌≡◌, ◌++◌, ◌∙◌, List, [], ◌∷◌, map, refl, sym, ap, subst}
 use Rattle.std.specs.Prelude.{Result, Ok, Err, OnOk, OnErr}
 use Rattle.fw_node.specs.Nodes.{DeviceNodeOf}
-use Rattle.fw_steps.specs.Headline.{AreDifferent, IsOpeningWorld, IsPromised, IsReached, Leads, PacketsAreMessages, PacketsAreSafe, Run, RunsStayTied, new_site}
+use Rattle.fw_steps.specs.Headline.{AreDifferent, IsOpeningWorld, IsPromised, IsReached, StepsTo, PacketsAreMessages, PacketsAreSafe, Run, RunsStayTied, new_site}
 use Rattle.fw_steps.specs.Worlds.{WorldOf, eids_of}
 use Rattle.fw_steps.specs.declared.step.Step.{Step}
 use Rattle.fw_steps.specs.declared.step.StepFault.{StepFault}
 use Rattle.fw_steps.proofs.LinksAreLanes.Keys.{eids_stay}
 use Rattle.fw_steps.proofs.Running.{run_append}
 
-pub reached_more : (w v : WorldOf) (s : Step) → IsReached w → Leads w s v → IsReached v
+pub reached_more : (w v : WorldOf) (s : Step) → IsReached w → StepsTo w s v → IsReached v
 reached_more w v s r l =
     record { opening = r.opening; before = r.before ++ s ∷ []; opens = r.opens; run = run_append r.opening w v r.before (s ∷ []) r.run (v, l, refl) }
 
-pub reached_on : {A : Type 0} (r : Result A StepFault) (w v : WorldOf) (s : Step) → IsReached w → OnOk r (Leads w s v) → OnErr r (v ≡ w) → IsReached v
+pub reached_on : {A : Type 0} (r : Result A StepFault) (w v : WorldOf) (s : Step) → IsReached w → OnOk r (StepsTo w s v) → OnErr r (v ≡ w) → IsReached v
 reached_on (Ok x) w v s h taken same = reached_more w v s h taken
 reached_on (Err e) w v s h taken same = subst IsReached (sym same) h
 
@@ -21,7 +21,7 @@ reached_on (Err e) w v s h taken same = subst IsReached (sym same) h
 pub run_eids : (w v : WorldOf) (ss : List Step) → Run w ss v → eids_of v.sites ≡ eids_of w.sites
 run_eids w v [] e = ap (λ x. eids_of x.sites) e
 run_eids w v (s ∷ ss) h =
-    let l : Leads w s h.0 = h.1 in
+    let l : StepsTo w s h.0 = h.1 in
     run_eids h.0 v ss h.2 ∙ ap (λ x. eids_of x.sites) l.after ∙ eids_stay l.works l.faults w s
 
 pub new_eids : (nodes : List DeviceNodeOf) → eids_of (map new_site nodes) ≡ map (λ n. n.endpoint.eid) nodes

@@ -5,7 +5,7 @@ use Rattle.std.proofs.Math.Seq.{drop-append_seam}
 use Rattle.std.proofs.lemmas.List.{drop-append-le, drop_all, length-drop, take-append-le, take_all}
 use Rattle.mctp_wire.specs.declared.layout.TheConstants.{MAX_PACKET}
 use Rattle.exch_lane.specs.Lanes.{Sent}
-use Rattle.fw_steps.specs.Packets.{AreEnds, packets_in, start_at}
+use Rattle.fw_steps.specs.Packets.{AreLengthsEnds, packets_in, start_at}
 use Rattle.fw_steps.specs.declared.packets.Place.{Place}
 
 -- there are as many packets as places
@@ -50,7 +50,7 @@ packets_behind start ps bytes zero = refl
 packets_behind start [] bytes (suc n) = refl
 packets_behind start (p ∷ ps) bytes (suc n) = packets_behind p.end ps bytes n
 
-pub ends_behind : (start : ℕ) (ps : List Place) (size n : ℕ) → AreEnds start ps size → AreEnds (start_at start ps n) (drop n ps) size
+pub ends_behind : (start : ℕ) (ps : List Place) (size n : ℕ) → AreLengthsEnds start ps size → AreLengthsEnds (start_at start ps n) (drop n ps) size
 ends_behind start ps size zero h = h
 ends_behind start [] size (suc n) h = h
 ends_behind start (p ∷ ps) size (suc n) h = ends_behind p.end ps size n h.2
@@ -65,9 +65,9 @@ packets_rest start ps bytes n from all is begins =
     ap (λ f. packets_in f (slice_range ps n (length ps)) bytes) begins ∙ ap (λ qs. packets_in (start_at start ps n) qs bytes) (rest_of n ps)
     ∙ packets_behind start ps bytes n ∙ ap (drop n) is
 
-pub ends_rest : (start : ℕ) (ps : List Place) (size n from : ℕ) → AreEnds start ps size → from ≡ start_at start ps n → AreEnds from (slice_range ps n (length ps)) size
+pub ends_rest : (start : ℕ) (ps : List Place) (size n from : ℕ) → AreLengthsEnds start ps size → from ≡ start_at start ps n → AreLengthsEnds from (slice_range ps n (length ps)) size
 ends_rest start ps size n from h begins =
-    subst (λ f. AreEnds f (slice_range ps n (length ps)) size) (sym begins) (subst (λ qs. AreEnds (start_at start ps n) qs size) (sym (rest_of n ps)) (ends_behind start ps size n h))
+    subst (λ f. AreLengthsEnds f (slice_range ps n (length ps)) size) (sym begins) (subst (λ qs. AreLengthsEnds (start_at start ps n) qs size) (sym (rest_of n ps)) (ends_behind start ps size n h))
 
 pub packets_none : (start : ℕ) (ps : List Place) (bytes : List ℕ) (n : ℕ) (all : List Sent) → packets_in start ps bytes ≡ all → length ps < n → [] ≡ drop n all
 packets_none start ps bytes n all is past =
@@ -75,12 +75,12 @@ packets_none start ps bytes n all is past =
     sym (drop_all n all (subst (λ xs. length xs ≤ n) is (omega (arith, many, past))))
 
 -- each begins and ends within the bytes
-pub ends_within : (start : ℕ) (ps : List Place) (size : ℕ) → AreEnds start ps size → start ≤ size
+pub ends_within : (start : ℕ) (ps : List Place) (size : ℕ) → AreLengthsEnds start ps size → start ≤ size
 ends_within start [] size h = omega (arith, h)
 ends_within start (p ∷ ps) size h = let rest = ends_within p.end ps size h.2 in let here = h.0 in omega arith
 
 -- the packet at a place lies within the bytes
-pub ends_at : (start : ℕ) (ps : List Place) (size n : ℕ) (p : Place) → AreEnds start ps size → slice_get ps n ≡ Some p
+pub ends_at : (start : ℕ) (ps : List Place) (size n : ℕ) (p : Place) → AreLengthsEnds start ps size → slice_get ps n ≡ Some p
     → (start_at start ps n ≤ p.end) × (p.end ≤ start_at start ps n + MAX_PACKET) × (p.end ≤ size)
 ends_at start [] size n p h is = absurd (cc)
 ends_at start (q ∷ ps) size zero p h is =
@@ -100,7 +100,7 @@ last_range bytes more end is =
     ap (take (end - length bytes)) (drop-append_seam bytes more) ∙ take_all (end - length bytes) more (omega (arith, is))
 
 -- one more packet
-pub packets_push : (start : ℕ) (ps : List Place) (bytes more : List ℕ) (q : Place) → AreEnds start ps (length bytes) → q.end ≡ length bytes + length more
+pub packets_push : (start : ℕ) (ps : List Place) (bytes more : List ℕ) (q : Place) → AreLengthsEnds start ps (length bytes) → q.end ≡ length bytes + length more
     → packets_in start (ps ++ q ∷ []) (bytes ++ more) ≡ packets_in start ps bytes ++ record { date = q.date; bytes = more } ∷ []
 packets_push start [] bytes more q h is =
     ap (λ it. record { date = q.date; bytes = it } ∷ []) (subst (λ n. slice_range (bytes ++ more) n q.end ≡ more) (sym h) (last_range bytes more q.end is))
@@ -108,22 +108,22 @@ packets_push start (p ∷ ps) bytes more q h is =
     let within : p.end ≤ length bytes = ends_within p.end ps (length bytes) h.2 in
     rw (same_range bytes more start p.end h.0 within) (ap (λ it. record { date = p.date; bytes = slice_range bytes start p.end } ∷ it) (packets_push p.end ps bytes more q h.2 is))
 
-pub ends_push : (start : ℕ) (ps : List Place) (size : ℕ) (q : Place) → AreEnds start ps size → size ≤ q.end → q.end ≤ size + MAX_PACKET → AreEnds start (ps ++ q ∷ []) q.end
+pub ends_push : (start : ℕ) (ps : List Place) (size : ℕ) (q : Place) → AreLengthsEnds start ps size → size ≤ q.end → q.end ≤ size + MAX_PACKET → AreLengthsEnds start (ps ++ q ∷ []) q.end
 ends_push start [] size q h least most = (omega (arith, h, least), omega (arith, h, most), refl)
 ends_push start (p ∷ ps) size q h least most = (h.0, h.1, ends_push p.end ps size q h.2 least most)
 
 -- as the code has it
-pub pushed : (ps qs : List Place) (bytes more all : List ℕ) (q : Place) → AreEnds 0 ps (length bytes) → qs ≡ ps ++ q ∷ [] → all ≡ bytes ++ more → q.end ≡ length all
+pub pushed : (ps qs : List Place) (bytes more all : List ℕ) (q : Place) → AreLengthsEnds 0 ps (length bytes) → qs ≡ ps ++ q ∷ [] → all ≡ bytes ++ more → q.end ≡ length all
     → packets_in 0 qs all ≡ packets_in 0 ps bytes ++ record { date = q.date; bytes = more } ∷ []
 pushed ps qs bytes more all q h places is end =
     ap (λ it. packets_in 0 it all) places ∙ ap (packets_in 0 (ps ++ q ∷ [])) is
     ∙ packets_push 0 ps bytes more q h (end ∙ ap length is ∙ length-append bytes more)
 
-pub pushed_ends : (ps qs : List Place) (bytes more all : List ℕ) (q : Place) → AreEnds 0 ps (length bytes) → qs ≡ ps ++ q ∷ [] → all ≡ bytes ++ more → q.end ≡ length all
-    → length more ≤ MAX_PACKET → AreEnds 0 qs (length all)
+pub pushed_ends : (ps qs : List Place) (bytes more all : List ℕ) (q : Place) → AreLengthsEnds 0 ps (length bytes) → qs ≡ ps ++ q ∷ [] → all ≡ bytes ++ more → q.end ≡ length all
+    → length more ≤ MAX_PACKET → AreLengthsEnds 0 qs (length all)
 pushed_ends ps qs bytes more all q h places is end short =
     let both : length all ≡ length bytes + length more = ap length is ∙ length-append bytes more in
-    subst (AreEnds 0 qs) end (subst (λ it. AreEnds 0 it q.end) (sym places) (ends_push 0 ps (length bytes) q h (omega (arith, end, both)) (omega (arith, end, both, short))))
+    subst (AreLengthsEnds 0 qs) end (subst (λ it. AreLengthsEnds 0 it q.end) (sym places) (ends_push 0 ps (length bytes) q h (omega (arith, end, both)) (omega (arith, end, both, short))))
 
 -- there is room for it
 pub room_pushed : (a b : ℕ) → 1 ≤ min a (b / MAX_PACKET) → (1 ≤ a) × (MAX_PACKET ≤ b)

@@ -7,7 +7,7 @@ use Rattle.fwup_wire.specs.Values.{CommandOf}
 use Rattle.fd_core.specs.States.{DeviceState, Phase}
 use Rattle.fd_core.specs.Steps.{device_timeout, tick_at}
 use Rattle.fw_node.specs.Cores.{TimedDevice, device_core}
-use Rattle.fw_node.specs.Halves.{HalfOf, begins_if, begins_wish, called, half_ticks, hears_if, unwished_abandoned, with_caller}
+use Rattle.fw_node.specs.Halves.{HalfOf, begins_if, begins_wish, half_tick_by_row, half_ticks, tick_if, unwished_abandoned, with_caller}
 use Rattle.fw_steps.specs.Sites.{is_ready}
 
 -- a device that is ready is this one
@@ -31,7 +31,7 @@ wished : (wish : Option CommandOf) (v : DeviceState) (h : HalfOf TimedDevice) (s
 wished None v h sent k = k
 wished (Some c) v h sent k = begun (may_begin h.asker.caller) v h c sent k
 
-hearing : (hears : Bool) (h : HalfOf TimedDevice) (sent : List MessageOf) → Keeps h.core.device (hears_if hears device_core h sent).half.core.device
+hearing : (hears : Bool) (h : HalfOf TimedDevice) (sent : List MessageOf) → Keeps h.core.device (tick_if hears device_core h sent).half.core.device
 hearing true h sent =
     wished
     (device_core.wish (device_core.ticked h.core))
@@ -41,7 +41,7 @@ hearing true h sent =
     (own_tick h.core.device.phase h.core.device h.core.idle)
 hearing false h sent = λ e. refl
 
-after_call : (h : HalfOf TimedDevice) (row : AskerTick) → Keeps h.core.device (called device_core h row).half.core.device
+after_call : (h : HalfOf TimedDevice) (row : AskerTick) → Keeps h.core.device (half_tick_by_row device_core h row).half.core.device
 after_call h (AskerTick.Waits a) = hearing (a.deaf == 0) (record h { asker = a }) []
 after_call h (AskerTick.Resends a m) = hearing (a.deaf == 0) (record h { asker = a }) (m ∷ [])
 after_call h (AskerTick.GivesUp a) = hearing (a.deaf == 0) (record h { asker = a }) []

@@ -6,11 +6,11 @@ use Rattle.fd_core.specs.Images.{RowOf}
 use Rattle.fd_core.specs.States.{DeviceState}
 use Rattle.ua_core.specs.Session.{SessionOf}
 use Rattle.ua_core.specs.declared.planned.Recorded.{Recorded}
-use Rattle.fw_message.specs.Cases.{bank, image, new_boot, old_boot, recorded, worked}
+use Rattle.fw_message.specs.Cases.{bank, image, new_boot, old_boot, recorded_component, worked_update}
 use Rattle.fw_message.specs.Worlds.{NotedOf, noted_of}
 use Rattle.fw_message.specs.WorldLaws.{history_of}
 use Rattle.fw_message.proofs.Cases.{accepts, applied_before as unapplied, wrong_bytes}
-use Rattle.fw_steps.specs.Moments.{IsTiedBetween, IsTiedFrom, added}
+use Rattle.fw_steps.specs.Moments.{IsTiedBetween, IsTiedFrom, entries_between}
 use Rattle.fw_steps.specs.WorldCases.{PartsOf, SameWorlds, TiedMoments, UnfailedBanks, UntiedMoments, WorldsAreJudged, half_with, site_with, world_of}
 use Rattle.fw_steps.specs.Worlds.{pair_for}
 
@@ -18,20 +18,20 @@ use Rattle.fw_steps.specs.Worlds.{pair_for}
 one_tied : (p : PartsOf) (rows later : List RowOf) (made more : List Recorded) (es xs : List NotedOf)
     → IsTiedFrom (record { device = (site_with p.site 9 0 rows).node.half.core.device; session = (half_with p.half 9 made).core.session; down = None; up = None })
     (record { device = (site_with p.site 9 0 later).node.half.core.device; session = (half_with p.half 9 more).core.session; down = None; up = None })
-    (history_of 9 xs) (history_of 9 (added (world_of p rows made es) (world_of p later more xs)))
+    (history_of 9 xs) (history_of 9 (entries_between (world_of p rows made es) (world_of p later more xs)))
     → IsTiedBetween (world_of p rows made es) (world_of p later more xs)
 one_tied p rows later made more es xs h eid =
     elim (eqb_tells 9 eid) [
-      | inl same ↦ subst (λ n. IfSome (pair_for (world_of p rows made es) n) (λ k. IsSomeAnd (pair_for (world_of p later more xs) n) (λ j. IsTiedFrom k j (history_of n xs) (history_of n (added (world_of p rows made es) (world_of p later more xs)))))) same.1 h
+      | inl same ↦ subst (λ n. IfSome (pair_for (world_of p rows made es) n) (λ k. IsSomeAnd (pair_for (world_of p later more xs) n) (λ j. IsTiedFrom k j (history_of n xs) (history_of n (entries_between (world_of p rows made es) (world_of p later more xs)))))) same.1 h
       | inr other ↦ rw other.0 tt
     ]
 
 tied : TiedMoments
 tied = record {
-  whole = λ p. one_tied p (bank old_boot None) (bank new_boot None) [] (recorded 1 0 ∷ []) [] (map (noted_of 9) worked) (record { active = refl; applied = accepts.when_activated.applied; records = refl; recorded = refl });
-  first = λ p. one_tied p (bank old_boot None) (bank old_boot (Some (image new_boot))) [] (recorded 1 0 ∷ []) [] (map (noted_of 9) (take 2 worked)) (record { active = refl; applied = accepts.when_recorded.applied; records = refl; recorded = refl });
-  rest = λ p. one_tied p (bank old_boot (Some (image new_boot))) (bank new_boot None) (recorded 1 0 ∷ []) (recorded 1 0 ∷ []) (map (noted_of 9) (take 2 worked)) (map (noted_of 9) worked) (record { active = refl; applied = accepts.when_activated.applied; records = refl; recorded = refl });
-  same = λ p. one_tied p (bank new_boot None) (bank new_boot None) (recorded 1 0 ∷ []) (recorded 1 0 ∷ []) (map (noted_of 9) worked) (map (noted_of 9) worked) (record { active = refl; applied = accepts.when_activated.applied; records = refl; recorded = refl });
+  whole = λ p. one_tied p (bank old_boot None) (bank new_boot None) [] (recorded_component 1 0 ∷ []) [] (map (noted_of 9) worked_update) (record { active = refl; applied = accepts.when_activated.applied; records = refl; recorded = refl });
+  first = λ p. one_tied p (bank old_boot None) (bank old_boot (Some (image new_boot))) [] (recorded_component 1 0 ∷ []) [] (map (noted_of 9) (take 2 worked_update)) (record { active = refl; applied = accepts.when_recorded.applied; records = refl; recorded = refl });
+  rest = λ p. one_tied p (bank old_boot (Some (image new_boot))) (bank new_boot None) (recorded_component 1 0 ∷ []) (recorded_component 1 0 ∷ []) (map (noted_of 9) (take 2 worked_update)) (map (noted_of 9) worked_update) (record { active = refl; applied = accepts.when_activated.applied; records = refl; recorded = refl });
+  same = λ p. one_tied p (bank new_boot None) (bank new_boot None) (recorded_component 1 0 ∷ []) (recorded_component 1 0 ∷ []) (map (noted_of 9) worked_update) (map (noted_of 9) worked_update) (record { active = refl; applied = accepts.when_activated.applied; records = refl; recorded = refl });
 }
 
 untied : UntiedMoments

@@ -9,17 +9,17 @@
 -- `specs/Plays` and `specs/Traces` say when the calls of separate processes are those of one run.
 use Rattle.std.specs.Prelude.{ℕ, ◌≡◌, ◌+◌, ◌==◌, ◌&&◌, ◌++◌, ◌∷◌, [], Bool, true, false, not, if◌then◌else◌, IfSome, IsSomeAnd, List, map, Option, Some, None}
 use Rattle.std.specs.List.{filter}
-use Rattle.exch_lane.specs.Lanes.{Sent, numbered}
+use Rattle.exch_lane.specs.Lanes.{Sent, item_numbered}
 use Rattle.fw_package.specs.Package.{PackageText}
 use Rattle.fd_core.specs.Steps.{applied_by}
 use Rattle.fd_core.specs.declared.states.Verdict.{Verdict}
 use Rattle.sel_core.specs.Log.{sel_after}
 use Rattle.ua_core.specs.Session.{SessionOf}
 use Rattle.fw_message.specs.History.{EntryOf}
-use Rattle.fw_node.specs.Agents.{AgentOf, activates, agent_becomes, agent_hears, agent_restarts, agent_tick_sends, agent_ticks, cancels, half_for, ready_for, starts}
+use Rattle.fw_node.specs.Agents.{AgentOf, half_after_activate, agent_becomes, agent_on_packet, agent_restarts, agent_tick_sends, agent_ticks, half_after_cancel, half_for, ready_for, half_after_start}
 use Rattle.fw_node.specs.Cores.{device_core}
 use Rattle.fw_node.specs.Halves.{half_ticks}
-use Rattle.fw_node.specs.Nodes.{DeviceNodeOf, device_hears, device_judges, device_restarts}
+use Rattle.fw_node.specs.Nodes.{DeviceNodeOf, device_on_packet, device_on_verdict, device_restarts}
 use Rattle.fw_node.specs.Packets.{all_packets}
 use Rattle.fw_message.specs.Laws.{IsSafeAndTied}
 use Rattle.fw_message.specs.Pairs.{PairOf}
@@ -44,7 +44,7 @@ pub data AgentCall : Type 0 where
 -- the agent after its session for a device has the device activate, if the session is ready
 abbrev pub agent_after_activation : List PackageText → (now device : ℕ) → AgentOf → Option SessionOf → AgentOf
 agent_after_activation packages now device n None = n
-agent_after_activation packages now device n (Some s) = agent_becomes n now device (λ h. activates packages h s)
+agent_after_activation packages now device n (Some s) = agent_becomes n now device (λ h. half_after_activate packages h s)
 
 -- the agent after a request to its event log
 abbrev pub agent_after_log_request : (now : ℕ) → List ℕ → AgentOf → AgentOf
@@ -53,17 +53,17 @@ agent_after_log_request now (command ∷ bytes) n = record n { log = sel_after n
 
 -- the agent after a call
 abbrev pub agent_after_call : List PackageText → AgentOf → AgentCall → AgentOf
-agent_after_call packages n (AgentCall.Receives now bytes) = (agent_hears packages n bytes now).agent
+agent_after_call packages n (AgentCall.Receives now bytes) = (agent_on_packet packages n bytes now).agent
 agent_after_call packages n (AgentCall.Ticks now) = agent_ticks packages now n
-agent_after_call packages n (AgentCall.Starts now device number) = agent_becomes n now device (λ h. starts packages h number)
-agent_after_call packages n (AgentCall.Cancels now device) = agent_becomes n now device (cancels packages)
+agent_after_call packages n (AgentCall.Starts now device number) = agent_becomes n now device (λ h. half_after_start packages h number)
+agent_after_call packages n (AgentCall.Cancels now device) = agent_becomes n now device (half_after_cancel packages)
 agent_after_call packages n (AgentCall.Activates now device) = agent_after_activation packages now device n (ready_for n device)
 agent_after_call packages n AgentCall.Restarts = agent_restarts packages n
 agent_after_call packages n (AgentCall.AsksLog now bytes) = agent_after_log_request now bytes n
 
 -- the packets that the agent sends in a call
 abbrev pub agent_call_packets : List PackageText → AgentOf → AgentCall → List (List ℕ)
-agent_call_packets packages n (AgentCall.Receives now bytes) = (agent_hears packages n bytes now).sent
+agent_call_packets packages n (AgentCall.Receives now bytes) = (agent_on_packet packages n bytes now).sent
 agent_call_packets packages n (AgentCall.Ticks now) = agent_tick_sends packages n
 agent_call_packets packages n call = []
 
@@ -80,7 +80,7 @@ agent_receipt mine now p = []
 
 -- The agent's call in a step of a world: one, or none.
 abbrev pub agent_step_calls : WorldOf → Step → List AgentCall
-agent_step_calls w (steps.Deliver device number node) = agent_receipt (node == w.agent.endpoint.eid) w.now (numbered (packets_of w device) number)
+agent_step_calls w (steps.Deliver device number node) = agent_receipt (node == w.agent.endpoint.eid) w.now (item_numbered (packets_of w device) number)
 agent_step_calls w (steps.Tick missed) = if counts missed.items w.agent.endpoint.eid then AgentCall.Ticks (w.now + 1) ∷ [] else []
 agent_step_calls w (steps.Start device number) = AgentCall.Starts w.now device number ∷ []
 agent_step_calls w (steps.Cancel device) = AgentCall.Cancels w.now device ∷ []
@@ -110,14 +110,14 @@ pub data DeviceCall : Type 0 where
 
 -- the device's node after a call
 abbrev pub device_after_call : DeviceNodeOf → DeviceCall → DeviceNodeOf
-device_after_call n (DeviceCall.Receives works faults bytes) = node_becomes n faults (device_hears works n bytes).tid (device_hears works n bytes).half
+device_after_call n (DeviceCall.Receives works faults bytes) = node_becomes n faults (device_on_packet works n bytes).tid (device_on_packet works n bytes).half
 device_after_call n DeviceCall.Ticks = record n { half = (half_ticks device_core true n.half).half }
-device_after_call n (DeviceCall.Judges works faults verdict) = node_becomes n faults n.tid (device_judges works n verdict)
+device_after_call n (DeviceCall.Judges works faults verdict) = node_becomes n faults n.tid (device_on_verdict works n verdict)
 device_after_call n DeviceCall.Restarts = device_restarts n
 
 -- the packets that the device sends in a call
 abbrev pub device_call_packets : DeviceNodeOf → DeviceCall → List (List ℕ)
-device_call_packets n (DeviceCall.Receives works faults bytes) = all_packets n.half.unit (device_hears works n bytes).sent
+device_call_packets n (DeviceCall.Receives works faults bytes) = all_packets n.half.unit (device_on_packet works n bytes).sent
 device_call_packets n DeviceCall.Ticks = all_packets n.half.unit (half_ticks device_core true n.half).sent
 device_call_packets n call = []
 
@@ -141,7 +141,7 @@ device_receipt mine works faults p = []
 -- The device's call in a step of a world: one, or none.
 abbrev pub device_step_calls : (device : ℕ) → (works : Bool) → (faults : ℕ) → WorldOf → Step → List DeviceCall
 device_step_calls eid works faults w (steps.Deliver device number node) =
-    device_receipt (not (node == w.agent.endpoint.eid) && (node == eid)) works faults (numbered (packets_of w device) number)
+    device_receipt (not (node == w.agent.endpoint.eid) && (node == eid)) works faults (item_numbered (packets_of w device) number)
 device_step_calls eid works faults w (steps.Tick missed) = if counts missed.items eid then DeviceCall.Ticks ∷ [] else []
 device_step_calls eid works faults w (steps.Verdict device verdict) = if device == eid then DeviceCall.Judges works faults verdict ∷ [] else []
 device_step_calls eid works faults w (steps.Restart node) = if not (node == w.agent.endpoint.eid) && (node == eid) then DeviceCall.Restarts ∷ [] else []

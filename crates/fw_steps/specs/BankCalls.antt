@@ -1,7 +1,7 @@
 -- Whether a step has a device call its bank: a packet comes to the device's node and has it call, or a verdict does. The agent
 -- has no bank, and no other step calls one.
 use Rattle.std.specs.Prelude.{ℕ, ◌==◌, ◌&&◌, Bool, false, not, List, Option, Some, None}
-use Rattle.exch_lane.specs.Lanes.{Sent, numbered}
+use Rattle.exch_lane.specs.Lanes.{Sent, item_numbered}
 use Rattle.fd_core.specs.BankCalls.{verdict_calls_bank}
 use Rattle.fd_core.specs.declared.states.Verdict.{Verdict}
 use Rattle.fw_node.specs.BankCalls.{packet_calls_bank}
@@ -26,6 +26,6 @@ judgement_calls_bank verdict None = false
 judgement_calls_bank verdict (Some x) = verdict_calls_bank x.node.half.core.device verdict
 
 abbrev pub step_calls_bank : WorldOf → Step → Bool
-step_calls_bank w (steps.Deliver device number node) = delivery_calls_bank w node (numbered (packets_of w device) number)
+step_calls_bank w (steps.Deliver device number node) = delivery_calls_bank w node (item_numbered (packets_of w device) number)
 step_calls_bank w (steps.Verdict device verdict) = judgement_calls_bank verdict (site_for w.sites device)
 step_calls_bank w s = false

@@ -4,11 +4,11 @@ use Rattle.ua_core.specs.Session.{TimedOf}
 use Rattle.fw_message.specs.WorldLaws.{history_of}
 use Rattle.fw_node.specs.Agents.{half_for}
 use Rattle.fw_node.specs.Halves.{HalfOf}
-use Rattle.fw_steps.specs.Isolation.{AgreeIn, uncounted}
+use Rattle.fw_steps.specs.Isolation.{AgreeIn, node_without_faults}
 use Rattle.fw_steps.specs.Worlds.{SiteOf, WorldOf, site_for}
 
 -- two worlds that have a device, and of each the agent's half for it and the device with its packets
-pub record HaveIt (device : ℕ) (w v : WorldOf) (one other : HalfOf TimedOf) (x y : SiteOf) : Type 0 where
+pub record HaveDevice (device : ℕ) (w v : WorldOf) (one other : HalfOf TimedOf) (x y : SiteOf) : Type 0 where
   pub half : half_for w.agent device ≡ Some one
   pub other_half : half_for v.agent device ≡ Some other
   pub site : site_for w.sites device ≡ Some x
@@ -18,7 +18,7 @@ pub record HaveIt (device : ℕ) (w v : WorldOf) (one other : HalfOf TimedOf) (x
 pub record AreAlike (device : ℕ) (w v : WorldOf) (one other : HalfOf TimedOf) (x y : SiteOf) : Type 0 where
   pub packages : v.packages ≡ w.packages
   pub now : v.now ≡ w.now
-  pub node : uncounted y.node ≡ uncounted x.node
+  pub node : node_without_faults y.node ≡ node_without_faults x.node
   pub half : other ≡ one
   pub deaf : v.agent.deaf ≡ w.agent.deaf
   pub agent_since_miss : v.since_miss ≡ w.since_miss
@@ -29,5 +29,5 @@ pub record AreAlike (device : ℕ) (w v : WorldOf) (one other : HalfOf TimedOf) 
 -- Worlds that differ in one of these don't agree.
 abbrev pub AgreementSeesThePair : Type 0
 AgreementSeesThePair =
-    (device : ℕ) (w v : WorldOf) (one other : HalfOf TimedOf) (x y : SiteOf) → HaveIt device w v one other x y → AgreeIn device w v
+    (device : ℕ) (w v : WorldOf) (one other : HalfOf TimedOf) (x y : SiteOf) → HaveDevice device w v one other x y → AgreeIn device w v
     → AreAlike device w v one other x y

@@ -11,22 +11,22 @@ abbrev pub units_of : Step → ℕ
 units_of (steps.Tick missed) = 1
 units_of s = 0
 
-abbrev pub passed : List Step → ℕ
-passed [] = 0
-passed (s ∷ ss) = units_of s + passed ss
+abbrev pub units_passed : List Step → ℕ
+units_passed [] = 0
+units_passed (s ∷ ss) = units_of s + units_passed ss
 
 -- the ticks that a node counts in them
 abbrev pub ticks_in : (eid : ℕ) → Step → ℕ
 ticks_in eid (steps.Tick missed) = if counts missed.items eid then 1 else 0
 ticks_in eid s = 0
 
-abbrev pub counted : (eid : ℕ) → List Step → ℕ
-counted eid [] = 0
-counted eid (s ∷ ss) = ticks_in eid s + counted eid ss
+abbrev pub ticks_counted_by : (eid : ℕ) → List Step → ℕ
+ticks_counted_by eid [] = 0
+ticks_counted_by eid (s ∷ ss) = ticks_in eid s + ticks_counted_by eid ss
 
 -- A node counts at most as many ticks as units pass; and these are at most its ticks, an eighth of them, rounded down, and one.
 abbrev pub KeepsTime : (eid : ℕ) → List Step → Type 0
-KeepsTime eid ss = (counted eid ss ≤ passed ss) × (passed ss ≤ late (counted eid ss))
+KeepsTime eid ss = (ticks_counted_by eid ss ≤ units_passed ss) × (units_passed ss ≤ late (ticks_counted_by eid ss))
 
 -- So does each node between any two moments of a run.
 abbrev pub RunsKeepTime : Type 0

@@ -12,30 +12,30 @@
 -- 4. `fw_message`, `Laws`: `IsSafeAndTied`, both; and `IsUnapplied`, a component without an applied image. `Pairs`: `PairOf`,
 --    a device and the agent's session for it, and `PairRun`, the same with what happened. `WorldLaws`: `history_of`, what
 --    happened to one device, in order.
--- 5. `mctp_wire`, `Units`: `Unit`, how much a packet carries, which all nodes share. `exch_lane`, `Lanes`: `Sent`, a packet as it was sent, with its date; `lives_until`, 8 units later; `numbered`, what a
+-- 5. `mctp_wire`, `Units`: `Unit`, how much a packet carries, which all nodes share. `exch_lane`, `Lanes`: `Sent`, a packet as it was sent, with its date; `lives_until`, 8 units later; `item_numbered`, what a
 --    list has at a number from 1 on; `IsEid`, 8 to 254. `Clocks`: `may_beat`, a node misses a tick only after eight that it
 --    counted.
 -- 6. `fd_core`, `States`: `DeviceOf`, a device, and `Phase`, where it is in an update. `Components`: `HasComponents`, its bank
---    has its components. `Banks`: `Rose`, a bank's count of failures rose, or stands at its last value. `Steps`:
+--    has its components. `Banks`: `CountsFailure`, a bank's count of failures rose, or stands at its last value. `Steps`:
 --    `device_verdict`, what a `Verdict` on an image makes of a device that waits for it.
 -- 7. `fw_node`, `Nodes`: `DeviceNodeOf`, a device's node, and `new_device_node`, one as it is made, with the `Endpoint` that
 --    it has. `Agents`: `new_agent`, the agent's node as it is made; `half_for`, what it has for a device; `free_for` and
---    `ready_for`, whether its session (`SessionOf`) is free, or ready to have the device activate; `starts` and `cancels`, the
+--    `ready_for`, whether its session (`SessionOf`) is free, or ready to have the device activate; `half_after_start` and `half_after_cancel`, the
 --    operator's calls.
 -- 8. `Worlds`: `WorldOf`, a world; `SiteOf`, a device's node with its packets; `place_of`, `site_for`, `packets_of`, `eids_of`
 --    and `pair_for`, what a world has of a device; `counts`, whether a node counts a tick. And what each kind of step makes of
---    a world: `delivers`, `ticks`, `calls`, `activates_on`, `judges`, `restarts`, `asks_log`.
+--    a world: `world_after_deliver`, `world_after_tick`, `world_after_call`, `activates_on`, `world_after_verdict`, `world_after_restart`, `world_after_log_request`.
 -- 9. `BankCalls`: `step_calls_bank`, whether a step has a device call its bank; `fd_core`, `BankCalls`, says where a device does.
--- 10. `Moments`: `IsGrown` and `IsTiedBetween`, what two moments have to do with each other.
+-- 10. `Moments`: `GrowsHistory` and `IsTiedBetween`, what two moments have to do with each other.
 -- 11. `Messages`: `IsRunOfMessages`, the same devices, sessions and history without packets, tags and time.
 -- 12. `Widths`: `HasDeviceWidths` and `HavePackageWidths`, what a device and the packages are made of fits the fields of messages.
 use Rattle.std.specs.Prelude.{ℕ, ◌≡◌, ◌≢◌, ◌≤◌, ◌-◌, ◌^◌, ◌==◌, ◌&&◌, ◌||◌, ◌∷◌, ◌++◌, [], Bool, true, false, if◌then◌else◌, nat_lt, nat_le, IfSome, IsSomeAnd, is_some, List, length, map, Option, Some, None}
 use Rattle.std.specs.List.{All, AllByRecursion, list_all}
 use Rattle.mctp_ctl.specs.declared.answers.Endpoint.{Endpoint}
 use Rattle.exch_lane.specs.Clocks.{may_beat}
-use Rattle.exch_lane.specs.Lanes.{IsEid, Sent, lives_until, numbered}
+use Rattle.exch_lane.specs.Lanes.{IsEid, Sent, lives_until, item_numbered}
 use Rattle.fw_package.specs.Package.{PackageText}
-use Rattle.fd_core.specs.Banks.{Rose}
+use Rattle.fd_core.specs.Banks.{CountsFailure}
 use Rattle.fd_core.specs.Components.{HasComponents}
 use Rattle.fd_core.specs.States.{DeviceOf, Phase}
 use Rattle.fd_core.specs.Steps.{device_verdict}
@@ -45,13 +45,13 @@ use Rattle.fw_message.specs.History.{EntryOf}
 use Rattle.fw_message.specs.Laws.{IsSafeAndTied, IsUnapplied}
 use Rattle.fw_message.specs.Pairs.{PairOf, PairRun}
 use Rattle.fw_message.specs.WorldLaws.{history_of}
-use Rattle.fw_node.specs.Agents.{cancels, free_for, half_for, new_agent, ready_for, starts}
+use Rattle.fw_node.specs.Agents.{half_after_cancel, free_for, half_for, new_agent, ready_for, half_after_start}
 use Rattle.fw_node.specs.Nodes.{DeviceNodeOf, new_device_node}
 use Rattle.fw_steps.specs.BankCalls.{step_calls_bank}
 use Rattle.fw_steps.specs.Messages.{IsRunOfMessages}
-use Rattle.fw_steps.specs.Moments.{IsGrown, IsTiedBetween}
+use Rattle.fw_steps.specs.Moments.{GrowsHistory, IsTiedBetween}
 use Rattle.fw_steps.specs.Widths.{HasDeviceWidths, HavePackageWidths}
-use Rattle.fw_steps.specs.Worlds.{SiteOf, WorldOf, activates_on, asks_log, calls, counts, delivers, eids_of, judges, packets_of, pair_for, place_of, restarts, site_for, ticks}
+use Rattle.fw_steps.specs.Worlds.{SiteOf, WorldOf, activates_on, world_after_log_request, world_after_call, counts, world_after_deliver, eids_of, world_after_verdict, packets_of, pair_for, place_of, world_after_restart, site_for, world_after_tick}
 use Rattle.fw_steps.specs.declared.step.Refusal.TheVariants as refusals
 use Rattle.fw_steps.specs.declared.step.Step.{Step}
 use Rattle.fw_steps.specs.declared.step.Step.TheVariants as steps
@@ -176,7 +176,7 @@ tick_fault true true true = None
 -- Why a step may not be taken; None where it may.
 abbrev pub may_step : WorldOf → Step → Option StepFault
 may_step w (steps.Deliver device number node) =
-    where_known (is_device w device && is_node w node) (packet_fault w.now (numbered (packets_of w device) number))
+    where_known (is_device w device && is_node w node) (packet_fault w.now (item_numbered (packets_of w device) number))
 may_step w (steps.Tick missed) = tick_fault (list_all (is_node w) missed.items) (nat_lt w.now (2 ^ 32 - 1)) (may_all_beat missed.items w)
 may_step w (steps.Start device number) = start_fault (is_package w.packages number) (free_for w.agent device)
 may_step w (steps.Cancel device) = where_known (has_session w device) None
@@ -191,16 +191,16 @@ may_step w (steps.Sel bytes) = None
 -- bank's count of failures then.
 abbrev pub world_after : (works : Bool) → (faults : ℕ) → WorldOf → Step → WorldOf
 world_after works faults w (steps.Deliver device number node) =
-    delivers works faults w node (numbered (packets_of w device) number)
-world_after works faults w (steps.Tick missed) = ticks missed.items w
-world_after works faults w (steps.Start device number) = calls w device (λ h. starts w.packages h number)
-world_after works faults w (steps.Cancel device) = calls w device (cancels w.packages)
+    world_after_deliver works faults w node (item_numbered (packets_of w device) number)
+world_after works faults w (steps.Tick missed) = world_after_tick missed.items w
+world_after works faults w (steps.Start device number) = world_after_call w device (λ h. half_after_start w.packages h number)
+world_after works faults w (steps.Cancel device) = world_after_call w device (half_after_cancel w.packages)
 world_after works faults w (steps.Activate device) =
     activates_on w device (ready_for w.agent device)
 world_after works faults w (steps.Verdict device verdict) =
-    judges works faults w verdict (place_of w.sites device) (site_for w.sites device)
-world_after works faults w (steps.Restart node) = restarts w node
-world_after works faults w (steps.Sel bytes) = asks_log w bytes.items
+    world_after_verdict works faults w verdict (place_of w.sites device) (site_for w.sites device)
+world_after works faults w (steps.Restart node) = world_after_restart w node
+world_after works faults w (steps.Sel bytes) = world_after_log_request w bytes.items
 
 -- the bank's count of failures of the device that a step is for
 abbrev pub faults_of : Option SiteOf → ℕ
@@ -225,22 +225,22 @@ faults_before w s = faults_of (site_for w.sites (node_of s))
 
 -- A step leads from one world to another: it may be taken, and a call of a bank fails only where the step has a device call its
 -- bank, and only where that bank's count of failures tells so.
-pub record Leads (w : WorldOf) (s : Step) (v : WorldOf) : Type 0 where
+pub record StepsTo (w : WorldOf) (s : Step) (v : WorldOf) : Type 0 where
   pub may : may_step w s ≡ None
   pub works : Bool
   pub faults : ℕ
   pub after : v ≡ world_after works faults w s
   pub worked : works ≡ true → faults ≡ faults_before w s
-  pub failed : works ≡ false → Rose (faults_before w s) faults
+  pub failed : works ≡ false → CountsFailure (faults_before w s) faults
   pub called : works ≡ false → step_calls_bank w s ≡ true
 
 -- each step leads on from where the one before it led
 abbrev pub Run : WorldOf → List Step → WorldOf → Type 0
 Run w [] v = v ≡ w
-Run w (s ∷ ss) v = (mid : WorldOf) × Leads w s mid × Run mid ss v
+Run w (s ∷ ss) v = (mid : WorldOf) × StepsTo w s mid × Run mid ss v
 
 -- some steps lead there
-pub record IsLed (w v : WorldOf) : Type 0 where
+pub record IsAfterSteps (w v : WorldOf) : Type 0 where
   pub steps : List Step
   pub run : Run w steps v
 
@@ -278,7 +278,7 @@ RunsJoin = (w v u : WorldOf) (ss ts : List Step) → Run w ss v → Run v ts u �
 
 -- The history only grows.
 abbrev pub RunsGrow : Type 0
-RunsGrow = (old new : WorldOf) (steps : List Step) → Run old steps new → IsGrown old new
+RunsGrow = (old new : WorldOf) (steps : List Step) → Run old steps new → GrowsHistory old new
 
 -- Any two moments of a run are tied.
 abbrev pub RunsStayTied : Type 0

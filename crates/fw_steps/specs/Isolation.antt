@@ -27,8 +27,8 @@ pub record SharedOf : Type 0 where
   pub history : List EntryOf
 
 -- the node with no failure of its bank counted
-abbrev pub uncounted : DeviceNodeOf → DeviceNodeOf
-uncounted n = record n { faults = 0 }
+abbrev pub node_without_faults : DeviceNodeOf → DeviceNodeOf
+node_without_faults n = record n { faults = 0 }
 
 -- what is shared with the device of this identifier, if the world has it
 abbrev pub shared_by : WorldOf → (device : ℕ) → Option (HalfOf TimedOf) → Option SiteOf → Option SharedOf
@@ -36,7 +36,7 @@ shared_by w device None x = None
 shared_by w device (Some h) None = None
 shared_by w device (Some h) (Some x) =
     Some (record {
-      node = uncounted x.node;
+      node = node_without_faults x.node;
       half = h;
       deaf = w.agent.deaf;
       agent_since_miss = w.since_miss;
@@ -57,15 +57,15 @@ pub record AgreeIn (device : ℕ) (w v : WorldOf) : Type 0 where
 
 -- A step concerns a device: a packet between the agent and the device comes to one of the two; a tick; the operator's calls
 -- for this device; a verdict on what it has written; and a restart of it or of the agent.
-abbrev pub concerns : (agent device : ℕ) → Step → Bool
-concerns agent device (steps.Deliver d number node) = (d == device) && ((node == agent) || (node == device))
-concerns agent device (steps.Tick missed) = true
-concerns agent device (steps.Start d number) = d == device
-concerns agent device (steps.Cancel d) = d == device
-concerns agent device (steps.Activate d) = d == device
-concerns agent device (steps.Verdict d verdict) = d == device
-concerns agent device (steps.Restart node) = (node == agent) || (node == device)
-concerns agent device (steps.Sel bytes) = false
+abbrev pub concerns_device : (agent device : ℕ) → Step → Bool
+concerns_device agent device (steps.Deliver d number node) = (d == device) && ((node == agent) || (node == device))
+concerns_device agent device (steps.Tick missed) = true
+concerns_device agent device (steps.Start d number) = d == device
+concerns_device agent device (steps.Cancel d) = d == device
+concerns_device agent device (steps.Activate d) = d == device
+concerns_device agent device (steps.Verdict d verdict) = d == device
+concerns_device agent device (steps.Restart node) = (node == agent) || (node == device)
+concerns_device agent device (steps.Sel bytes) = false
 
 -- What of it matters to the device: of a tick whether the agent and the device count it, of any other step all.
 pub data ConcernOf : Type 0 where
@@ -78,7 +78,7 @@ concern_of agent device s = ConcernOf.Takes s
 
 -- that of the steps of a schedule that concern it, in order
 abbrev pub steps_of : WorldOf → (device : ℕ) → List Step → List ConcernOf
-steps_of w device ss = map (concern_of w.agent.endpoint.eid device) (filter (concerns w.agent.endpoint.eid device) ss)
+steps_of w device ss = map (concern_of w.agent.endpoint.eid device) (filter (concerns_device w.agent.endpoint.eid device) ss)
 
 -- a device's bank's count of failures
 abbrev pub faults_at : WorldOf → (device : ℕ) → ℕ

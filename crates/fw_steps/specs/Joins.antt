@@ -7,48 +7,48 @@ use Rattle.fwup_wire.specs.Answers.{answer_in}
 use Rattle.fwup_wire.specs.Commands.{command_code, command_read, is_asked_of_agent}
 use Rattle.fwup_wire.specs.Values.{AnswerOf, CommandOf}
 use Rattle.fd_core.specs.Wishes.{device_wish}
-use Rattle.fw_message.specs.Pairs.{HeldOf, PairOf, down_wish, is_wished}
+use Rattle.fw_message.specs.Pairs.{CellContentOf, PairOf, down_wish, is_wished}
 use Rattle.fw_node.specs.Halves.{still_wished}
 use Rattle.fw_steps.specs.Links.{LinkOf}
 
 -- the bytes are this command
-pub record IsSaid (command : ℕ) (body : List ℕ) (c : CommandOf) : Type 0 where
+pub record DecodesToCommand (command : ℕ) (body : List ℕ) (c : CommandOf) : Type 0 where
   pub code : command ≡ command_code c
   pub reads : command_read command body ≡ Ok c
 
 -- a request without a reply is a command without an answer
-pub record IsAskedAs (command : ℕ) (body : List ℕ) (live : Bool) (h : HeldOf) : Type 0 where
-  pub said : IsSaid command body h.command
+pub record IsAskedAs (command : ℕ) (body : List ℕ) (live : Bool) (h : CellContentOf) : Type 0 where
+  pub said : DecodesToCommand command body h.command
   pub reply : h.reply ≡ None
   pub live_is : h.live ≡ live
 
 -- a request and its reply are a command and its answer, as they are read
-pub record IsAnsweredAs (command : ℕ) (body reply : List ℕ) (live : Bool) (h : HeldOf) : Type 0 where
-  pub said : IsSaid command body h.command
+pub record IsAnsweredAs (command : ℕ) (body reply : List ℕ) (live : Bool) (h : CellContentOf) : Type 0 where
+  pub said : DecodesToCommand command body h.command
   pub answer : AnswerOf
   pub reply_is : h.reply ≡ Some answer
   pub reads : answer_in command reply ≡ Some answer
   pub live_is : h.live ≡ live
 
 -- what a lane's cell is over whole messages
-abbrev pub StandsFor : Cell → Option HeldOf → Type 0
-StandsFor Cell.Empty None = Unit {0}
-StandsFor (Cell.Asked command body live) (Some h) = IsAskedAs command body live h
-StandsFor (Cell.Answered command body reply live) (Some h) = IsAnsweredAs command body reply live h
-StandsFor cell held = ⊥
+abbrev pub MatchesCell : Cell → Option CellContentOf → Type 0
+MatchesCell Cell.Empty None = Unit {0}
+MatchesCell (Cell.Asked command body live) (Some h) = IsAskedAs command body live h
+MatchesCell (Cell.Answered command body reply live) (Some h) = IsAnsweredAs command body reply live h
+MatchesCell cell held = ⊥
 
 -- what is waited for is what its asker wishes
-abbrev pub IsWishedIn : Option HeldOf → Option CommandOf → Type 0
+abbrev pub IsWishedIn : Option CellContentOf → Option CommandOf → Type 0
 IsWishedIn None wish = Unit {0}
 IsWishedIn (Some h) wish = h.live ≡ true → is_wished h.command wish ≡ true
 
 -- a command is one that the agent answers, or that a device answers
-abbrev pub IsFor : (agent : Bool) → CommandOf → Type 0
-IsFor agent c = is_asked_of_agent (command_code c) ≡ agent
+abbrev pub IsCommandFor : (agent : Bool) → CommandOf → Type 0
+IsCommandFor agent c = is_asked_of_agent (command_code c) ≡ agent
 
-abbrev pub IsHeldFor : (agent : Bool) → Option HeldOf → Type 0
-IsHeldFor agent None = Unit {0}
-IsHeldFor agent (Some h) = IsFor agent h.command
+abbrev pub IsCellFor : (agent : Bool) → Option CellContentOf → Type 0
+IsCellFor agent None = Unit {0}
+IsCellFor agent (Some h) = IsCommandFor agent h.command
 
 -- a cell after its asker gave up what it no longer wishes
 abbrev pub cell_kept : Bool → Cell → Cell
@@ -62,14 +62,14 @@ cell_unless wish (Some o) cell = cell_kept (still_wished wish o) cell
 
 -- A link and a pair: the same session, the same device, and in each way the lane's cell is the pair's. Each half has one deaf
 -- count, what is waited for is wished, and each command is one that the other half answers.
-pub record Joined (packages : List PackageText) (l : LinkOf) (down_cell up_cell : Cell) (m : PairOf) : Type 0 where
+pub record LinkMatchesPair (packages : List PackageText) (l : LinkOf) (down_cell up_cell : Cell) (m : PairOf) : Type 0 where
   pub session : m.session ≡ l.agent.core.session
   pub device : m.device ≡ l.device.core.device
-  pub down : StandsFor down_cell m.down
-  pub up : StandsFor up_cell m.up
+  pub down : MatchesCell down_cell m.down
+  pub up : MatchesCell up_cell m.up
   pub agent_deaf : l.agent.asker.deaf ≡ l.agent.taker.deaf
   pub device_deaf : l.device.asker.deaf ≡ l.device.taker.deaf
   pub down_wished : IsWishedIn m.down (down_wish packages m.session)
   pub up_wished : IsWishedIn m.up (device_wish m.device)
-  pub down_for : IsHeldFor false m.down
-  pub up_for : IsHeldFor true m.up
+  pub down_for : IsCellFor false m.down
+  pub up_for : IsCellFor true m.up

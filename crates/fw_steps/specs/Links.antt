@@ -4,11 +4,11 @@ use Rattle.std.specs.Prelude.{ℕ, ◌+◌, ◌-◌, ◌^◌, ◌&&◌, Bool, tr
 use Rattle.mctp_reasm.specs.Pieces.{MessageOf}
 use Rattle.pldm_exch.specs.Caller.{is_quiet}
 use Rattle.exch_lane.specs.Clocks.{may_beat, since_after}
-use Rattle.exch_lane.specs.Lanes.{Sent, lives_until, numbered}
-use Rattle.exch_lane.specs.Steps.{sendings}
+use Rattle.exch_lane.specs.Lanes.{Sent, lives_until, item_numbered}
+use Rattle.exch_lane.specs.Steps.{packets_of_message}
 use Rattle.fw_package.specs.Package.{PackageText}
 use Rattle.fd_core.specs.Commands.{device_take}
-use Rattle.fd_core.specs.Steps.{Judged, device_verdict}
+use Rattle.fd_core.specs.Steps.{VerdictEffect, device_verdict}
 use Rattle.fd_core.specs.declared.states.Verdict.{Verdict}
 use Rattle.ua_core.specs.Calls.{agent_activated}
 use Rattle.ua_core.specs.Serve.{recorded_by}
@@ -17,10 +17,10 @@ use Rattle.fw_message.specs.History.{EntryOf}
 use Rattle.fw_message.specs.Pairs.{may_start}
 use Rattle.fw_message.specs.declared.side.Side.{Side}
 use Rattle.fw_message.specs.declared.side.Side.TheVariants as sides
-use Rattle.fw_node.specs.Agents.{activates, cancels, starts}
+use Rattle.fw_node.specs.Agents.{half_after_activate, half_after_cancel, half_after_start}
 use Rattle.fw_node.specs.Cores.{TimedDevice, device_core, package_of, session_core}
 use Rattle.mctp_wire.specs.declared.unit.Unit.{«Unit»}
-use Rattle.fw_node.specs.Halves.{HalfHeard, HalfOf, half_hears, half_restarts, half_ticks, recast}
+use Rattle.fw_node.specs.Halves.{HalfOutcome, HalfOf, half_on_packet, half_restarts, half_ticks, half_with_core}
 
 -- both halves, the packets, dated, in the order of sending, and how many ticks each node counted since it last missed one
 pub record LinkOf : Type 0 where
@@ -47,46 +47,46 @@ pub record LinkStepped : Type 0 where
   pub noted : List EntryOf
 
 -- packets with those of these messages behind them, cut at this transmission unit
-abbrev pub posted : «Unit» → (now : ℕ) → List Sent → List MessageOf → List Sent
-posted u now ps [] = ps
-posted u now ps (m ∷ ms) = posted u now (ps ++ sendings u now m) ms
+abbrev pub packets_with_messages : «Unit» → (now : ℕ) → List Sent → List MessageOf → List Sent
+packets_with_messages u now ps [] = ps
+packets_with_messages u now ps (m ∷ ms) = packets_with_messages u now (ps ++ packets_of_message u now m) ms
 
 -- nothing happened to the device
-abbrev pub unnoted : LinkOf → LinkStepped
-unnoted l = record { after = l; noted = [] }
+abbrev pub link_step_without_entries : LinkOf → LinkStepped
+link_step_without_entries l = record { after = l; noted = [] }
 
 -- what the agent's half heard; a control message or one of another PLDM type isn't sent on a link
-abbrev pub agent_heard : (now : ℕ) → List PackageText → LinkOf → HalfHeard TimedOf → Option LinkStepped
-agent_heard now packages l (HalfHeard.Went half sent) =
-    Some (unnoted (record l { agent = half; packets = posted l.agent.unit now l.packets sent }))
-agent_heard now packages l (HalfHeard.Took half sent command answer) =
+abbrev pub link_step_of_agent : (now : ℕ) → List PackageText → LinkOf → HalfOutcome TimedOf → Option LinkStepped
+link_step_of_agent now packages l (HalfOutcome.Went half sent) =
+    Some (link_step_without_entries (record l { agent = half; packets = packets_with_messages l.agent.unit now l.packets sent }))
+link_step_of_agent now packages l (HalfOutcome.Took half sent command answer) =
     Some (record {
-      after = record l { agent = half; packets = posted l.agent.unit now l.packets sent };
+      after = record l { agent = half; packets = packets_with_messages l.agent.unit now l.packets sent };
       noted = map EntryOf.Recording (recorded_by (package_of packages l.agent.core.session) l.agent.core.session command);
     })
-agent_heard now packages l heard = None
+link_step_of_agent now packages l heard = None
 
 -- what the device's half heard
-abbrev pub device_heard : (now : ℕ) → Bool → LinkOf → HalfHeard TimedDevice → Option LinkStepped
-device_heard now works l (HalfHeard.Went half sent) =
-    Some (unnoted (record l { device = half; packets = posted l.device.unit now l.packets sent }))
-device_heard now works l (HalfHeard.Took half sent command answer) =
+abbrev pub link_step_of_device : (now : ℕ) → Bool → LinkOf → HalfOutcome TimedDevice → Option LinkStepped
+link_step_of_device now works l (HalfOutcome.Went half sent) =
+    Some (link_step_without_entries (record l { device = half; packets = packets_with_messages l.device.unit now l.packets sent }))
+link_step_of_device now works l (HalfOutcome.Took half sent command answer) =
     Some (record {
-      after = record l { device = half; packets = posted l.device.unit now l.packets sent };
+      after = record l { device = half; packets = packets_with_messages l.device.unit now l.packets sent };
       noted = map EntryOf.Activated (device_take l.device.core.device command (is_quiet l.device.asker.caller) works).activated;
     })
-device_heard now works l heard = None
+link_step_of_device now works l heard = None
 
 -- one of them hears these bytes
-abbrev pub hears_on : (now : ℕ) → List PackageText → LinkOf → Side → Bool → List ℕ → Option LinkStepped
-hears_on now packages l sides.Agent works bytes = agent_heard now packages l (half_hears (session_core packages) true l.agent bytes)
-hears_on now packages l sides.Device works bytes = device_heard now works l (half_hears device_core works l.device bytes)
+abbrev pub link_step_of_packet : (now : ℕ) → List PackageText → LinkOf → Side → Bool → List ℕ → Option LinkStepped
+link_step_of_packet now packages l sides.Agent works bytes = link_step_of_agent now packages l (half_on_packet (session_core packages) true l.agent bytes)
+link_step_of_packet now packages l sides.Device works bytes = link_step_of_device now works l (half_on_packet device_core works l.device bytes)
 
 -- a packet comes as long as it lives
 abbrev pub delivers_on : (now : ℕ) → List PackageText → LinkOf → Side → Bool → Option Sent → Option LinkStepped
 delivers_on now packages l to works None = None
 delivers_on now packages l to works (Some p) =
-    if nat_lt (lives_until p) now then None else hears_on now packages l to works p.bytes
+    if nat_lt (lives_until p) now then None else link_step_of_packet now packages l to works p.bytes
 
 -- both tick, and what they send is dated with the new time, the agent's before the device's
 abbrev pub link_ticks : (now : ℕ) → List PackageText → LinkOf → (agent device : Bool) → LinkOf
@@ -94,8 +94,8 @@ link_ticks now packages l agent device =
     record {
       agent = (half_ticks (session_core packages) agent l.agent).half;
       device = (half_ticks device_core device l.device).half;
-      packets = posted l.device.unit (now + 1)
-          (posted l.agent.unit (now + 1) l.packets (half_ticks (session_core packages) agent l.agent).sent)
+      packets = packets_with_messages l.device.unit (now + 1)
+          (packets_with_messages l.agent.unit (now + 1) l.packets (half_ticks (session_core packages) agent l.agent).sent)
           (half_ticks device_core device l.device).sent;
       agent_since_miss = since_after agent l.agent_since_miss;
       device_since_miss = since_after device l.device_since_miss;
@@ -103,36 +103,36 @@ link_ticks now packages l agent device =
 
 abbrev pub activates_on : List PackageText → LinkOf → Option SessionOf → Option LinkStepped
 activates_on packages l None = None
-activates_on packages l (Some s) = Some (unnoted (record l { agent = activates packages l.agent s }))
+activates_on packages l (Some s) = Some (link_step_without_entries (record l { agent = half_after_activate packages l.agent s }))
 
-abbrev pub judges_on : LinkOf → Option Judged → Option LinkStepped
-judges_on l None = None
-judges_on l (Some j) =
+abbrev pub link_step_of_verdict : LinkOf → Option VerdictEffect → Option LinkStepped
+link_step_of_verdict l None = None
+link_step_of_verdict l (Some j) =
     Some (record {
-      after = record l { device = recast device_core l.device (record { device = j.after; idle = 0 }) };
+      after = record l { device = half_with_core device_core l.device (record { device = j.after; idle = 0 }) };
       noted = map EntryOf.Applied j.applied;
     })
 
 -- A step of a link at this moment, if it may be taken.
 abbrev pub link_after : (now : ℕ) → List PackageText → LinkOf → LinkStep → Option LinkStepped
 link_after now packages l (LinkStep.Deliver number to works) =
-    delivers_on now packages l to works (numbered l.packets number)
+    delivers_on now packages l to works (item_numbered l.packets number)
 link_after now packages l (LinkStep.Tick agent device) =
     if nat_lt now (2 ^ 32 - 1) && (may_beat agent l.agent_since_miss && may_beat device l.device_since_miss) then
-    Some (unnoted (link_ticks now packages l agent device))
+    Some (link_step_without_entries (link_ticks now packages l agent device))
     else None
 link_after now packages l (LinkStep.Start number) =
     if may_start packages l.agent.core.session number then
-    Some (unnoted (record l { agent = starts packages l.agent number }))
+    Some (link_step_without_entries (record l { agent = half_after_start packages l.agent number }))
     else None
-link_after now packages l LinkStep.Cancel = Some (unnoted (record l { agent = cancels packages l.agent }))
+link_after now packages l LinkStep.Cancel = Some (link_step_without_entries (record l { agent = half_after_cancel packages l.agent }))
 link_after now packages l LinkStep.Activate = activates_on packages l (agent_activated l.agent.core.session)
 link_after now packages l (LinkStep.Judge verdict works) =
-    judges_on l (device_verdict l.device.core.device verdict works)
+    link_step_of_verdict l (device_verdict l.device.core.device verdict works)
 link_after now packages l (LinkStep.Restart sides.Agent) =
-    Some (unnoted (record l { agent = half_restarts (session_core packages) l.agent }))
+    Some (link_step_without_entries (record l { agent = half_restarts (session_core packages) l.agent }))
 link_after now packages l (LinkStep.Restart sides.Device) =
-    Some (unnoted (record l { device = half_restarts device_core l.device }))
+    Some (link_step_without_entries (record l { device = half_restarts device_core l.device }))
 
 -- the time after it
 abbrev pub time_after : (now : ℕ) → LinkStep → ℕ

@@ -6,11 +6,11 @@ use Rattle.exch_lane.specs.Cells.{Cell}
 use Rattle.fw_package.specs.Package.{PackageText}
 use Rattle.fw_message.specs.History.{EntryOf}
 use Rattle.fw_message.specs.Names.{HasName}
-use Rattle.fw_message.specs.Pairs.{PairOf, StepOf, message_along, noted}
+use Rattle.fw_message.specs.Pairs.{PairOf, StepOf, message_along, history_with}
 use Rattle.fw_message.specs.declared.side.Side.TheVariants as sides
-use Rattle.fw_steps.specs.Joins.{Joined}
+use Rattle.fw_steps.specs.Joins.{LinkMatchesPair}
 use Rattle.fw_steps.specs.Lanes.{LinkExplained}
-use Rattle.fw_steps.specs.LinksAreLanes.{CanBeSaid, StepsInLanes}
+use Rattle.fw_steps.specs.LinksAreLanes.{LinkStepRoundTrips, StepsInLanes}
 use Rattle.fw_steps.specs.Links.{LinkOf, LinkStep, LinkStepped}
 
 -- A restart of the agent is one of its session; any other step of a link is steps that don't restart a session alone.
@@ -25,8 +25,8 @@ pub record StepsInMessages (packages : List PackageText) (m : PairOf) (s : LinkS
   pub named : AreStepsOf s steps
   pub pair : PairOf
   pub along : (es : List EntryOf) → message_along packages (Some (record { pair = m; entries = es })) steps
-      ≡ Some (record { pair = pair; entries = noted es t.noted })
-  pub joined : Joined packages t.after down_cell up_cell pair
+      ≡ Some (record { pair = pair; entries = history_with es t.noted })
+  pub joined : LinkMatchesPair packages t.after down_cell up_cell pair
 
 -- From every link that is explained and a pair that is joined with it, whatever is lost, repeated, reordered or late and
 -- whoever restarts.
@@ -34,5 +34,5 @@ abbrev pub LinksAreMessages : Type 0
 LinksAreMessages =
     (now : ℕ) (packages : List PackageText) (l : LinkOf) (s : LinkStep) (before : LinkExplained now l)
     (on : StepsInLanes now packages l s before) (m : PairOf)
-    → CanBeSaid packages l s → Joined packages l before.down.run.cell before.up.run.cell m
+    → LinkStepRoundTrips packages l s → LinkMatchesPair packages l before.down.run.cell before.up.run.cell m
     → StepsInMessages packages m s on.stepped on.explained.down.run.cell on.explained.up.run.cell

@@ -1,9 +1,9 @@
 -- What a run of packets is over whole messages: steps of commands that are asked, taken, answered, learnt or given up, without
 -- packets, tags and time, lead to the same devices and sessions, with the same history.
 use Rattle.std.specs.Prelude.{◌≡◌, List, map}
-use Rattle.fw_message.specs.Replays.{CountedWorldOf, Run as MessageRun}
-use Rattle.fw_message.specs.WorldLaws.{IsOpeningWorld as IsOpeningMessages}
-use Rattle.fw_message.specs.Worlds.{WorldOf as MessageWorldOf}
+use Rattle.fw_message.specs.Replays.{CountedWorldOf, MessageRun as MessageRun}
+use Rattle.fw_message.specs.WorldLaws.{IsOpeningMessageWorld as IsOpeningMessages}
+use Rattle.fw_message.specs.Worlds.{MessageWorldOf as MessageWorldOf}
 use Rattle.fw_message.specs.declared.step.MessageStep.{MessageStep}
 use Rattle.fw_steps.specs.Worlds.{WorldOf}
 

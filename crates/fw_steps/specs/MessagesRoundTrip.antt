@@ -6,12 +6,12 @@
 use Rattle.std.specs.Prelude.{ℕ, ◌≡◌, Bool, true, List, IfSome, IsSomeAnd}
 use Rattle.mctp_wire.specs.declared.unit.Unit.TheVariants.{U64}
 use Rattle.fw_package.specs.Package.{PackageText}
-use Rattle.fwup_wire.specs.Commands.{IsSpoken}
+use Rattle.fwup_wire.specs.Commands.{CommandRoundTrips}
 use Rattle.ua_core.specs.Session.{TimedOf}
 use Rattle.fw_node.specs.Agents.{half_for}
 use Rattle.fw_node.specs.Cores.{TimedDevice, device_core, session_core}
-use Rattle.fw_node.specs.Halves.{HalfOf, half_hears, half_ticks}
-use Rattle.fw_node.specs.Nodes.{IsTold}
+use Rattle.fw_node.specs.Halves.{HalfOf, half_on_packet, half_ticks}
+use Rattle.fw_node.specs.Nodes.{TakenAnswerRoundTrips}
 use Rattle.fw_steps.specs.Headline.{IsOpeningWorld, Run, is_device}
 use Rattle.fw_steps.specs.Worlds.{WorldOf, site_for}
 use Rattle.fw_steps.specs.declared.step.Step.{Step}
@@ -20,10 +20,10 @@ use Rattle.fw_steps.specs.declared.step.Step.{Step}
 -- also one that was never sent (`agent_answers`, `device_answers`). A request is what the half
 -- wishes to ask after its next tick (`agent_asks`, `device_asks`).
 pub record RoundTrips (packages : List PackageText) (agent : HalfOf TimedOf) (device : HalfOf TimedDevice) : Type 0 where
-  pub agent_answers : (bytes : List ℕ) → IsTold agent.core.session.unit (half_hears (session_core packages) true agent bytes)
-  pub device_answers : (works : Bool) (bytes : List ℕ) → IsTold U64 (half_hears device_core works device bytes)
-  pub agent_asks : IfSome ((session_core packages).wish (half_ticks (session_core packages) true agent).half.core) IsSpoken
-  pub device_asks : IfSome (device_core.wish (half_ticks device_core true device).half.core) IsSpoken
+  pub agent_answers : (bytes : List ℕ) → TakenAnswerRoundTrips agent.core.session.unit (half_on_packet (session_core packages) true agent bytes)
+  pub device_answers : (works : Bool) (bytes : List ℕ) → TakenAnswerRoundTrips U64 (half_on_packet device_core works device bytes)
+  pub agent_asks : IfSome ((session_core packages).wish (half_ticks (session_core packages) true agent).half.core) CommandRoundTrips
+  pub device_asks : IfSome (device_core.wish (half_ticks device_core true device).half.core) CommandRoundTrips
 
 -- Along every run, each device of the opening world is there, the agent has a half for it, and what
 -- is said between the two reads back.

@@ -3,10 +3,10 @@ use Rattle.std.specs.Prelude.{ℕ, zero, suc, ◌+◌, ◌≡◌, ◌≤◌, Boo
 use Rattle.mctp_wire.specs.declared.layout.TheConstants.{MAX_PACKET}
 use Rattle.exch_lane.specs.Lanes.{Sent, lives_until}
 use Rattle.fw_steps.specs.declared.packets.Place.{Place}
-use Rattle.fw_steps.specs.declared.packets.SentPacket.{SentPacket}
+use Rattle.fw_steps.specs.declared.packets.DatedPacket.{DatedPacket}
 
 -- a packet that is lent
-abbrev pub sent_of : SentPacket → Sent
+abbrev pub sent_of : DatedPacket → Sent
 sent_of p = record { date = p.date; bytes = p.bytes.now }
 
 -- packets, and the room that there is for more
@@ -20,9 +20,9 @@ packets_in start [] bytes = []
 packets_in start (p ∷ ps) bytes = record { date = p.date; bytes = slice_range bytes start p.end } ∷ packets_in p.end ps bytes
 
 -- each packet is as long as a packet may be, and the last one ends where the bytes end
-abbrev pub AreEnds : (start : ℕ) → List Place → (size : ℕ) → Type 0
-AreEnds start [] size = start ≡ size
-AreEnds start (p ∷ ps) size = (start ≤ p.end) × (p.end ≤ start + MAX_PACKET) × AreEnds p.end ps size
+abbrev pub AreLengthsEnds : (start : ℕ) → List Place → (size : ℕ) → Type 0
+AreLengthsEnds start [] size = start ≡ size
+AreLengthsEnds start (p ∷ ps) size = (start ≤ p.end) × (p.end ≤ start + MAX_PACKET) × AreLengthsEnds p.end ps size
 
 -- where the packet behind so many begins
 abbrev pub start_at : (start : ℕ) → List Place → ℕ → ℕ

@@ -10,14 +10,14 @@ use Rattle.exch_lane.specs.Lanes.{Sent}
 use Rattle.exch_lane.specs.Steps.{sent_at}
 use Rattle.fw_package.specs.Package.{PackageText}
 use Rattle.fd_core.specs.BankCalls.{verdict_calls_bank}
-use Rattle.fd_core.specs.Banks.{Rose}
+use Rattle.fd_core.specs.Banks.{CountsFailure}
 use Rattle.fd_core.specs.Steps.{device_verdict}
 use Rattle.fd_core.specs.declared.states.Verdict.{Verdict}
 use Rattle.fw_message.specs.History.{EntryOf}
 use Rattle.fw_message.specs.Worlds.{NotedOf}
 use Rattle.fw_message.specs.Laws.{IsSafeAndTied}
 use Rattle.fw_message.specs.WorldLaws.{history_of}
-use Rattle.fw_node.specs.Agents.{AgentOf, agent_hears, any_packet, free_for, half_for, ready_for}
+use Rattle.fw_node.specs.Agents.{AgentOf, agent_on_packet, any_packet, free_for, half_for, ready_for}
 use Rattle.fw_node.specs.BankCalls.{packet_calls_bank}
 use Rattle.fw_node.specs.Cores.{device_core}
 use Rattle.fw_node.specs.Nodes.{DeviceNodeOf}
@@ -118,7 +118,7 @@ device_play_calls eid (h ∷ hs) = device_calls_of eid h ++ device_play_calls ei
 
 -- what the agent records in a call, with the device that each record is of
 abbrev pub agent_call_notes : List PackageText → AgentOf → AgentCall → List NotedOf
-agent_call_notes packages n (AgentCall.Receives now bytes) = recorded_from n (agent_hears packages n bytes now).agent (sender_of (any_packet bytes))
+agent_call_notes packages n (AgentCall.Receives now bytes) = recorded_from n (agent_on_packet packages n bytes now).agent (sender_of (any_packet bytes))
 agent_call_notes packages n call = []
 
 abbrev pub agent_step_notes : List PackageText → AgentOf → List AgentCall → List NotedOf
@@ -160,7 +160,7 @@ AgentMayCall packages n call = Unit {0}
 -- calls the bank has one that fails.
 pub record CallsBank (calls : Bool) (before : ℕ) (works : Bool) (faults : ℕ) : Type 0 where
   pub worked : works ≡ true → faults ≡ before
-  pub failed : works ≡ false → Rose before faults
+  pub failed : works ≡ false → CountsFailure before faults
   pub called : works ≡ false → calls ≡ true
 
 abbrev pub DeviceMayCall : DeviceNodeOf → DeviceCall → Type 0

@@ -23,5 +23,5 @@ needs_memory (steps.Verdict device verdict) = adds_entry verdict
 needs_memory s = false
 
 -- Why a step isn't taken: it may not be, for this reason; or it may, and memory that it needs is refused.
-abbrev pub Refuses : WorldOf → Step → StepFault → Type 0
-Refuses w s e = (may_step w s ≡ Some e) ⊎ ((e ≡ faults.Memory) × (needs_memory s ≡ true) × (may_step w s ≡ None))
+abbrev pub RefusesStep : WorldOf → Step → StepFault → Type 0
+RefusesStep w s e = (may_step w s ≡ Some e) ⊎ ((e ≡ faults.Memory) × (needs_memory s ≡ true) × (may_step w s ≡ None))

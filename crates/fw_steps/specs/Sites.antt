@@ -1,9 +1,9 @@
 -- A device's node in the world, as the code has it.
 use Rattle.std.specs.Prelude.{ℕ, ◌≡◌, ◌≤◌, ◌<◌, ◌⊎◌, ◌++◌, [], ◌∷◌, Bool, false, true, IfSome, is_some, List, length, map, slice_get, slice_set, Option, Some, None}
 use Rattle.fd_core.specs.BankCalls.{verdict_calls_bank}
-use Rattle.fd_core.specs.Banks.{Rose}
+use Rattle.fd_core.specs.Banks.{CountsFailure}
 use Rattle.fd_core.specs.States.{DeviceState, Phase}
-use Rattle.fd_core.specs.Images.{Put, RowOf, applied_of, puts, row_of}
+use Rattle.fd_core.specs.Images.{KeyedImage, RowOf, applied_of, applied_keyed_images, row_of}
 use Rattle.fwup_wire.specs.declared.values.Key.{Key}
 use Rattle.fd_core.specs.Steps.{applied_by, device_verdict}
 use Rattle.fd_core.specs.declared.states.Verdict.{Verdict}
@@ -11,45 +11,45 @@ use Rattle.fw_message.specs.History.{EntryOf}
 use Rattle.fw_message.specs.Worlds.{NotedOf, noted_of}
 use Rattle.fw_node.specs.BankCalls.{packet_calls_bank}
 use Rattle.fw_node.specs.Cores.{device_core}
-use Rattle.fw_node.specs.Nodes.{device_hears, device_judges}
+use Rattle.fw_node.specs.Nodes.{device_on_packet, device_on_verdict}
 use Rattle.fw_node.specs.Packets.{all_packets}
 use Rattle.fw_steps.specs.Worlds.{SiteOf, activated_at, node_becomes, sent_now}
 
 -- a device's node with its packets, and the room that there is for more
-pub record RoomyOf : Type 0 where
+pub record SiteWithRoom : Type 0 where
   pub site : SiteOf
   pub room : ℕ
 
 -- What a packet makes of a device's node and its packets: `works` says whether its bank's one call succeeded. A call fails only
 -- where the packet has the node call its bank, and only where the bank's count of failures tells so.
-pub record Hears (now : ℕ) (old : SiteOf) (bytes : List ℕ) (new : SiteOf) : Type 0 where
+pub record HandlesPacketAtSite (now : ℕ) (old : SiteOf) (bytes : List ℕ) (new : SiteOf) : Type 0 where
   pub works : Bool
-  pub node : new.node ≡ node_becomes old.node new.node.faults (device_hears works old.node bytes).tid (device_hears works old.node bytes).half
+  pub node : new.node ≡ node_becomes old.node new.node.faults (device_on_packet works old.node bytes).tid (device_on_packet works old.node bytes).half
   pub since_miss : new.since_miss ≡ old.since_miss
-  pub packets : new.packets ≡ old.packets ++ sent_now now (all_packets old.node.half.unit (device_hears works old.node bytes).sent)
+  pub packets : new.packets ≡ old.packets ++ sent_now now (all_packets old.node.half.unit (device_on_packet works old.node bytes).sent)
   pub worked : works ≡ true → new.node.faults ≡ old.node.faults
-  pub failed : works ≡ false → Rose old.node.faults new.node.faults
+  pub failed : works ≡ false → CountsFailure old.node.faults new.node.faults
   pub called : works ≡ false → packet_calls_bank device_core old.node.half bytes ≡ true
 
 -- and of the history: what is activated is noted
-pub record HearsNoting (now : ℕ) (old : SiteOf) (bytes : List ℕ) (new : SiteOf) (before after : List NotedOf) : Type 0 where
-  pub heard : Hears now old bytes new
+pub record NotesPacketAtSite (now : ℕ) (old : SiteOf) (bytes : List ℕ) (new : SiteOf) (before after : List NotedOf) : Type 0 where
+  pub heard : HandlesPacketAtSite now old bytes new
   pub history : after ≡ before ++ map (λ p. noted_of old.node.endpoint.eid (EntryOf.Activated p)) (activated_at heard.works old.node bytes)
 
 -- what a verdict makes of them
-pub record Judges (old : SiteOf) (verdict : Verdict) (new : SiteOf) : Type 0 where
+pub record HandlesVerdictAtSite (old : SiteOf) (verdict : Verdict) (new : SiteOf) : Type 0 where
   pub works : Bool
   pub counts : is_some (device_verdict old.node.half.core.device verdict works) ≡ true
-  pub node : new.node ≡ node_becomes old.node new.node.faults old.node.tid (device_judges works old.node verdict)
+  pub node : new.node ≡ node_becomes old.node new.node.faults old.node.tid (device_on_verdict works old.node verdict)
   pub since_miss : new.since_miss ≡ old.since_miss
   pub packets : new.packets ≡ old.packets
   pub worked : works ≡ true → new.node.faults ≡ old.node.faults
-  pub failed : works ≡ false → Rose old.node.faults new.node.faults
+  pub failed : works ≡ false → CountsFailure old.node.faults new.node.faults
   pub called : works ≡ false → verdict_calls_bank old.node.half.core.device verdict ≡ true
 
 -- and of the history: what is applied is noted
-pub record JudgesNoting (old : SiteOf) (verdict : Verdict) (new : SiteOf) (before after : List NotedOf) : Type 0 where
-  pub judged : Judges old verdict new
+pub record NotesVerdictAtSite (old : SiteOf) (verdict : Verdict) (new : SiteOf) (before after : List NotedOf) : Type 0 where
+  pub judged : HandlesVerdictAtSite old verdict new
   pub history : after ≡ before ++ map (λ p. noted_of old.node.endpoint.eid (EntryOf.Applied p)) (applied_by old.node.half.core.device verdict judged.works)
 
 -- the device waits for the next component, or for its activation
@@ -63,41 +63,41 @@ is_activated Phase.Activated = true
 is_activated p = false
 
 -- these copies, if there are any, are what is applied
-abbrev pub AreReady : DeviceState → Option (List Put) → Type 0
-AreReady v None = Unit {0}
-AreReady v (Some images) = (is_ready v.phase ≡ true) × (images ≡ puts v.rows)
+abbrev pub AreReadyImages : DeviceState → Option (List KeyedImage) → Type 0
+AreReadyImages v None = Unit {0}
+AreReadyImages v (Some images) = (is_ready v.phase ≡ true) × (images ≡ applied_keyed_images v.rows)
 
 -- a copy of the image that is applied for this component, where there is room for it
-abbrev pub IsCopyOf : List RowOf → (capacity : ℕ) → List Put → Option (Key × ℕ) → Type 0
+abbrev pub IsCopyOf : List RowOf → (capacity : ℕ) → List KeyedImage → Option (Key × ℕ) → Type 0
 IsCopyOf rows capacity images None = Unit {0}
 IsCopyOf rows capacity images (Some s) = IfSome (applied_of (row_of rows s.0)) (λ image. length image.bytes ≤ capacity → images ≡ record { key = s.0; bytes = image.bytes } ∷ [])
 
 -- each of these has room for so many packets
-abbrev pub HaveRoom : ℕ → List RoomyOf → Type 0
+abbrev pub HaveRoom : ℕ → List SiteWithRoom → Type 0
 HaveRoom n [] = Unit {0}
 HaveRoom n (s ∷ ss) = (n ≤ s.room) × HaveRoom n ss
 
 -- one of these lacks it
-abbrev pub LacksRoom : ℕ → List RoomyOf → Type 0
-LacksRoom n [] = ⊥
-LacksRoom n (s ∷ ss) = (s.room < n) ⊎ LacksRoom n ss
+abbrev pub HasFullSite : ℕ → List SiteWithRoom → Type 0
+HasFullSite n [] = ⊥
+HasFullSite n (s ∷ ss) = (s.room < n) ⊎ HasFullSite n ss
 
 -- the nodes with their packets
-abbrev pub sites_of : List RoomyOf → List SiteOf
+abbrev pub sites_of : List SiteWithRoom → List SiteOf
 sites_of ss = map (λ s. s.site) ss
 
 -- One of the nodes hears a packet.
-pub record HeardAt (now : ℕ) (old : List SiteOf) (place : ℕ) (bytes : List ℕ) (new : List SiteOf) (before after : List NotedOf) : Type 0 where
+pub record NotesPacketAtPlace (now : ℕ) (old : List SiteOf) (place : ℕ) (bytes : List ℕ) (new : List SiteOf) (before after : List NotedOf) : Type 0 where
   pub site : SiteOf
   pub became : SiteOf
   pub there : slice_get old place ≡ Some site
-  pub heard : HearsNoting now site bytes became before after
+  pub heard : NotesPacketAtSite now site bytes became before after
   pub put : new ≡ slice_set old place became
 
 -- One of them has a verdict.
-pub record JudgedAt (old : List SiteOf) (place : ℕ) (verdict : Verdict) (new : List SiteOf) (before after : List NotedOf) : Type 0 where
+pub record NotesVerdictAtPlace (old : List SiteOf) (place : ℕ) (verdict : Verdict) (new : List SiteOf) (before after : List NotedOf) : Type 0 where
   pub site : SiteOf
   pub became : SiteOf
   pub there : slice_get old place ≡ Some site
-  pub judged : JudgesNoting site verdict became before after
+  pub judged : NotesVerdictAtSite site verdict became before after
   pub put : new ≡ slice_set old place became

@@ -3,19 +3,19 @@
 use Rattle.std.specs.Prelude.{ℕ, ◌≡◌, ◌≤◌, ◌<◌, ◌^◌, List, IfSome, length}
 use Rattle.std.specs.List.{AllByRecursion}
 use Rattle.fw_package.specs.Package.{ComponentOf, PackageText}
-use Rattle.fwup_wire.specs.Commands.{HasWidths}
+use Rattle.fwup_wire.specs.Commands.{HasCommandWidths}
 use Rattle.fwup_wire.specs.Descriptors.{HasDescriptorWidths, descriptors_bytes}
 use Rattle.fwup_wire.specs.Items.{EachItem}
-use Rattle.fwup_wire.specs.Values.{DescriptorOf}
+use Rattle.fwup_wire.specs.Values.{DeviceDescriptorOf}
 use Rattle.fwup_wire.specs.declared.values.Key.{Key}
 use Rattle.fd_core.specs.Components.{HasComponents}
 use Rattle.fd_core.specs.Images.{ImageOf, LabelOf, RowOf, active_of, row_of}
 use Rattle.fw_message.specs.Laws.{IsUnapplied}
 use Rattle.fd_core.specs.States.{DeviceState, Phase}
-use Rattle.fd_core.specs.declared.parts.Component.{Component}
-use Rattle.fw_message.specs.Pairs.{HeldOf, PairOf, Stepped}
-use Rattle.fw_message.specs.Worlds.{NodeOf, WorldOf}
-use Rattle.ua_core.specs.Laws.{StandsInPlan}
+use Rattle.fd_core.specs.declared.parts.BankComponent.{BankComponent}
+use Rattle.fw_message.specs.Pairs.{CellContentOf, PairOf, Stepped}
+use Rattle.fw_message.specs.Worlds.{NodeOf, MessageWorldOf}
+use Rattle.ua_core.specs.Laws.{IsStageInPlan}
 use Rattle.ua_core.specs.Lent.{package_at}
 use Rattle.ua_core.specs.Session.{SessionOf}
 
@@ -34,7 +34,7 @@ pub record HasRowWidths (row : RowOf) : Type 0 where
 abbrev pub HasKeyWidths : Key → Type 0
 HasKeyWidths key = (key.classification < 256 ^ 2) × (key.identifier < 256 ^ 2)
 
-abbrev pub HasComponentKeyWidths : Component → Type 0
+abbrev pub HasComponentKeyWidths : BankComponent → Type 0
 HasComponentKeyWidths c = HasKeyWidths c.key
 
 -- The work at hand fits its reports, with `have` bytes of the image written.
@@ -45,7 +45,7 @@ HasPhaseWidths (Phase.Apply u w p) have = HasLabelWidths w.label
 HasPhaseWidths p have = Unit {0}
 
 -- Descriptors fit their fields, and an answer (246 bytes).
-pub record HasDescriptorListWidths (ds : List DescriptorOf) : Type 0 where
+pub record HasDescriptorListWidths (ds : List DeviceDescriptorOf) : Type 0 where
   pub widths : EachItem HasDescriptorWidths ds
   pub few : length ds < 256
   pub short : length (descriptors_bytes ds) ≤ 246
@@ -66,31 +66,31 @@ abbrev pub HasWidthsAsNew : DeviceState → Type 0
 HasWidthsAsNew v = HasComponents v → v.phase ≡ Phase.Idle → AllByRecursion IsUnapplied v.rows → HasDeviceWidths v
 
 -- A component's key, and the label of the image of it that runs.
-pub record HasKeyAndLabelWidths (rows : List RowOf) (c : Component) : Type 0 where
+pub record HasKeyAndLabelWidths (rows : List RowOf) (c : BankComponent) : Type 0 where
   pub key : HasComponentKeyWidths c
   pub label : IfSome (active_of (row_of rows c.key)) HasImageWidths
 
 -- A descriptor's type fits its field.
-abbrev pub HasKindWidth : DescriptorOf → Type 0
+abbrev pub HasKindWidth : DeviceDescriptorOf → Type 0
 HasKindWidth d = d.kind < 256 ^ 2
 
 -- A package's component fits the fields of the commands that name it.
-pub record HasComponentWidths (c : ComponentOf) : Type 0 where
+pub record HasPlannedWidths (c : ComponentOf) : Type 0 where
   pub classification : c.classification < 256 ^ 2
   pub identifier : c.identifier < 256 ^ 2
   pub stamp : c.stamp < 256 ^ 4
 
 abbrev pub HasPackageWidths : PackageText → Type 0
-HasPackageWidths p = AllByRecursion HasComponentWidths p.components
+HasPackageWidths p = AllByRecursion HasPlannedWidths p.components
 
 abbrev pub SessionIsInPlan : List PackageText → SessionOf → Type 0
-SessionIsInPlan packages s = StandsInPlan (package_at packages s.number) s.stage
+SessionIsInPlan packages s = IsStageInPlan (package_at packages s.number) s.stage
 
 -- A device, its session, and the command on its way to the device.
 pub record HasPairWidths (packages : List PackageText) (m : PairOf) : Type 0 where
   pub device : HasDeviceWidths m.device
   pub session : SessionIsInPlan packages m.session
-  pub down : IfSome m.down (λ (h : HeldOf). HasWidths h.command)
+  pub down : IfSome m.down (λ (h : CellContentOf). HasCommandWidths h.command)
 
 abbrev pub HavePackageWidths : List PackageText → Type 0
 HavePackageWidths packages = AllByRecursion HasPackageWidths packages
@@ -100,6 +100,6 @@ abbrev pub HasSteppedWidths : List PackageText → Stepped → Type 0
 HasSteppedWidths packages t = HasPairWidths packages t.after
 
 -- All devices of a world of messages, and its packages.
-pub record HaveMessageWidths (w : WorldOf) : Type 0 where
+pub record HaveMessageWidths (w : MessageWorldOf) : Type 0 where
   pub packages : HavePackageWidths w.packages
   pub pairs : AllByRecursion (λ (n : NodeOf). HasPairWidths w.packages n.pair) w.nodes

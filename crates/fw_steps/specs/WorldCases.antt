@@ -5,8 +5,8 @@ use Rattle.fd_core.specs.Images.{RowOf}
 use Rattle.fd_core.specs.States.{Phase}
 use Rattle.ua_core.specs.Session.{TimedOf}
 use Rattle.ua_core.specs.declared.planned.Recorded.{Recorded}
-use Rattle.fw_message.specs.Cases.{activates, bank, boot, image, new_boot, old_boot, packages, recorded, worked}
-use Rattle.fw_message.specs.Worlds.{NodeOf, NotedOf, WorldOf as MessageWorldOf, noted_of}
+use Rattle.fw_message.specs.Cases.{activates, bank, boot, image, new_boot, old_boot, packages, recorded_component, worked_update}
+use Rattle.fw_message.specs.Worlds.{NodeOf, NotedOf, MessageWorldOf as MessageWorldOf, noted_of}
 use Rattle.fw_node.specs.Halves.{HalfOf}
 use Rattle.fw_steps.specs.Isolation.{IsUnfailed}
 use Rattle.fw_steps.specs.Messages.{IsSameWorld}
@@ -58,10 +58,10 @@ abbrev pub before_update : PartsOf → WorldOf
 before_update p = world_of p (bank old_boot None) [] []
 
 abbrev pub before_activation : PartsOf → WorldOf
-before_activation p = world_of p (bank old_boot (Some (image new_boot))) (recorded 1 0 ∷ []) (map (noted_of 9) (take 2 worked))
+before_activation p = world_of p (bank old_boot (Some (image new_boot))) (recorded_component 1 0 ∷ []) (map (noted_of 9) (take 2 worked_update))
 
 abbrev pub after_update : PartsOf → WorldOf
-after_update p = world_of p (bank new_boot None) (recorded 1 0 ∷ []) (map (noted_of 9) worked)
+after_update p = world_of p (bank new_boot None) (recorded_component 1 0 ∷ []) (map (noted_of 9) worked_update)
 
 -- any two of these are tied, in order, and each with itself
 pub record TiedMoments : Type 0 where
@@ -74,17 +74,17 @@ pub record TiedMoments : Type 0 where
 -- activation, a record that is missing, one that wasn't made since, an activation of another device, and a device that is gone.
 pub record UntiedMoments : Type 0 where
   pub old_runs : (p : PartsOf) →
-      IsTiedBetween (before_update p) (world_of p (bank old_boot None) (recorded 1 0 ∷ []) (map (noted_of 9) worked)) → ⊥
+      IsTiedBetween (before_update p) (world_of p (bank old_boot None) (recorded_component 1 0 ∷ []) (map (noted_of 9) worked_update)) → ⊥
   pub runs_too_soon : (p : PartsOf) →
-      IsTiedBetween (before_update p) (world_of p (bank new_boot None) (recorded 1 0 ∷ []) (map (noted_of 9) (take 2 worked))) → ⊥
+      IsTiedBetween (before_update p) (world_of p (bank new_boot None) (recorded_component 1 0 ∷ []) (map (noted_of 9) (take 2 worked_update))) → ⊥
   pub applied_before : (p : PartsOf) →
       IsTiedBetween (before_update p)
-      (world_of p (bank new_boot (Some (image new_boot))) (recorded 1 0 ∷ []) (map (noted_of 9) worked)) → ⊥
+      (world_of p (bank new_boot (Some (image new_boot))) (recorded_component 1 0 ∷ []) (map (noted_of 9) worked_update)) → ⊥
   pub not_there : (p : PartsOf) →
-      IsTiedBetween (before_update p) (world_of p (bank new_boot None) [] (map (noted_of 9) worked)) → ⊥
+      IsTiedBetween (before_update p) (world_of p (bank new_boot None) [] (map (noted_of 9) worked_update)) → ⊥
   pub not_made : (p : PartsOf) →
       IsTiedBetween (after_update p)
-      (world_of p (bank new_boot None) (recorded 1 0 ∷ recorded 1 0 ∷ []) (map (noted_of 9) worked)) → ⊥
+      (world_of p (bank new_boot None) (recorded_component 1 0 ∷ recorded_component 1 0 ∷ []) (map (noted_of 9) worked_update)) → ⊥
   pub of_another : (p : PartsOf) →
       IsTiedBetween (before_update p) (world_of p (bank new_boot None) [] (noted_of 10 (activates boot new_boot) ∷ [])) → ⊥
   pub gone : (p : PartsOf) → IsTiedBetween (before_update p) (world_with p [] [] []) → ⊥
@@ -108,7 +108,7 @@ abbrev pub messages_of : (agent : ℕ) → List NodeOf → List NotedOf → Mess
 messages_of agent nodes history = record { agent = agent; packages = packages; nodes = nodes; history = history }
 
 abbrev pub message_world : PartsOf → MessageWorldOf
-message_world p = messages_of 8 (message_node p 9 (bank new_boot None) (recorded 1 0 ∷ []) ∷ []) (map (noted_of 9) worked)
+message_world p = messages_of 8 (message_node p 9 (bank new_boot None) (recorded_component 1 0 ∷ []) ∷ []) (map (noted_of 9) worked_update)
 
 -- the same world, and one that differs from it in its packages, its agent, an identifier, a device, a session, the history, or the
 -- number of its devices
@@ -118,14 +118,14 @@ pub record SameWorlds : Type 0 where
   pub agent : (p : PartsOf) → IsSameWorld (after_update p) (record (message_world p) { agent = 9 }) → ⊥
   pub eid : (p : PartsOf) →
       IsSameWorld (after_update p)
-      (record (message_world p) { nodes = message_node p 10 (bank new_boot None) (recorded 1 0 ∷ []) ∷ [] }) → ⊥
+      (record (message_world p) { nodes = message_node p 10 (bank new_boot None) (recorded_component 1 0 ∷ []) ∷ [] }) → ⊥
   pub device : (p : PartsOf) →
       IsSameWorld (after_update p)
-      (record (message_world p) { nodes = message_node p 9 (bank old_boot None) (recorded 1 0 ∷ []) ∷ [] }) → ⊥
+      (record (message_world p) { nodes = message_node p 9 (bank old_boot None) (recorded_component 1 0 ∷ []) ∷ [] }) → ⊥
   pub session : (p : PartsOf) →
       IsSameWorld (after_update p) (record (message_world p) { nodes = message_node p 9 (bank new_boot None) [] ∷ [] }) → ⊥
   pub history : (p : PartsOf) →
-      IsSameWorld (after_update p) (record (message_world p) { history = map (noted_of 9) (take 2 worked) }) → ⊥
+      IsSameWorld (after_update p) (record (message_world p) { history = map (noted_of 9) (take 2 worked_update) }) → ⊥
   pub none : (p : PartsOf) → IsSameWorld (after_update p) (record (message_world p) { nodes = [] }) → ⊥
 
 -- A BANK THAT DIDN'T FAIL

@@ -9,7 +9,7 @@ use Rattle.exch_lane.specs.Lanes.{Sent}
 use Rattle.exch_lane.specs.Steps.{sent_at}
 use Rattle.fw_package.specs.Package.{PackageText}
 use Rattle.fd_core.specs.Commands.{device_take}
-use Rattle.fd_core.specs.Images.{Put}
+use Rattle.fd_core.specs.Images.{KeyedImage}
 use Rattle.fd_core.specs.States.{DeviceState}
 use Rattle.fd_core.specs.Steps.{applied_by}
 use Rattle.fd_core.specs.declared.states.Verdict.{Verdict}
@@ -20,10 +20,10 @@ use Rattle.ua_core.specs.declared.planned.Recorded.{Recorded}
 use Rattle.fw_message.specs.History.{EntryOf}
 use Rattle.fw_message.specs.Pairs.{PairOf}
 use Rattle.fw_message.specs.Worlds.{NotedOf, noted_of}
-use Rattle.fw_node.specs.Agents.{AgentOf, activates, agent_becomes, agent_hears, agent_restarts, any_packet, agent_tick_sends, agent_ticks, half_for}
+use Rattle.fw_node.specs.Agents.{AgentOf, half_after_activate, agent_becomes, agent_on_packet, agent_restarts, any_packet, agent_tick_sends, agent_ticks, half_for}
 use Rattle.fw_node.specs.Cores.{TimedDevice, device_core}
-use Rattle.fw_node.specs.Halves.{HalfHeard, HalfOf, half_hears, half_ticks}
-use Rattle.fw_node.specs.Nodes.{DeviceNodeOf, device_hears, device_judges, device_restarts}
+use Rattle.fw_node.specs.Halves.{HalfOutcome, HalfOf, half_on_packet, half_ticks}
+use Rattle.fw_node.specs.Nodes.{DeviceNodeOf, device_on_packet, device_on_verdict, device_restarts}
 use Rattle.fw_node.specs.Packets.{all_packets}
 use Rattle.fw_steps.specs.declared.step.Step.{Step}
 use Rattle.fw_steps.specs.declared.step.Step.TheVariants as steps
@@ -83,13 +83,13 @@ posts now xs [] = xs
 posts now xs (packet ∷ packets) = posts now (post now xs packet) packets
 
 -- how many records a session has, and the one that stands behind so many
-abbrev pub made_by : Option (HalfOf TimedOf) → ℕ
-made_by None = 0
-made_by (Some h) = length h.core.session.records
+abbrev pub record_count_of : Option (HalfOf TimedOf) → ℕ
+record_count_of None = 0
+record_count_of (Some h) = length h.core.session.records
 
-abbrev pub record_behind : ℕ → Option (HalfOf TimedOf) → Option Recorded
-record_behind made None = None
-record_behind made (Some h) = slice_get h.core.session.records made
+abbrev pub record_after : ℕ → Option (HalfOf TimedOf) → Option Recorded
+record_after made None = None
+record_after made (Some h) = slice_get h.core.session.records made
 
 -- with the sender of a packet
 abbrev pub sender_of : Result (Head × List ℕ) WireFault → Option ℕ
@@ -100,26 +100,26 @@ sender_of (Err fault) = None
 abbrev pub recorded_from : AgentOf → AgentOf → Option ℕ → List NotedOf
 recorded_from before after None = []
 recorded_from before after (Some device) =
-    map (λ r. noted_of device (EntryOf.Recording r)) (option_to_list (record_behind (made_by (half_for before device)) (half_for after device)))
+    map (λ r. noted_of device (EntryOf.Recording r)) (option_to_list (record_after (record_count_of (half_for before device)) (half_for after device)))
 
 -- The agent hears these bytes.
 abbrev pub at_agent : WorldOf → List ℕ → WorldOf
 at_agent w bytes =
     record w {
-      agent = (agent_hears w.packages w.agent bytes w.now).agent;
-      sites = posts w.now w.sites (agent_hears w.packages w.agent bytes w.now).sent;
+      agent = (agent_on_packet w.packages w.agent bytes w.now).agent;
+      sites = posts w.now w.sites (agent_on_packet w.packages w.agent bytes w.now).sent;
       history = w.history
-          ++ recorded_from w.agent (agent_hears w.packages w.agent bytes w.now).agent (sender_of (any_packet bytes));
+          ++ recorded_from w.agent (agent_on_packet w.packages w.agent bytes w.now).agent (sender_of (any_packet bytes));
     }
 
 -- what a device activates when its half hears: the images of a command that it takes
-abbrev pub activated_when : DeviceState → (quiet works : Bool) → HalfHeard TimedDevice → List Put
-activated_when v quiet works (HalfHeard.Took half sent command answer) = (device_take v command quiet works).activated
+abbrev pub activated_when : DeviceState → (quiet works : Bool) → HalfOutcome TimedDevice → List KeyedImage
+activated_when v quiet works (HalfOutcome.Took half sent command answer) = (device_take v command quiet works).activated
 activated_when v quiet works heard = []
 
-abbrev pub activated_at : Bool → DeviceNodeOf → List ℕ → List Put
+abbrev pub activated_at : Bool → DeviceNodeOf → List ℕ → List KeyedImage
 activated_at works n bytes =
-    activated_when n.half.core.device (is_quiet n.half.asker.caller) works (half_hears device_core works n.half bytes)
+    activated_when n.half.core.device (is_quiet n.half.asker.caller) works (half_on_packet device_core works n.half bytes)
 
 -- a device's node after a call that left its bank's count of failures at this value
 abbrev pub node_becomes : DeviceNodeOf → (faults tid : ℕ) → HalfOf TimedDevice → DeviceNodeOf
@@ -129,8 +129,8 @@ abbrev pub at_device : Bool → (faults : ℕ) → WorldOf → List ℕ → Opti
 at_device works faults w bytes (Some place) (Some x) =
     record w {
       sites = slice_set w.sites place (record x {
-        node = node_becomes x.node faults (device_hears works x.node bytes).tid (device_hears works x.node bytes).half;
-        packets = x.packets ++ sent_now w.now (all_packets x.node.half.unit (device_hears works x.node bytes).sent);
+        node = node_becomes x.node faults (device_on_packet works x.node bytes).tid (device_on_packet works x.node bytes).half;
+        packets = x.packets ++ sent_now w.now (all_packets x.node.half.unit (device_on_packet works x.node bytes).sent);
       });
       history = w.history
           ++ map (λ p. noted_of x.node.endpoint.eid (EntryOf.Activated p)) (activated_at works x.node bytes);
@@ -138,14 +138,14 @@ at_device works faults w bytes (Some place) (Some x) =
 at_device works faults w bytes place x = w
 
 -- A packet comes to a node. One that it isn't for drops it.
-abbrev pub comes : Bool → (faults : ℕ) → WorldOf → (node : ℕ) → List ℕ → WorldOf
-comes works faults w node bytes =
+abbrev pub world_after_packet : Bool → (faults : ℕ) → WorldOf → (node : ℕ) → List ℕ → WorldOf
+world_after_packet works faults w node bytes =
     if node == w.agent.endpoint.eid then at_agent w bytes
     else at_device works faults w bytes (place_of w.sites node) (site_for w.sites node)
 
-abbrev pub delivers : Bool → (faults : ℕ) → WorldOf → (node : ℕ) → Option Sent → WorldOf
-delivers works faults w node None = w
-delivers works faults w node (Some p) = comes works faults w node p.bytes
+abbrev pub world_after_deliver : Bool → (faults : ℕ) → WorldOf → (node : ℕ) → Option Sent → WorldOf
+world_after_deliver works faults w node None = w
+world_after_deliver works faults w node (Some p) = world_after_packet works faults w node p.bytes
 
 -- the packets of a device
 abbrev pub packets_at : Option SiteOf → List Sent
@@ -176,8 +176,8 @@ abbrev pub site_passes : (counts : Bool) → (now : ℕ) → SiteOf → SiteOf
 site_passes true now x = site_ticks now x
 site_passes false now x = record x { since_miss = since_after false x.since_miss }
 
-abbrev pub site_goes_on : (missed : List ℕ) → (now : ℕ) → SiteOf → SiteOf
-site_goes_on missed now x = site_passes (counts missed x.node.endpoint.eid) now x
+abbrev pub site_after_tick : (missed : List ℕ) → (now : ℕ) → SiteOf → SiteOf
+site_after_tick missed now x = site_passes (counts missed x.node.endpoint.eid) now x
 
 abbrev pub agent_passes : (counts : Bool) → List PackageText → (now : ℕ) → AgentOf → AgentOf
 agent_passes true packages now n = agent_ticks packages now n
@@ -194,47 +194,47 @@ ticks_by agent missed w =
       now = w.now + 1;
       agent = agent_passes agent w.packages (w.now + 1) w.agent;
       since_miss = since_after agent w.since_miss;
-      sites = map (site_goes_on missed (w.now + 1)) (posts (w.now + 1) w.sites (agent_pass_sends agent w.packages w.agent));
+      sites = map (site_after_tick missed (w.now + 1)) (posts (w.now + 1) w.sites (agent_pass_sends agent w.packages w.agent));
     }
 
-abbrev pub ticks : (missed : List ℕ) → WorldOf → WorldOf
-ticks missed w = ticks_by (counts missed w.agent.endpoint.eid) missed w
+abbrev pub world_after_tick : (missed : List ℕ) → WorldOf → WorldOf
+world_after_tick missed w = ticks_by (counts missed w.agent.endpoint.eid) missed w
 
 -- The operator calls the agent.
-abbrev pub calls : WorldOf → (device : ℕ) → (HalfOf TimedOf → HalfOf TimedOf) → WorldOf
-calls w device call = record w { agent = agent_becomes w.agent w.now device call }
+abbrev pub world_after_call : WorldOf → (device : ℕ) → (HalfOf TimedOf → HalfOf TimedOf) → WorldOf
+world_after_call w device call = record w { agent = agent_becomes w.agent w.now device call }
 
 -- the operator has a session that is ready for it activate
 abbrev pub activates_on : WorldOf → (device : ℕ) → Option SessionOf → WorldOf
 activates_on w device None = w
-activates_on w device (Some s) = calls w device (λ h. activates w.packages h s)
+activates_on w device (Some s) = world_after_call w device (λ h. half_after_activate w.packages h s)
 
 -- A verdict on what a device has written.
-abbrev pub judges : Bool → (faults : ℕ) → WorldOf → Verdict → Option ℕ → Option SiteOf → WorldOf
-judges works faults w verdict (Some place) (Some x) =
+abbrev pub world_after_verdict : Bool → (faults : ℕ) → WorldOf → Verdict → Option ℕ → Option SiteOf → WorldOf
+world_after_verdict works faults w verdict (Some place) (Some x) =
     record w {
       sites = slice_set w.sites place (record x {
-        node = node_becomes x.node faults x.node.tid (device_judges works x.node verdict);
+        node = node_becomes x.node faults x.node.tid (device_on_verdict works x.node verdict);
       });
       history = w.history
           ++ map (λ p. noted_of x.node.endpoint.eid (EntryOf.Applied p)) (applied_by x.node.half.core.device verdict works);
     }
-judges works faults w verdict place x = w
+world_after_verdict works faults w verdict place x = w
 
 -- A node starts anew.
 abbrev pub site_restarts : List SiteOf → Option ℕ → Option SiteOf → List SiteOf
 site_restarts xs (Some place) (Some x) = slice_set xs place (record x { node = device_restarts x.node })
 site_restarts xs place x = xs
 
-abbrev pub restarts : WorldOf → (node : ℕ) → WorldOf
-restarts w node =
+abbrev pub world_after_restart : WorldOf → (node : ℕ) → WorldOf
+world_after_restart w node =
     if node == w.agent.endpoint.eid then record w { agent = agent_restarts w.packages w.agent }
     else record w { sites = site_restarts w.sites (place_of w.sites node) (site_for w.sites node) }
 
 -- The event log is asked. A request without a byte is one of a wrong length (IPMI 2.0: completion code C7).
-abbrev pub asks_log : WorldOf → List ℕ → WorldOf
-asks_log w [] = record w { answer = Some (0xC7 ∷ []) }
-asks_log w (command ∷ bytes) =
+abbrev pub world_after_log_request : WorldOf → List ℕ → WorldOf
+world_after_log_request w [] = record w { answer = Some (0xC7 ∷ []) }
+world_after_log_request w (command ∷ bytes) =
     record w {
       agent = record w.agent { log = sel_after w.agent.log command bytes w.now };
       answer = Some (sel_reply w.agent.log command bytes w.now);

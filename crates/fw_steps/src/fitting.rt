@@ -4,13 +4,13 @@ ghost use Rattle.std.specs.Prelude.{IfSome};
 ghost use Rattle.std.specs.List.{AllByRecursion};
 ghost use Rattle.fd_core.specs.Images.{active_of, row_of};
 ghost use Rattle.fw_package.specs.Lent.{component_seen};
-ghost use Rattle.fw_steps.specs.Widths.{HasComponentWidths, HasComponentKeyWidths, HasDescriptorListWidths, HasImageWidths, HasKeyAndLabelWidths, HasKindWidth, HasPackageWidths, HavePackageWidths, HasWidthsAsNew};
-ghost use Rattle.fwup_wire.specs.Lent.{descriptor_of};
+ghost use Rattle.fw_steps.specs.Widths.{HasPlannedWidths, HasComponentKeyWidths, HasDescriptorListWidths, HasImageWidths, HasKeyAndLabelWidths, HasKindWidth, HasPackageWidths, HavePackageWidths, HasWidthsAsNew};
+ghost use Rattle.fwup_wire.specs.Lent.{device_descriptor_of};
 
-use fd_core::{Bank, Component as DeviceComponent, Device};
+use fd_core::{Bank, BankComponent as DeviceComponent, Device};
 use fw_node::DeviceNode;
 use fw_package::{Component, Components, Package};
-use fwup_wire::{Descriptor, DescriptorList, Descriptors};
+use fwup_wire::{DescriptorList, DeviceDescriptor, DeviceDescriptors};
 
 /// New devices fit the fields of messages.
 pub(crate) fn devices_fit<B: Bank>(devices: &[DeviceNode<B>])
@@ -82,7 +82,7 @@ fn descriptor_list_fits(descriptors: &DescriptorList)
 }
 
 /// The types of descriptors fit.
-fn kinds_fit(descriptors: Descriptors<'_>)
+fn kinds_fit(descriptors: DeviceDescriptors<'_>)
     ensures { AllByRecursion HasKindWidth descriptors.entry }
 {
     for descriptor in descriptors {
@@ -91,8 +91,8 @@ fn kinds_fit(descriptors: Descriptors<'_>)
 }
 
 /// A descriptor's type fits.
-fn kind_fits(descriptor: &Descriptor<'_>)
-    ensures { HasKindWidth (descriptor_of descriptor.now) }
+fn kind_fits(descriptor: &DeviceDescriptor<'_>)
+    ensures { HasKindWidth (device_descriptor_of descriptor.now) }
 {
     let _kind = descriptor.kind;
 }
@@ -115,7 +115,7 @@ fn package_fits(lent: &Package<'_>)
 
 /// Components of a package fit.
 fn package_components_fit(components: Components<'_>)
-    ensures { AllByRecursion HasComponentWidths components.entry }
+    ensures { AllByRecursion HasPlannedWidths components.entry }
 {
     for component in components {
         package_component_fits(&component);
@@ -124,7 +124,7 @@ fn package_components_fit(components: Components<'_>)
 
 /// A component of a package fits.
 fn package_component_fits(component: &Component<'_>)
-    ensures { HasComponentWidths (component_seen component.now) }
+    ensures { HasPlannedWidths (component_seen component.now) }
 {
     let _classification = component.classification;
     let _identifier = component.identifier;

@@ -20,13 +20,13 @@ mod trials;
 mod world;
 
 pub use fw_message::{
-    Entry, Event, Held, Image, MessageStep, MessageStepFault, MessageWorld, Side, Way,
-    message_replay, messages_are_safe, runs_stay_tied, worlds_are_safe,
+    CellContent, Entry, HistoryEvent, Image, MessageStep, MessageStepFault, MessageWorld, Side,
+    Way, message_replay, messages_are_safe, runs_stay_tied, worlds_are_safe,
 };
 pub use headline::{clocks_keep_time, moments_are_tied, packets_are_messages, packets_are_safe};
 pub use isolation::{agreement_sees_the_pair, counts_need_calls, devices_are_isolated};
 pub use links::{links_are_lanes, links_are_messages, messages_round_trip};
-pub use packets::{SentPacket, SentPackets};
+pub use packets::{DatedPacket, SentPackets};
 pub use processes::{
     absences_are_deeds, nodes_are_alone, packets_are_theirs, plays_are_runs, plays_are_safe,
     processes_are_safe, traces_are_cut, traces_are_plays, traces_are_safe,

@@ -23,14 +23,14 @@ pub(crate) struct Place {
 
 /// A packet as it was sent, lent by its world.
 #[derive(Clone, Copy, PartialEq, Eq)]
-pub struct SentPacket<'a> {
+pub struct DatedPacket<'a> {
     /// The units that had passed when it was sent.
     pub date: u32,
     /// Its bytes.
     pub bytes: &'a [u8],
 }
 
-impl SentPacket<'_> {
+impl DatedPacket<'_> {
     /// Whether it may still come when so many units have passed: it lives for 8 after its sending.
     pub fn lives(&self, now: u32) -> bool
         ensures { result ≡ not (nat_lt (lives_until (sent_of self.now)) now) }
@@ -58,13 +58,13 @@ fn place_at(places: &[Place], number: usize) -> Option<Place>
 }
 
 /// The packet of this date whose bytes are this part of all.
-fn part(date: u32, bytes: &[u8], start: usize, end: usize) -> SentPacket<'_>
+fn part(date: u32, bytes: &[u8], start: usize, end: usize) -> DatedPacket<'_>
     requires order { start ≤ end }
     requires within { end ≤ length bytes.now }
     ensures packet { sent_of result ≡ record { date = date; bytes = slice_range bytes.now start end } }
     ensures size { length result.bytes.now + start ≡ end }
 {
-    SentPacket {
+    DatedPacket {
         date,
         bytes: &bytes[start..end],
     }
@@ -84,13 +84,13 @@ pub struct SentPackets<'a> {
 impl<'a> Model for SentPackets<'a> {
     ghost use Rattle.std.specs.Prelude.{List, length};
     ghost use Rattle.exch_lane.specs.Lanes.{Sent};
-    ghost use Rattle.fw_steps.specs.Packets.{AreEnds, packets_in};
+    ghost use Rattle.fw_steps.specs.Packets.{AreLengthsEnds, packets_in};
 
     ghost Value = { List Sent };
 
     ghost view = { λ s. packets_in s.start s.places.now s.bytes.now };
 
-    ghost invariant = { λ s. AreEnds s.start s.places.now (length s.bytes.now) };
+    ghost invariant = { λ s. AreLengthsEnds s.start s.places.now (length s.bytes.now) };
 }
 
 impl<'a> SentPackets<'a> {
@@ -103,7 +103,7 @@ impl<'a> SentPackets<'a> {
     }
 
     /// The packet at a place, counted from 0.
-    pub fn get(&self, place: usize) -> Option<SentPacket<'a>>
+    pub fn get(&self, place: usize) -> Option<DatedPacket<'a>>
         ensures packet { option_map sent_of result ≡ slice_get self.now place }
         ensures short { IfSome result (λ p. length p.bytes.now ≤ MAX_PACKET) }
     {
@@ -166,7 +166,7 @@ impl Model for Packets {
     ghost use Rattle.std.specs.Prelude.{◌-◌, ◌/◌, length, min};
     ghost use Rattle.std.specs.Vec.{vec_capacity, vec_len};
     ghost use Rattle.mctp_wire.specs.declared.layout.TheConstants.{MAX_PACKET};
-    ghost use Rattle.fw_steps.specs.Packets.{AreEnds, PacketsOf, packets_in};
+    ghost use Rattle.fw_steps.specs.Packets.{AreLengthsEnds, PacketsOf, packets_in};
 
     ghost Value = { PacketsOf };
 
@@ -175,7 +175,7 @@ impl Model for Packets {
       room = min (vec_capacity p.places - vec_len p.places) ((vec_capacity p.bytes - vec_len p.bytes) / MAX_PACKET);
     } };
 
-    ghost invariant = { λ p. AreEnds 0 p.places.items (length p.bytes.items) };
+    ghost invariant = { λ p. AreLengthsEnds 0 p.places.items (length p.bytes.items) };
 }
 
 impl Packets {

@@ -5,10 +5,10 @@ ghost use Rattle.std.specs.Vec.{vec_capacity, vec_len};
 ghost use Rattle.fw_message.specs.Entries.{entry_of};
 ghost use Rattle.fw_message.specs.History.{EntryOf};
 ghost use Rattle.fw_message.specs.Worlds.{noted_of};
-ghost use Rattle.fw_node.specs.Agents.{agent_hears, any_packet, half_for};
-ghost use Rattle.fw_steps.specs.Worlds.{made_by, record_behind, recorded_from, sender_of};
+ghost use Rattle.fw_node.specs.Agents.{agent_on_packet, any_packet, half_for};
+ghost use Rattle.fw_steps.specs.Worlds.{record_count_of, record_after, recorded_from, sender_of};
 
-use fw_message::{Entry, Event};
+use fw_message::{Entry, HistoryEvent};
 use fw_node::{AgentNode, Outbox};
 use fw_package::Package;
 use mctp_wire::Unit;
@@ -16,7 +16,7 @@ use ua_core::Recorded;
 
 /// The agent hears the bytes of a packet; what it records is noted. There is room for that.
 #[tactic(auto, using(crate::proofs::Recording::noted_behind))]
-pub(crate) fn hear_noting<'p>(
+pub(crate) fn deliver_and_record<'p>(
     agent: &mut AgentNode,
     packages: &'p [Package<'p>],
     bytes: &[u8],
@@ -26,8 +26,8 @@ pub(crate) fn hear_noting<'p>(
 )
     requires outbox { outbox.old ≡ [] }
     requires room { vec_len history.old + 1 ≤ vec_capacity history.old }
-    ensures after { agent.new ≡ (agent_hears packages.now agent.old bytes.now now).agent }
-    ensures sent { outbox.new ≡ (agent_hears packages.now agent.old bytes.now now).sent }
+    ensures after { agent.new ≡ (agent_on_packet packages.now agent.old bytes.now now).agent }
+    ensures sent { outbox.new ≡ (agent_on_packet packages.now agent.old bytes.now now).sent }
     ensures history { map entry_of history.new.items ≡ map entry_of history.old.items ++ recorded_from agent.old agent.new (sender_of (any_packet bytes.now)) }
 {
     let sender = sender_of(bytes);
@@ -49,7 +49,7 @@ fn sender_of(bytes: &[u8]) -> Option<u8>
 
 /// How many records the session with a device has.
 fn records_with(agent: &AgentNode, device: Option<u8>) -> usize
-    ensures { IfSome device (λ d. result ≡ made_by (half_for agent.now d)) }
+    ensures { IfSome device (λ d. result ≡ record_count_of (half_for agent.now d)) }
 {
     let Some(device) = device else {
         return 0;
@@ -62,7 +62,7 @@ fn records_with(agent: &AgentNode, device: Option<u8>) -> usize
 
 /// What the session with a device recorded behind so many records.
 fn recorded(agent: &AgentNode, device: Option<u8>, made: usize) -> Option<Recorded>
-    ensures { IfSome device (λ d. result ≡ record_behind made (half_for agent.now d)) }
+    ensures { IfSome device (λ d. result ≡ record_after made (half_for agent.now d)) }
 {
     let session = agent.session(device?)?;
     session.records().get(made).copied()
@@ -79,6 +79,6 @@ fn note_recorded(history: &mut Vec<Entry<'_>>, device: Option<u8>, recorded: Opt
     };
     let _ = history.push(Entry {
         device,
-        event: Event::Recorded(recorded),
+        event: HistoryEvent::Recorded(recorded),
     });
 }

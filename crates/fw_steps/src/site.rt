@@ -2,20 +2,20 @@
 
 ghost use Rattle.std.specs.Prelude.{[], ◌≡◌, ◌≤◌, ◌<◌, ◌+◌, ◌++◌, ◌∷◌, ◌⊎◌, Bool, IfErr, IfOk, IfSome, None, OnErr, OnOk, Some, is_some, map, option_map, option_to_list, true};
 ghost use Rattle.std.specs.Vec.{vec_capacity, vec_len};
-ghost use Rattle.exch_lane.specs.Lanes.{numbered};
+ghost use Rattle.exch_lane.specs.Lanes.{item_numbered};
 ghost use Rattle.exch_lane.specs.Steps.{sent_at};
 ghost use Rattle.fd_core.specs.Components.{HasComponents};
 ghost use Rattle.fw_node.specs.Nodes.{device_restarts};
 ghost use Rattle.fw_steps.specs.Dead.{AreDead, dead_count};
 ghost use Rattle.fw_steps.specs.Headline.{may_site_beat, packet_fault, verdict_fault};
 ghost use Rattle.fw_steps.specs.Replays.{adds_entry};
-ghost use Rattle.fw_steps.specs.Sites.{Hears, HearsNoting, IsCopyOf, Judges, JudgesNoting, is_activated, is_ready};
-ghost use Rattle.fw_steps.specs.Worlds.{site_goes_on, site_ticks};
-ghost use Rattle.fd_core.specs.Images.{puts};
+ghost use Rattle.fw_steps.specs.Sites.{HandlesPacketAtSite, NotesPacketAtSite, IsCopyOf, HandlesVerdictAtSite, NotesVerdictAtSite, is_activated, is_ready};
+ghost use Rattle.fw_steps.specs.Worlds.{site_after_tick, site_ticks};
+ghost use Rattle.fd_core.specs.Images.{applied_keyed_images};
 ghost use Rattle.fd_core.specs.States.{staged_of};
 ghost use Rattle.fd_core.specs.Steps.{device_verdict};
 ghost use Rattle.fd_core.specs.Wishes.{has_failed};
-ghost use Rattle.fw_message.specs.Entries.{entry_of, put_of};
+ghost use Rattle.fw_message.specs.Entries.{entry_of, keyed_image_of};
 ghost use Rattle.fw_message.specs.History.{EntryOf};
 ghost use Rattle.fw_message.specs.Worlds.{noted_of};
 
@@ -25,7 +25,9 @@ use crate::step::{Refusal, StepFault};
 use crate::ticks::counts;
 use exch_lane::{UNMISSED, may_beat, since_after};
 use fd_core::{Bank, Device, Key, State, Verdict};
-use fw_message::{Entry, Event, Image, applied_images, awaits, copied, has_failed, room_for};
+use fw_message::{
+    Entry, HistoryEvent, Image, applied_images, awaits, copied, has_failed, room_for,
+};
 use fw_node::{DeviceNode, Outbox};
 use fw_package::Package;
 use mctp_wire::RawPacket;
@@ -54,18 +56,18 @@ pub(crate) struct Site<'a, B: Bank> {
 impl<'a, B: Bank> Model for Site<'a, B> {
     ghost use Rattle.std.specs.Prelude.{map, option_map};
     ghost use Rattle.fd_core.specs.Components.{HasComponents};
-    ghost use Rattle.fw_message.specs.Entries.{put_of};
+    ghost use Rattle.fw_message.specs.Entries.{keyed_image_of};
     ghost use Rattle.fw_steps.specs.Dead.{AreDead};
-    ghost use Rattle.fw_steps.specs.Sites.{AreReady, RoomyOf};
+    ghost use Rattle.fw_steps.specs.Sites.{AreReadyImages, SiteWithRoom};
 
-    ghost Value = { RoomyOf };
+    ghost Value = { SiteWithRoom };
 
     ghost view = { λ s. record {
       site = record { node = s.node; since_miss = s.since_miss; packets = s.packets.packets };
       room = s.packets.room;
     } };
 
-    ghost invariant = { λ s. HasComponents s.node.half.core.device × AreReady s.node.half.core.device (option_map (λ images. map put_of images.items) s.ready) × AreDead s.dead.since s.dead.count s.packets.packets };
+    ghost invariant = { λ s. HasComponents s.node.half.core.device × AreReadyImages s.node.half.core.device (option_map (λ images. map keyed_image_of images.items) s.ready) × AreDead s.dead.since s.dead.count s.packets.packets };
 }
 
 impl<'a, B: Bank> Site<'a, B> {
@@ -114,9 +116,9 @@ impl<'a, B: Bank> Site<'a, B> {
 
     /// The bytes of the packet of a number, which may still come.
     pub(crate) fn living(&self, number: usize, now: u32) -> Result<RawPacket, StepFault>
-        ensures found { IfOk result (λ p. option_map (λ s. s.bytes) (numbered self.now.site.packets number) ≡ Some p.items) }
-        ensures ok { OnOk result (packet_fault now (numbered self.now.site.packets number) ≡ None) }
-        ensures fault { IfErr result (λ e. packet_fault now (numbered self.now.site.packets number) ≡ Some e) }
+        ensures found { IfOk result (λ p. option_map (λ s. s.bytes) (item_numbered self.now.site.packets number) ≡ Some p.items) }
+        ensures ok { OnOk result (packet_fault now (item_numbered self.now.site.packets number) ≡ None) }
+        ensures fault { IfErr result (λ e. packet_fault now (item_numbered self.now.site.packets number) ≡ Some e) }
     {
         let packets = self.packets.lent();
         let Some(place) = number.checked_sub(1) else {
@@ -155,7 +157,7 @@ impl<'a, B: Bank> Site<'a, B> {
     /// # Errors
     /// `AllocError` where memory for what it may send and note is refused. Nothing has changed then.
     #[tactic(auto, using(crate::proofs::Noting::nothing_ready))]
-    pub(crate) fn hear(
+    pub(crate) fn deliver(
         &mut self,
         alloc: Global,
         packages: &'a [Package<'a>],
@@ -165,7 +167,7 @@ impl<'a, B: Bank> Site<'a, B> {
         history: &mut Vec<Entry<'a>>,
     ) -> Result<(), AllocError>
         requires { outbox.old ≡ [] }
-        ensures heard { OnOk result (HearsNoting now self.old.site bytes.now self.new.site (map entry_of history.old.items) (map entry_of history.new.items)) }
+        ensures heard { OnOk result (NotesPacketAtSite now self.old.site bytes.now self.new.site (map entry_of history.old.items) (map entry_of history.new.items)) }
         ensures same { OnErr result (self.new.site ≡ self.old.site) }
         ensures unnoted { OnErr result (map entry_of history.new.items ≡ map entry_of history.old.items) }
         ensures outbox { outbox.new ≡ [] }
@@ -186,14 +188,14 @@ impl<'a, B: Bank> Site<'a, B> {
             self.go_on(now, bytes, outbox);
             return Ok(());
         }
-        self.hear_ready(now, bytes, images, outbox, history);
+        self.deliver_ready(now, bytes, images, outbox, history);
         Ok(())
     }
 
     /// A ready device hears the bytes of a packet; what it sends is dated now, and what it activates is noted: these images. There
     /// is room for all of it.
     #[tactic(auto, using(crate::proofs::Noting::activation_noted, crate::proofs::Noting::nothing_active, crate::proofs::Noting::still_ready))]
-    fn hear_ready(
+    fn deliver_ready(
         &mut self,
         now: u32,
         bytes: &[u8],
@@ -204,9 +206,9 @@ impl<'a, B: Bank> Site<'a, B> {
         requires room { 64 ≤ self.old.room }
         requires outbox { outbox.old ≡ [] }
         requires ready { is_ready self.old.site.node.half.core.device.phase ≡ true }
-        requires images { map put_of images.items ≡ puts self.old.site.node.half.core.device.rows }
+        requires images { map keyed_image_of images.items ≡ applied_keyed_images self.old.site.node.half.core.device.rows }
         requires history { vec_len history.old + vec_len images ≤ vec_capacity history.old }
-        ensures heard { HearsNoting now self.old.site bytes.now self.new.site (map entry_of history.old.items) (map entry_of history.new.items) }
+        ensures heard { NotesPacketAtSite now self.old.site bytes.now self.new.site (map entry_of history.old.items) (map entry_of history.new.items) }
         ensures outbox { outbox.new ≡ [] }
     {
         self.go_on(now, bytes, outbox);
@@ -224,7 +226,7 @@ impl<'a, B: Bank> Site<'a, B> {
     fn go_on(&mut self, now: u32, bytes: &[u8], outbox: &mut Outbox)
         requires room { 64 ≤ self.old.room }
         requires outbox { outbox.old ≡ [] }
-        ensures heard { Hears now self.old.site bytes.now self.new.site }
+        ensures heard { HandlesPacketAtSite now self.old.site bytes.now self.new.site }
         ensures outbox { outbox.new ≡ [] }
         ensures endpoint { self.new.site.node.endpoint ≡ self.old.site.node.endpoint }
     {
@@ -252,7 +254,7 @@ impl<'a, B: Bank> Site<'a, B> {
     /// Keeps the images that a ready device has applied.
     fn keep(&mut self, images: Vec<Image<'a>>)
         requires ready { is_ready self.old.site.node.half.core.device.phase ≡ true }
-        requires images { map put_of images.items ≡ puts self.old.site.node.half.core.device.rows }
+        requires images { map keyed_image_of images.items ≡ applied_keyed_images self.old.site.node.half.core.device.rows }
         ensures { self.new ≡ self.old }
     {
         self.ready = Some(images);
@@ -265,7 +267,7 @@ impl<'a, B: Bank> Site<'a, B> {
         alloc: Global,
         packages: &'a [Package<'a>],
     ) -> Result<Vec<Image<'a>>, AllocError>
-        ensures images { IfOk result (λ images. is_ready self.old.site.node.half.core.device.phase ≡ true → map put_of images.items ≡ puts self.old.site.node.half.core.device.rows) }
+        ensures images { IfOk result (λ images. is_ready self.old.site.node.half.core.device.phase ≡ true → map keyed_image_of images.items ≡ applied_keyed_images self.old.site.node.half.core.device.rows) }
         ensures site { self.new ≡ self.old }
     {
         if let Some(images) = self.ready.take() {
@@ -290,7 +292,7 @@ impl<'a, B: Bank> Site<'a, B> {
         verdict: Verdict,
         history: &mut Vec<Entry<'a>>,
     ) -> Result<(), StepFault>
-        ensures judged { OnOk result (JudgesNoting self.old.site verdict self.new.site (map entry_of history.old.items) (map entry_of history.new.items)) }
+        ensures judged { OnOk result (NotesVerdictAtSite self.old.site verdict self.new.site (map entry_of history.old.items) (map entry_of history.new.items)) }
         ensures may { OnOk result (verdict_fault verdict (Some self.old.site) ≡ None) }
         ensures refused { IfErr result (λ e. (verdict_fault verdict (Some self.old.site) ≡ Some e) ⊎ ((e ≡ StepFault.Memory) × (adds_entry verdict ≡ true) × (verdict_fault verdict (Some self.old.site) ≡ None))) }
         ensures same { OnErr result (self.new.site ≡ self.old.site) }
@@ -351,7 +353,7 @@ impl<'a, B: Bank> Site<'a, B> {
         requires empty { room.items ≡ [] }
         requires room { verdict ≡ Verdict.ApplyOk → IfSome (staged_of self.old.site.node.half.core.device.phase) (λ s. s.1 ≤ vec_capacity room) }
         requires history { verdict ≡ Verdict.ApplyOk → vec_len history.old + 1 ≤ vec_capacity history.old }
-        ensures { JudgesNoting self.old.site verdict self.new.site (map entry_of history.old.items) (map entry_of history.new.items) }
+        ensures { NotesVerdictAtSite self.old.site verdict self.new.site (map entry_of history.old.items) (map entry_of history.new.items) }
     {
         let staged = self.node.device().staged();
         self.judge_now(verdict);
@@ -370,7 +372,7 @@ impl<'a, B: Bank> Site<'a, B> {
     #[tactic(auto, using(crate::proofs::Components::judged_components))]
     fn judge_now(&mut self, verdict: Verdict)
         requires { (works : Bool) → is_some (device_verdict self.old.site.node.half.core.device verdict works) ≡ true }
-        ensures judged { Judges self.old.site verdict self.new.site }
+        ensures judged { HandlesVerdictAtSite self.old.site verdict self.new.site }
         ensures endpoint { self.new.site.node.endpoint ≡ self.old.site.node.endpoint }
     {
         self.ready = None;
@@ -395,7 +397,7 @@ impl<'a, B: Bank> Site<'a, B> {
         room: Vec<u8>,
     ) -> Option<Image<'a>>
         requires { room.items ≡ [] }
-        ensures { IsCopyOf self.now.site.node.half.core.device.rows (vec_capacity room) (map put_of (option_to_list result)) staged }
+        ensures { IsCopyOf self.now.site.node.half.core.device.rows (vec_capacity room) (map keyed_image_of (option_to_list result)) staged }
     {
         let (key, _) = staged?;
         copied(packages, self.node.device().bank(), key, room)
@@ -424,7 +426,7 @@ impl<'a, B: Bank> Site<'a, B> {
     pub(crate) fn pass(&mut self, missed: &[u8], now: u32, outbox: &mut Outbox)
         requires room { 64 ≤ self.old.room }
         requires outbox { outbox.old ≡ [] }
-        ensures site { self.new.site ≡ site_goes_on missed.now now self.old.site }
+        ensures site { self.new.site ≡ site_after_tick missed.now now self.old.site }
         ensures outbox { outbox.new ≡ [] }
     {
         if !counts(missed, self.eid()) {
@@ -468,12 +470,12 @@ fn is_ready<B: Bank>(device: &Device<B>) -> bool
 /// Notes that a device activates these images. There is room for them.
 fn note_activated<'a>(history: &mut Vec<Entry<'a>>, device: u8, images: Vec<Image<'a>>)
     requires { vec_len history.old + vec_len images ≤ vec_capacity history.old }
-    ensures { map entry_of history.new.items ≡ map entry_of history.old.items ++ map (λ p. noted_of device (EntryOf.Activated p)) (map put_of images.entry.items) }
+    ensures { map entry_of history.new.items ≡ map entry_of history.old.items ++ map (λ p. noted_of device (EntryOf.Activated p)) (map keyed_image_of images.entry.items) }
 {
     for image in images {
         let _ = history.push(Entry {
             device,
-            event: Event::Activated(image),
+            event: HistoryEvent::Activated(image),
         });
     }
 }
@@ -481,13 +483,13 @@ fn note_activated<'a>(history: &mut Vec<Entry<'a>>, device: u8, images: Vec<Imag
 /// Notes that a device applied an image, if it did. There is room for it.
 fn note_applied<'a>(history: &mut Vec<Entry<'a>>, device: u8, image: Option<Image<'a>>)
     requires { vec_len history.old + 1 ≤ vec_capacity history.old }
-    ensures { map entry_of history.new.items ≡ map entry_of history.old.items ++ map (λ p. noted_of device (EntryOf.Applied p)) (map put_of (option_to_list image.entry)) }
+    ensures { map entry_of history.new.items ≡ map entry_of history.old.items ++ map (λ p. noted_of device (EntryOf.Applied p)) (map keyed_image_of (option_to_list image.entry)) }
 {
     let Some(image) = image else {
         return;
     };
     let _ = history.push(Entry {
         device,
-        event: Event::Applied(image),
+        event: HistoryEvent::Applied(image),
     });
 }

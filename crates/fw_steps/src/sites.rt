@@ -6,8 +6,8 @@ ghost use Rattle.fd_core.specs.Components.{HasComponents};
 ghost use Rattle.fw_message.specs.Entries.{entry_of};
 ghost use Rattle.fw_steps.specs.Headline.{may_site_beat, new_site, unit_of, verdict_fault};
 ghost use Rattle.fw_steps.specs.Replays.{adds_entry};
-ghost use Rattle.fw_steps.specs.Sites.{HaveRoom, HeardAt, JudgedAt, LacksRoom, sites_of};
-ghost use Rattle.fw_steps.specs.Worlds.{place_for, place_of, post, posts, site_for, site_goes_on, site_restarts};
+ghost use Rattle.fw_steps.specs.Sites.{HaveRoom, NotesPacketAtPlace, NotesVerdictAtPlace, HasFullSite, sites_of};
+ghost use Rattle.fw_steps.specs.Worlds.{place_for, place_of, post, posts, site_for, site_after_tick, site_restarts};
 
 use crate::site::Site;
 use crate::step::StepFault;
@@ -91,7 +91,7 @@ pub(crate) fn site_for<'s, 'a, B: Bank>(
 /// Makes room for so many packets at each device.
 pub(crate) fn make_room<B: Bank>(sites: &mut [Site<'_, B>], count: u16) -> Result<(), AllocError>
     ensures room { OnOk result (HaveRoom count sites.new) }
-    ensures lacked { OnErr result (LacksRoom count sites.old) }
+    ensures lacked { OnErr result (HasFullSite count sites.old) }
     ensures same { sites_of sites.new ≡ sites_of sites.old }
     ensures count { length sites.new ≡ length sites.old }
 {
@@ -152,7 +152,7 @@ pub(crate) fn pass_all<B: Bank>(
 )
     requires room { HaveRoom 64 sites.old }
     requires outbox { outbox.old ≡ [] }
-    ensures sites { sites_of sites.new ≡ map (site_goes_on missed.now now) (sites_of sites.old) }
+    ensures sites { sites_of sites.new ≡ map (site_after_tick missed.now now) (sites_of sites.old) }
     ensures outbox { outbox.new ≡ [] }
     ensures count { length sites.new ≡ length sites.old }
 {
@@ -174,7 +174,7 @@ pub(crate) fn may_all_beat<B: Bank>(sites: &[Site<'_, B>], missed: &[u8]) -> boo
 }
 
 /// The node at a place hears the bytes of a packet; what it sends is dated now, and what it activates is noted.
-pub(crate) fn hear_at<'a, B: Bank>(
+pub(crate) fn deliver_at<'a, B: Bank>(
     sites: &mut [Site<'a, B>],
     place: usize,
     alloc: Global,
@@ -186,13 +186,13 @@ pub(crate) fn hear_at<'a, B: Bank>(
 ) -> Result<(), AllocError>
     requires place { place < length sites.old }
     requires outbox { outbox.old ≡ [] }
-    ensures heard { OnOk result (HeardAt now (sites_of sites.old) place bytes.now (sites_of sites.new) (map entry_of history.old.items) (map entry_of history.new.items)) }
+    ensures heard { OnOk result (NotesPacketAtPlace now (sites_of sites.old) place bytes.now (sites_of sites.new) (map entry_of history.old.items) (map entry_of history.new.items)) }
     ensures same { OnErr result (sites_of sites.new ≡ sites_of sites.old) }
     ensures unnoted { OnErr result (map entry_of history.new.items ≡ map entry_of history.old.items) }
     ensures outbox { outbox.new ≡ [] }
     ensures count { length sites.new ≡ length sites.old }
 {
-    match sites[place].hear(alloc, packages, now, bytes, outbox, history) {
+    match sites[place].deliver(alloc, packages, now, bytes, outbox, history) {
         Ok(()) => {}
         Err(error) => return Err(error),
     }
@@ -209,7 +209,7 @@ pub(crate) fn judge_at<'a, B: Bank>(
     history: &mut Vec<Entry<'a>>,
 ) -> Result<(), StepFault>
     requires place { place < length sites.old }
-    ensures judged { OnOk result (JudgedAt (sites_of sites.old) place verdict (sites_of sites.new) (map entry_of history.old.items) (map entry_of history.new.items)) }
+    ensures judged { OnOk result (NotesVerdictAtPlace (sites_of sites.old) place verdict (sites_of sites.new) (map entry_of history.old.items) (map entry_of history.new.items)) }
     ensures may { OnOk result (verdict_fault verdict (slice_get (sites_of sites.old) place) ≡ None) }
     ensures refused { IfErr result (λ e. (verdict_fault verdict (slice_get (sites_of sites.old) place) ≡ Some e) ⊎ ((e ≡ StepFault.Memory) × (adds_entry verdict ≡ true) × (verdict_fault verdict (slice_get (sites_of sites.old) place) ≡ None))) }
     ensures same { OnErr result (sites_of sites.new ≡ sites_of sites.old) }

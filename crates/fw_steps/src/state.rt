@@ -1,24 +1,24 @@
 //! The state of a packet world, and its steps.
 
 ghost use Rattle.std.specs.Prelude.{[], ◌≡◌, ◌≤◌, ◌<◌, ◌+◌, ◌∷◌, Err, IfErr, IfOk, IfSome, None, OnErr, OnOk, Ok, Some, false, is_some, length, map, option_map, slice_get, true};
-ghost use Rattle.exch_lane.specs.Lanes.{numbered};
+ghost use Rattle.exch_lane.specs.Lanes.{item_numbered};
 ghost use Rattle.fw_message.specs.Entries.{entry_of};
-ghost use Rattle.fw_node.specs.Agents.{agent_restarts, cancels, starts};
+ghost use Rattle.fw_node.specs.Agents.{agent_restarts, half_after_cancel, half_after_start};
 ghost use Rattle.fw_steps.specs.Dead.{AreDead, dead_count};
-ghost use Rattle.fw_steps.specs.Deliveries.{ComesTo};
-ghost use Rattle.fw_steps.specs.Headline.{AreNewNodes, IsOpeningWorld, Leads, is_device, is_node, may_all_beat, may_step, new_world};
-ghost use Rattle.fw_steps.specs.Replays.{Refuses};
+ghost use Rattle.fw_steps.specs.Deliveries.{DeliversToDevice};
+ghost use Rattle.fw_steps.specs.Headline.{AreNewNodes, IsOpeningWorld, StepsTo, is_device, is_node, may_all_beat, may_step, new_world};
+ghost use Rattle.fw_steps.specs.Replays.{RefusesStep};
 ghost use Rattle.fw_steps.specs.Sites.{HaveRoom, sites_of};
-ghost use Rattle.fw_steps.specs.Worlds.{agent_pass_sends, agent_passes, asks_log, at_agent, packets_of, place_of, posts, site_for, site_restarts, ticks};
+ghost use Rattle.fw_steps.specs.Worlds.{agent_pass_sends, agent_passes, world_after_log_request, at_agent, packets_of, place_of, posts, site_for, site_restarts, world_after_tick};
 ghost use Rattle.std.specs.List.{list_all};
 
 use crate::fitting::{devices_fit, packages_fit};
 use crate::packets::SentPackets;
-use crate::recorded::hear_noting;
+use crate::recorded::deliver_and_record;
 use crate::site::Site;
 use crate::sites::{
-    eids_of, hear_at, judge_at, make_room, may_all_beat, new_sites, pass_all, place_of, post_all,
-    restart_at, site_for, unit_of,
+    deliver_at, eids_of, judge_at, make_room, may_all_beat, new_sites, pass_all, place_of,
+    post_all, restart_at, site_for, unit_of,
 };
 use crate::step::{Missed, Refusal, Step, StepFault};
 use crate::ticks::counts;
@@ -209,8 +209,8 @@ impl<'a, B: Bank + Drop> State<'a, B> {
     /// Why the step isn't taken.
     #[tactic(auto, using(crate::proofs::Leading::log_leads))]
     pub(crate) fn step(&mut self, step: &Step) -> Result<(), StepFault>
-        ensures taken { OnOk result (Leads self.old step.now self.new) }
-        ensures refused { IfErr result (λ e. Refuses self.old step.now e) }
+        ensures taken { OnOk result (StepsTo self.old step.now self.new) }
+        ensures refused { IfErr result (λ e. RefusesStep self.old step.now e) }
         ensures same { OnErr result (self.new ≡ self.old) }
     {
         match step {
@@ -231,8 +231,8 @@ impl<'a, B: Bank + Drop> State<'a, B> {
     /// A packet comes to a node.
     #[tactic(auto, using(crate::proofs::Leading::agent_leads, crate::proofs::Leading::device_leads))]
     fn deliver(&mut self, device: u8, number: usize, node: u8) -> Result<(), StepFault>
-        ensures taken { OnOk result (Leads self.old (Step.Deliver device number node) self.new) }
-        ensures refused { IfErr result (λ e. Refuses self.old (Step.Deliver device number node) e) }
+        ensures taken { OnOk result (StepsTo self.old (Step.Deliver device number node) self.new) }
+        ensures refused { IfErr result (λ e. RefusesStep self.old (Step.Deliver device number node) e) }
         ensures same { OnErr result (self.new ≡ self.old) }
     {
         let bytes = match self.living(device, number, node) {
@@ -255,7 +255,7 @@ impl<'a, B: Bank + Drop> State<'a, B> {
 
     /// The bytes of a packet that may come to a node now.
     fn living(&self, device: u8, number: usize, node: u8) -> Result<RawPacket, StepFault>
-        ensures found { IfOk result (λ p. option_map (λ s. s.bytes) (numbered (packets_of self.now device) number) ≡ Some p.items) }
+        ensures found { IfOk result (λ p. option_map (λ s. s.bytes) (item_numbered (packets_of self.now device) number) ≡ Some p.items) }
         ensures ok { OnOk result (may_step self.now (Step.Deliver device number node) ≡ None) }
         ensures fault { IfErr result (λ e. may_step self.now (Step.Deliver device number node) ≡ Some e) }
     {
@@ -286,14 +286,14 @@ impl<'a, B: Bank + Drop> State<'a, B> {
     /// A packet comes to a device of the world.
     fn deliver_to_device(&mut self, node: u8, bytes: &[u8]) -> Result<(), StepFault>
         requires { is_device self.old node ≡ true }
-        ensures heard { OnOk result (ComesTo self.old node bytes.now self.new) }
+        ensures heard { OnOk result (DeliversToDevice self.old node bytes.now self.new) }
         ensures memory { IfErr result (λ e. e ≡ StepFault.Memory) }
         ensures same { OnErr result (self.new ≡ self.old) }
     {
         let Some(place) = place_of(self.sites.as_slice(), node) else {
             return Err(StepFault::Memory);
         };
-        match hear_at(
+        match deliver_at(
             self.sites.as_mut_slice(),
             place,
             self.alloc,
@@ -320,7 +320,7 @@ impl<'a, B: Bank + Drop> State<'a, B> {
         let Ok(()) = self.history.reserve(1) else {
             return Err(StepFault::Memory);
         };
-        hear_noting(
+        deliver_and_record(
             &mut self.agent,
             self.packages,
             bytes,
@@ -336,8 +336,8 @@ impl<'a, B: Bank + Drop> State<'a, B> {
 
     /// A unit of time passes, which all nodes but these count as a tick.
     fn tick(&mut self, missed: &Missed) -> Result<(), StepFault>
-        ensures taken { OnOk result (Leads self.old (Step.Tick missed.now) self.new) }
-        ensures refused { IfErr result (λ e. Refuses self.old (Step.Tick missed.now) e) }
+        ensures taken { OnOk result (StepsTo self.old (Step.Tick missed.now) self.new) }
+        ensures refused { IfErr result (λ e. RefusesStep self.old (Step.Tick missed.now) e) }
         ensures same { OnErr result (self.new ≡ self.old) }
     {
         if !self.has_nodes(missed.as_slice()) {
@@ -379,7 +379,7 @@ impl<'a, B: Bank + Drop> State<'a, B> {
     /// The unit passes that leads to this time.
     fn pass(&mut self, missed: &[u8], time: u32) -> Result<(), StepFault>
         requires { time ≡ self.old.now + 1 }
-        ensures after { OnOk result (self.new ≡ ticks missed.now self.old) }
+        ensures after { OnOk result (self.new ≡ world_after_tick missed.now self.old) }
         ensures memory { IfErr result (λ e. e ≡ StepFault.Memory) }
         ensures same { OnErr result (self.new ≡ self.old) }
     {
@@ -404,8 +404,8 @@ impl<'a, B: Bank + Drop> State<'a, B> {
     /// The operator starts an update.
     #[tactic(auto, using(crate::proofs::Leading::start_leads))]
     fn start(&mut self, device: u8, number: usize) -> Result<(), StepFault>
-        ensures taken { OnOk result (Leads self.old (Step.Start device number) self.new) }
-        ensures refused { IfErr result (λ e. Refuses self.old (Step.Start device number) e) }
+        ensures taken { OnOk result (StepsTo self.old (Step.Start device number) self.new) }
+        ensures refused { IfErr result (λ e. RefusesStep self.old (Step.Start device number) e) }
         ensures same { OnErr result (self.new ≡ self.old) }
     {
         if self.agent.session(device).is_none() {
@@ -425,8 +425,8 @@ impl<'a, B: Bank + Drop> State<'a, B> {
     /// The operator cancels.
     #[tactic(auto, using(crate::proofs::Leading::cancel_leads))]
     fn cancel(&mut self, device: u8) -> Result<(), StepFault>
-        ensures taken { OnOk result (Leads self.old (Step.Cancel device) self.new) }
-        ensures refused { IfErr result (λ e. Refuses self.old (Step.Cancel device) e) }
+        ensures taken { OnOk result (StepsTo self.old (Step.Cancel device) self.new) }
+        ensures refused { IfErr result (λ e. RefusesStep self.old (Step.Cancel device) e) }
         ensures same { OnErr result (self.new ≡ self.old) }
     {
         if self.agent.session(device).is_none() {
@@ -439,8 +439,8 @@ impl<'a, B: Bank + Drop> State<'a, B> {
     /// The operator has a device activate.
     #[tactic(auto, using(crate::proofs::Leading::activate_leads))]
     fn activate(&mut self, device: u8) -> Result<(), StepFault>
-        ensures taken { OnOk result (Leads self.old (Step.Activate device) self.new) }
-        ensures refused { IfErr result (λ e. Refuses self.old (Step.Activate device) e) }
+        ensures taken { OnOk result (StepsTo self.old (Step.Activate device) self.new) }
+        ensures refused { IfErr result (λ e. RefusesStep self.old (Step.Activate device) e) }
         ensures same { OnErr result (self.new ≡ self.old) }
     {
         if self.agent.session(device).is_none() {
@@ -456,8 +456,8 @@ impl<'a, B: Bank + Drop> State<'a, B> {
     /// A verdict on what a device has written.
     #[tactic(auto, using(crate::proofs::Leading::verdict_leads))]
     fn judge(&mut self, device: u8, verdict: Verdict) -> Result<(), StepFault>
-        ensures taken { OnOk result (Leads self.old (Step.Verdict device verdict) self.new) }
-        ensures refused { IfErr result (λ e. Refuses self.old (Step.Verdict device verdict) e) }
+        ensures taken { OnOk result (StepsTo self.old (Step.Verdict device verdict) self.new) }
+        ensures refused { IfErr result (λ e. RefusesStep self.old (Step.Verdict device verdict) e) }
         ensures same { OnErr result (self.new ≡ self.old) }
     {
         let Some(place) = place_of(self.sites.as_slice(), device) else {
@@ -479,8 +479,8 @@ impl<'a, B: Bank + Drop> State<'a, B> {
 
     /// A node starts anew.
     fn restart(&mut self, node: u8) -> Result<(), StepFault>
-        ensures taken { OnOk result (Leads self.old (Step.Restart node) self.new) }
-        ensures refused { IfErr result (λ e. Refuses self.old (Step.Restart node) e) }
+        ensures taken { OnOk result (StepsTo self.old (Step.Restart node) self.new) }
+        ensures refused { IfErr result (λ e. RefusesStep self.old (Step.Restart node) e) }
         ensures same { OnErr result (self.new ≡ self.old) }
     {
         if node == self.agent.eid() {
@@ -511,7 +511,7 @@ impl<'a, B: Bank + Drop> State<'a, B> {
 
     /// The event log is asked. A request without a byte is one of a wrong length.
     fn ask_log(&mut self, request: &[u8])
-        ensures { self.new ≡ asks_log self.old request.now }
+        ensures { self.new ≡ world_after_log_request self.old request.now }
     {
         let [command, data @ ..] = request else {
             self.answer = Some(wrong_length());

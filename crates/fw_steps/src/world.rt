@@ -3,8 +3,8 @@
 ghost use Rattle.std.specs.Prelude.{◌≡◌, ◌≤◌, IfErr, IfOk, OnErr, OnOk, length, map, option_map, slice_get};
 ghost use Rattle.fw_message.specs.Entries.{entry_of};
 ghost use Rattle.fw_steps.specs.Dead.{AreDead, dead_count};
-ghost use Rattle.fw_steps.specs.Headline.{AreNewNodes, IsOpeningWorld, IsPromised, Leads, new_world};
-ghost use Rattle.fw_steps.specs.Replays.{Refuses};
+ghost use Rattle.fw_steps.specs.Headline.{AreNewNodes, IsOpeningWorld, IsPromised, StepsTo, new_world};
+ghost use Rattle.fw_steps.specs.Replays.{RefusesStep};
 ghost use Rattle.fw_steps.specs.Worlds.{packets_of, site_for};
 
 use crate::headline::{moments_are_tied, packets_are_messages, packets_are_safe};
@@ -157,8 +157,8 @@ impl<'a, B: Bank + Drop> World<'a, B> {
     /// `Busy`, and `NotReady`; `NotNow` for a verdict; `ClockEnd`, then `ClockSlow` for a tick; and `Memory` for a step that might be
     /// taken.
     pub fn step(&mut self, step: &Step) -> Result<(), StepFault>
-        ensures taken { OnOk result (Leads self.old step.now self.new) }
-        ensures refused { IfErr result (λ e. Refuses self.old step.now e) }
+        ensures taken { OnOk result (StepsTo self.old step.now self.new) }
+        ensures refused { IfErr result (λ e. RefusesStep self.old step.now e) }
         ensures same { OnErr result (self.new ≡ self.old) }
     {
         match self.state.step(step) {

@@ -15,10 +15,10 @@ use Rattle.std.proofs.lemmas.Str.Parse.{digit_from_value}
 use Rattle.hex.proofs.HexLemmas.{IsDigits-upper_digits, decode_of-encode_upper, decode_sized-twice, length-encode_with}
 use Rattle.hex.specs.Hex.{IsBytes, decode_sized, encode_upper, encode_with, hex_digit_value, upper_digits}
 use Rattle.fw_package.specs.Crc.{crc_of}
-use Rattle.fw_text.specs.Printing.{data_text, in_eight, numbered}
+use Rattle.fw_text.specs.Printing.{data_text, in_eight, word_and_number}
 use Rattle.fd_core.specs.Images.{LabelOf}
 use Rattle.fwup_wire.specs.declared.values.Key.{Key}
-use Rattle.fw_store.specs.Active.{EntryOf, IsEntry, NothingElseIsRead, WhatIsWrittenIsRead, active_text, closed, lines_in, lines_text, checksum_at, checksum_in, data_in, digits_in, entries_from, entries_of, entry_at, field_at, four_bytes, if_written, image_name, key_at, label_at, label_text, line_of, name_at, number_at, number_in}
+use Rattle.fw_store.specs.Active.{ImageEntryOf, IsImageEntry, NothingElseIsRead, WhatIsWrittenIsRead, active_text, lines_with_checksum, lines_in, lines_text, checksum_at, checksum_in, data_in, digits_in, entries_from, entries_of, entry_at, field_at, four_bytes, if_written, image_name, key_at, label_at, label_text, line_of, name_at, number_at, number_in}
 use Rattle.fw_store.specs.Keeping.{IsKey}
 use Rattle.fw_store.proofs.Fields.{HasNone, field_back}
 use Rattle.fw_store.proofs.EachLine.{mapped_id, read_more, with_front}
@@ -142,16 +142,16 @@ checksum_back n rest small =
 -- A LINE
 
 -- what stands behind a line's first word
-abbrev behind_name : EntryOf → List ℕ → List ℕ
+abbrev behind_name : ImageEntryOf → List ℕ → List ℕ
 behind_name e rest = codes "image" ++ 32 ∷ (decimal e.size ++ 32 ∷ (encode_upper (four e.checksum) ++ 10 ∷ rest))
 
-abbrev behind_label : EntryOf → List ℕ → List ℕ
+abbrev behind_label : ImageEntryOf → List ℕ → List ℕ
 behind_label e rest = decimal e.key.classification ++ 45 ∷ (decimal e.key.identifier ++ 46 ∷ (decimal e.number ++ 46 ∷ behind_name e rest))
 
-abbrev behind_key : EntryOf → List ℕ → List ℕ
+abbrev behind_key : ImageEntryOf → List ℕ → List ℕ
 behind_key e rest = decimal e.label.stamp ++ 32 ∷ (decimal e.label.text_type ++ 32 ∷ (data_text e.label.text ++ 32 ∷ behind_label e rest))
 
-abbrev apart : EntryOf → List ℕ → List ℕ
+abbrev apart : ImageEntryOf → List ℕ → List ℕ
 apart e rest = decimal e.key.classification ++ 32 ∷ (decimal e.key.identifier ++ 32 ∷ behind_key e rest)
 
 four_apart : (a b c d rest : List ℕ) → (a ++ b ++ c ++ d) ++ rest ≡ a ++ (b ++ (c ++ (d ++ rest)))
@@ -165,15 +165,15 @@ eight_apart a b c d x y z w rest =
 
 pub name_apart : (key : Key) (n : ℕ) (rest : List ℕ)
     → image_name key n ++ rest ≡ decimal key.classification ++ 45 ∷ (decimal key.identifier ++ 46 ∷ (decimal n ++ 46 ∷ (codes "image" ++ rest)))
-unfolding image_name numbered
+unfolding image_name word_and_number
 name_apart key n rest = four_apart (decimal key.classification) (45 ∷ decimal key.identifier) (46 ∷ decimal n) (codes ".image") rest
 
 label_apart : (label : LabelOf) (rest : List ℕ) → label_text label ++ rest ≡ 32 ∷ (decimal label.stamp ++ 32 ∷ (decimal label.text_type ++ 32 ∷ (data_text label.text ++ rest)))
-unfolding label_text numbered
+unfolding label_text word_and_number
 label_apart label rest = four_apart (32 ∷ decimal label.stamp) (32 ∷ decimal label.text_type) (codes " ") (data_text label.text) rest
 
-line_apart : (e : EntryOf) (rest : List ℕ) → line_of e ++ rest ≡ apart e rest
-unfolding line_of numbered in_eight
+line_apart : (e : ImageEntryOf) (rest : List ℕ) → line_of e ++ rest ≡ apart e rest
+unfolding line_of word_and_number in_eight
 line_apart e rest =
     eight_apart (decimal e.key.classification) (32 ∷ decimal e.key.identifier) (label_text e.label) (codes " ") (image_name e.key e.number) (32 ∷ decimal e.size)
     (32 ∷ encode_upper (four e.checksum)) (codes "\n") rest
@@ -181,7 +181,7 @@ line_apart e rest =
     (name_apart e.key e.number (32 ∷ (decimal e.size ++ 32 ∷ (encode_upper (four e.checksum) ++ 10 ∷ rest))))
     ∙ ap (λ t. decimal e.key.classification ++ 32 ∷ (decimal e.key.identifier ++ t)) (label_apart e.label (32 ∷ behind_label e rest))
 
-apart_back : (e : EntryOf) (rest : List ℕ) → IsEntry e → entry_at (apart e rest) ≡ Some (e, rest)
+apart_back : (e : ImageEntryOf) (rest : List ℕ) → IsImageEntry e → entry_at (apart e rest) ≡ Some (e, rest)
 unfolding entry_at
 apart_back e rest h =
     let key : IsKey e.key = record { class = h.class; ident = h.ident } in
@@ -195,7 +195,7 @@ apart_back e rest h =
       checksum_back e.checksum rest h.checksum,
     ) refl
 
-pub entry_back : (e : EntryOf) (rest : List ℕ) → IsEntry e → entry_at (line_of e ++ rest) ≡ Some (e, rest)
+pub entry_back : (e : ImageEntryOf) (rest : List ℕ) → IsImageEntry e → entry_at (line_of e ++ rest) ≡ Some (e, rest)
 entry_back e rest h = ap entry_at (line_apart e rest) ∙ apart_back e rest h
 
 -- ALL LINES
@@ -203,12 +203,12 @@ entry_back e rest h = ap entry_at (line_apart e rest) ∙ apart_back e rest h
 some_text : (xs ys : List ℕ) (b : ℕ) → 0 < length (xs ++ b ∷ ys)
 some_text xs ys b = omega (arith, length-append xs (b ∷ ys))
 
-some_line : (e : EntryOf) → 0 < length (line_of e)
+some_line : (e : ImageEntryOf) → 0 < length (line_of e)
 some_line e =
     subst (λ (t : List ℕ). 0 < length t) (sym (sym (append-nil (line_of e)) ∙ line_apart e []))
     (some_text (decimal e.key.classification) (decimal e.key.identifier ++ 32 ∷ behind_key e []) 32)
 
-entries_back : (es : List EntryOf) (most : ℕ) → AllByRecursion IsEntry es → length (lines_text es) ≤ most → entries_from most (lines_text es) ≡ Some es
+entries_back : (es : List ImageEntryOf) (most : ℕ) → AllByRecursion IsImageEntry es → length (lines_text es) ≤ most → entries_from most (lines_text es) ≡ Some es
 entries_back [] zero are enough = refl
 entries_back [] (suc most) are enough = refl
 entries_back (e ∷ es) zero are enough = let some = some_line e in absurd (omega (arith, length-append (line_of e) (lines_text es)))
@@ -220,8 +220,8 @@ entries_back (e ∷ es) (suc most) are enough =
     ∙ ap (λ o. with_front (e ∷ []) o) (entries_back es most are.1 (omega arith))
 
 -- the lines before the last one
-front_back : (lines : List ℕ) → lines_in (closed lines) ≡ lines
-unfolding closed in_eight
+front_back : (lines : List ℕ) → lines_in (lines_with_checksum lines) ≡ lines
+unfolding lines_with_checksum in_eight
 front_back lines =
     let end : List ℕ = encode_upper (four (crc_of lines)) ++ codes "\n" in
     let whole : lines ++ encode_upper (four (crc_of lines)) ++ codes "\n" ≡ lines ++ end = append_assoc lines (encode_upper (four (crc_of lines))) (codes "\n") in
@@ -247,14 +247,14 @@ written_is_read es are =
     ∙ ap (λ o. if_written (active_text es) o) (entries_back es (length (lines_text es)) are (omega arith))
     ∙ rw (bytes_same (active_text es)) refl
 
-the_same : (xs es : List EntryOf) → Some xs ≡ Some es → xs ≡ es
+the_same : (xs es : List ImageEntryOf) → Some xs ≡ Some es → xs ≡ es
 the_same xs es is = cc
 
-if_same : (b : Bool) (text : List ℕ) (xs es : List EntryOf) → bytes_eq (active_text xs) text ≡ b → (if b then Some xs else None) ≡ Some es → text ≡ active_text es
+if_same : (b : Bool) (text : List ℕ) (xs es : List ImageEntryOf) → bytes_eq (active_text xs) text ≡ b → (if b then Some xs else None) ≡ Some es → text ≡ active_text es
 if_same true text xs es same is = sym (bytes_equal (active_text xs) text same) ∙ ap active_text (the_same xs es is)
 if_same false text xs es same is = absurd (cc)
 
-only_written : (text : List ℕ) (o : Option (List EntryOf)) (es : List EntryOf) → if_written text o ≡ Some es → text ≡ active_text es
+only_written : (text : List ℕ) (o : Option (List ImageEntryOf)) (es : List ImageEntryOf) → if_written text o ≡ Some es → text ≡ active_text es
 only_written text None es is = absurd (cc)
 only_written text (Some xs) es is = if_same (bytes_eq (active_text xs) text) text xs es refl is
 

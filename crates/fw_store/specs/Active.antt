@@ -8,13 +8,13 @@ use Rattle.std.specs.Str.Parse.{digits_value}
 use Rattle.hex.specs.Hex.{IsBytes, decode_sized, encode_upper}
 use Rattle.hex.specs.declared.error.FromHexError.{FromHexError}
 use Rattle.fw_package.specs.Crc.{crc_of}
-use Rattle.fw_text.specs.Printing.{data_text, in_eight, numbered}
+use Rattle.fw_text.specs.Printing.{data_text, in_eight, word_and_number}
 use Rattle.fd_core.specs.Images.{LabelOf}
 use Rattle.fwup_wire.specs.declared.values.Key.{Key}
 
 -- an image that is kept in a file: its component, its label, the number in its file's name, and of its bytes how many they are and
 -- their CRC-32
-pub record EntryOf : Type 0 where
+pub record ImageEntryOf : Type 0 where
   pub key : Key
   pub label : LabelOf
   pub number : ℕ
@@ -25,27 +25,27 @@ pub record EntryOf : Type 0 where
 
 -- the name of an image's file: `CLASS-IDENT.NUMBER.image`
 unfoldable pub image_name : Key → ℕ → List ℕ
-image_name key number = numbered (codes "") key.classification ++ numbered (codes "-") key.identifier ++ numbered (codes ".") number ++ codes ".image"
+image_name key number = word_and_number (codes "") key.classification ++ word_and_number (codes "-") key.identifier ++ word_and_number (codes ".") number ++ codes ".image"
 
 -- a label's stamp, its text type and its text in digits
 unfoldable pub label_text : LabelOf → List ℕ
-label_text label = numbered (codes " ") label.stamp ++ numbered (codes " ") label.text_type ++ codes " " ++ data_text label.text
+label_text label = word_and_number (codes " ") label.stamp ++ word_and_number (codes " ") label.text_type ++ codes " " ++ data_text label.text
 
 -- an image's line: class, ident, stamp, text type, text in digits, the name of its file, size, CRC-32
-unfoldable pub line_of : EntryOf → List ℕ
+unfoldable pub line_of : ImageEntryOf → List ℕ
 line_of e =
-    numbered (codes "") e.key.classification ++ numbered (codes " ") e.key.identifier ++ label_text e.label ++ codes " " ++ image_name e.key e.number
-    ++ numbered (codes " ") e.size ++ in_eight (codes " ") e.checksum ++ codes "\n"
+    word_and_number (codes "") e.key.classification ++ word_and_number (codes " ") e.key.identifier ++ label_text e.label ++ codes " " ++ image_name e.key e.number
+    ++ word_and_number (codes " ") e.size ++ in_eight (codes " ") e.checksum ++ codes "\n"
 
-abbrev pub lines_text : List EntryOf → List ℕ
+abbrev pub lines_text : List ImageEntryOf → List ℕ
 lines_text es = flat_map line_of es
 
 -- lines, and the line of their own CRC-32 behind them
-unfoldable pub closed : List ℕ → List ℕ
-closed lines = lines ++ in_eight (codes "") (crc_of lines) ++ codes "\n"
+unfoldable pub lines_with_checksum : List ℕ → List ℕ
+lines_with_checksum lines = lines ++ in_eight (codes "") (crc_of lines) ++ codes "\n"
 
-abbrev pub active_text : List EntryOf → List ℕ
-active_text es = closed (lines_text es)
+abbrev pub active_text : List ImageEntryOf → List ℕ
+active_text es = lines_with_checksum (lines_text es)
 
 -- ITS READING
 
@@ -102,7 +102,7 @@ unfoldable pub checksum_at : List ℕ → Option (ℕ × List ℕ)
 checksum_at text = option_and_then (λ f. option_map (λ n. (n, f.1)) (checksum_in f.0)) (field_at 10 text)
 
 -- the image of a line
-unfoldable pub entry_at : List ℕ → Option (EntryOf × List ℕ)
+unfoldable pub entry_at : List ℕ → Option (ImageEntryOf × List ℕ)
 entry_at text =
     option_and_then (λ key.
     option_and_then (λ label.
@@ -116,18 +116,18 @@ entry_at text =
     (label_at key.1))
     (key_at 32 32 text)
 
-abbrev pub entries_behind : (List ℕ → Option (List EntryOf)) → Option (EntryOf × List ℕ) → Option (List EntryOf)
-entries_behind more None = None
-entries_behind more (Some first) = option_map (λ es. first.0 ∷ es) (more first.1)
+abbrev pub entries_after : (List ℕ → Option (List ImageEntryOf)) → Option (ImageEntryOf × List ℕ) → Option (List ImageEntryOf)
+entries_after more None = None
+entries_after more (Some first) = option_map (λ es. first.0 ∷ es) (more first.1)
 
 -- the images of at most so many lines, and no more text
-abbrev pub entries_from : (most : ℕ) → List ℕ → Option (List EntryOf)
+abbrev pub entries_from : (most : ℕ) → List ℕ → Option (List ImageEntryOf)
 entries_from most [] = Some []
 entries_from zero (b ∷ text) = None
-entries_from (suc most) (b ∷ text) = entries_behind (λ rest. entries_from most rest) (entry_at (b ∷ text))
+entries_from (suc most) (b ∷ text) = entries_after (λ rest. entries_from most rest) (entry_at (b ∷ text))
 
 -- images whose text is this one
-abbrev pub if_written : List ℕ → Option (List EntryOf) → Option (List EntryOf)
+abbrev pub if_written : List ℕ → Option (List ImageEntryOf) → Option (List ImageEntryOf)
 if_written text None = None
 if_written text (Some es) = if bytes_eq (active_text es) text then Some es else None
 
@@ -136,13 +136,13 @@ abbrev pub lines_in : List ℕ → List ℕ
 lines_in text = take (length text - 9) text
 
 -- The images that a text says, if it says some: each text is that of one list of images, or of none.
-abbrev pub entries_of : List ℕ → Option (List EntryOf)
+abbrev pub entries_of : List ℕ → Option (List ImageEntryOf)
 entries_of text = if_written text (entries_from (length (lines_in text)) (lines_in text))
 
 -- WHAT IS WRITTEN IS READ, AND NOTHING ELSE
 
 -- an image whose numbers have their widths
-pub record IsEntry (e : EntryOf) : Type 0 where
+pub record IsImageEntry (e : ImageEntryOf) : Type 0 where
   pub class : e.key.classification < 2 ^ 16
   pub ident : e.key.identifier < 2 ^ 16
   pub stamp : e.label.stamp < 2 ^ 32
@@ -154,7 +154,7 @@ pub record IsEntry (e : EntryOf) : Type 0 where
   pub checksum : e.checksum < 2 ^ 32
 
 abbrev pub WhatIsWrittenIsRead : Type 0
-WhatIsWrittenIsRead = (es : List EntryOf) → AllByRecursion IsEntry es → entries_of (active_text es) ≡ Some es
+WhatIsWrittenIsRead = (es : List ImageEntryOf) → AllByRecursion IsImageEntry es → entries_of (active_text es) ≡ Some es
 
 abbrev pub NothingElseIsRead : Type 0
-NothingElseIsRead = (text : List ℕ) (es : List EntryOf) → entries_of text ≡ Some es → text ≡ active_text es
+NothingElseIsRead = (text : List ℕ) (es : List ImageEntryOf) → entries_of text ≡ Some es → text ≡ active_text es

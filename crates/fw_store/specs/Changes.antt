@@ -19,8 +19,8 @@ changed_by kinds.Put name other files = λ file. if bytes_eq name file then Some
 changed_by kinds.Moved name other files = λ file. if bytes_eq other file then files name else if bytes_eq name file then None else files file
 changed_by kinds.Gone name other files = λ file. if bytes_eq name file then None else files file
 
-abbrev pub changed : ChangeOf → Files → Files
-changed c files = changed_by c.kind c.name c.other files
+abbrev pub files_after_change : ChangeOf → Files → Files
+files_after_change c files = changed_by c.kind c.name c.other files
 
 -- what is known of a file, once a change is seen, if the files before it are these
 abbrev pub seen_by : Seen → Files → Option (List ℕ)
@@ -31,7 +31,7 @@ seen_by (seen.Before name) files = files name.now
 -- what changes make of files, one after the other
 abbrev pub files_from : Files → List ChangeOf → Files
 files_from files [] = files
-files_from files (c ∷ cs) = files_from (changed c files) cs
+files_from files (c ∷ cs) = files_from (files_after_change c files) cs
 
 abbrev pub no_files : Files
 no_files name = None
@@ -43,7 +43,7 @@ files_of cs = files_from no_files cs
 -- the states after each of them, the last one first
 abbrev pub states_from : Files → (past : List Files) → List ChangeOf → List Files
 states_from files past [] = past
-states_from files past (c ∷ cs) = states_from (changed c files) (changed c files ∷ past) cs
+states_from files past (c ∷ cs) = states_from (files_after_change c files) (files_after_change c files ∷ past) cs
 
 abbrev pub states_of : List ChangeOf → List Files
 states_of cs = states_from no_files [] cs

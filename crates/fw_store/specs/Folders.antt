@@ -5,7 +5,7 @@ use Rattle.fw_package.specs.Crc.{crc_of}
 use Rattle.fd_core.specs.Banks.{has_key}
 use Rattle.fd_core.specs.Images.{same_key}
 use Rattle.fwup_wire.specs.declared.values.Key.{Key}
-use Rattle.fw_store.specs.Active.{EntryOf, IsEntry, active_text, entries_of, image_name}
+use Rattle.fw_store.specs.Active.{ImageEntryOf, IsImageEntry, active_text, entries_of, image_name}
 use Rattle.fw_store.specs.Kept.{KeptOf, image_for, kept_after}
 
 -- the files of a folder: the bytes of each name that is there
@@ -22,7 +22,7 @@ abbrev pub new_name : List ℕ
 new_name = codes "active.new"
 
 -- the image of a line, where its file has so many bytes of this checksum
-abbrev pub image_by : EntryOf → Option (List ℕ) → Option KeptOf
+abbrev pub image_by : ImageEntryOf → Option (List ℕ) → Option KeptOf
 image_by e None = None
 image_by e (Some bytes) =
     if (length bytes == e.size) && (crc_of bytes == e.checksum) then Some (record { key = e.key; image = record { label = e.label; bytes = bytes } }) else None
@@ -32,12 +32,12 @@ with_image None ks = None
 with_image (Some k) ks = option_map (λ ks. k ∷ ks) ks
 
 -- the images of these lines, where each is there
-abbrev pub images_of : Files → List EntryOf → Option (List KeptOf)
+abbrev pub images_of : Files → List ImageEntryOf → Option (List KeptOf)
 images_of files [] = Some []
 images_of files (e ∷ es) = with_image (image_by e (files (image_name e.key e.number))) (images_of files es)
 
 -- the lines of `active`: none where there is no such file
-abbrev pub lines_by : Option (List ℕ) → Option (List EntryOf)
+abbrev pub lines_by : Option (List ℕ) → Option (List ImageEntryOf)
 lines_by None = Some []
 lines_by (Some text) = entries_of text
 
@@ -76,29 +76,29 @@ IsBeforeOrAfter images before after = IsBefore before after ⊎ IsAfter images b
 -- WHAT CALLS LEAVE
 
 -- these bytes stand in the file of this name, and each other file is as before
-pub record Wrote (before after : Files) (name bytes : List ℕ) : Type 0 where
+pub record WritesFile (before after : Files) (name bytes : List ℕ) : Type 0 where
   pub here : after name ≡ Some bytes
   pub others : (other : List ℕ) → other ≢ name → after other ≡ before other
 
 -- only the file of this name may have changed
-pub record OnlyThere (before after : Files) (name : List ℕ) : Type 0 where
+pub record ChangesOnlyFile (before after : Files) (name : List ℕ) : Type 0 where
   pub others : (other : List ℕ) → other ≢ name → after other ≡ before other
 
 -- the file of one name has another one
-pub record Renamed (before after : Files) (name place : List ℕ) : Type 0 where
+pub record RenamesFile (before after : Files) (name place : List ℕ) : Type 0 where
   pub here : after place ≡ before name
   pub others : (other : List ℕ) → other ≢ name → other ≢ place → after other ≡ before other
 
 -- each file is as before
-pub record Unchanged (before after : Files) : Type 0 where
+pub record LeavesFiles (before after : Files) : Type 0 where
   pub all : (name : List ℕ) → after name ≡ before name
 
 -- A call left one state more. Where it changed nothing, that needn't be one.
 abbrev pub IsMoment : (before after : Files) (past now : List Files) → Type 0
-IsMoment before after past now = (now ≡ after ∷ past) ⊎ ((now ≡ past) × Unchanged before after)
+IsMoment before after past now = (now ≡ after ∷ past) ⊎ ((now ≡ past) × LeavesFiles before after)
 
 -- the folder has been in some states more, each of which has P
-pub record Passes (P : Files → Type 0) (before after : List Files) : Type 0 where
+pub record PassesStates (P : Files → Type 0) (before after : List Files) : Type 0 where
   pub states : List Files
   pub is : after ≡ states ++ before
   pub each : AllByRecursion P states

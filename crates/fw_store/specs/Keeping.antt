@@ -3,8 +3,8 @@ use Rattle.std.specs.Prelude.{ℕ, [], ◌∷◌, ◌++◌, ◌<◌, ◌^◌, �
 use Rattle.std.specs.List.{AllByRecursion}
 use Rattle.fw_package.specs.Crc.{crc_of}
 use Rattle.fwup_wire.specs.declared.values.Key.{Key}
-use Rattle.fw_store.specs.Active.{EntryOf, IsEntry, active_text, image_name}
-use Rattle.fw_store.specs.Folders.{Files, IsMoment, Passes, Renamed, Unchanged, Wrote, active_name, images_of, lines_by, new_name}
+use Rattle.fw_store.specs.Active.{ImageEntryOf, IsImageEntry, active_text, image_name}
+use Rattle.fw_store.specs.Folders.{Files, IsMoment, PassesStates, RenamesFile, LeavesFiles, WritesFile, active_name, images_of, lines_by, new_name}
 use Rattle.fw_store.specs.Kept.{KeptOf, image_for}
 
 -- a component's numbers of two bytes
@@ -12,44 +12,44 @@ pub record IsKey (key : Key) : Type 0 where
   pub class : key.classification < 2 ^ 16
   pub ident : key.identifier < 2 ^ 16
 
-abbrev pub entry_key : (e : EntryOf) → IsEntry e → IsKey e.key
+abbrev pub entry_key : (e : ImageEntryOf) → IsImageEntry e → IsKey e.key
 entry_key e h = record { class = h.class; ident = h.ident }
 
 -- the line of an image in a file of this number
-abbrev pub entry_for : ℕ → KeptOf → EntryOf
+abbrev pub entry_for : ℕ → KeptOf → ImageEntryOf
 entry_for n k = record { key = k.key; label = k.image.label; number = n; size = length k.image.bytes; checksum = crc_of k.image.bytes }
 
 -- the lines of other components than these
-abbrev pub lines_left : List KeptOf → List EntryOf → List EntryOf
+abbrev pub lines_left : List KeptOf → List ImageEntryOf → List ImageEntryOf
 lines_left images [] = []
 lines_left images (e ∷ es) = if is_some (image_for images e.key) then lines_left images es else e ∷ lines_left images es
 
 -- the lines after these images came to files of this number
-abbrev pub entries_after : ℕ → List KeptOf → List EntryOf → List EntryOf
+abbrev pub entries_after : ℕ → List KeptOf → List ImageEntryOf → List ImageEntryOf
 entries_after n images es = map (entry_for n) images ++ lines_left images es
 
 -- a folder's `active` has these lines, whose images are there, and no number is as high as the next one
-pub record IsSettled (next : ℕ) (files : Files) (es : List EntryOf) : Type 0 where
+pub record IsSettled (next : ℕ) (files : Files) (es : List ImageEntryOf) : Type 0 where
   pub lines : lines_by (files active_name) ≡ Some es
-  pub entries : AllByRecursion IsEntry es
+  pub entries : AllByRecursion IsImageEntry es
   pub below : AllByRecursion (λ e. e.number < next) es
   pub there : is_some (images_of files es) ≡ true
 
 -- so it is where it is known what the folder holds, and the store is sure of it
-pub record Settled (known sure : Bool) (next : ℕ) (files : Files) (es : List EntryOf) : Type 0 where
+pub record IsSettledIfKnown (known sure : Bool) (next : ℕ) (files : Files) (es : List ImageEntryOf) : Type 0 where
   pub when : known ≡ true → sure ≡ true → IsSettled next files es
 
 -- no file of a lower number has changed, nor `active`
-pub record Apart (next : ℕ) (before after : Files) : Type 0 where
+pub record LeavesLowerFiles (next : ℕ) (before after : Files) : Type 0 where
   pub names : (key : Key) (n : ℕ) → IsKey key → n < next → after (image_name key n) ≡ before (image_name key n)
   pub active : after active_name ≡ before active_name
 
 -- only `active.new` may have changed
-pub record ButNew (before after : Files) : Type 0 where
+pub record ChangesOnlyNewFile (before after : Files) : Type 0 where
   pub others : (name : List ℕ) → name ≢ new_name → after name ≡ before name
 
 -- `active` has these lines, and only `active.new` may have changed beside it
-pub record Put (es : List EntryOf) (before after : Files) : Type 0 where
+pub record WritesActive (es : List ImageEntryOf) (before after : Files) : Type 0 where
   pub here : after active_name ≡ Some (active_text es)
   pub others : (name : List ℕ) → name ≢ active_name → name ≢ new_name → after name ≡ before name
 
@@ -58,16 +58,16 @@ abbrev pub AreWritten : ℕ → List KeptOf → Files → Type 0
 AreWritten n images files = AllByRecursion (λ k. files (image_name k.key n) ≡ Some k.image.bytes) images
 
 -- images came to files of this number, and then to `active`
-pub record Came (n : ℕ) (images : List KeptOf) (es : List EntryOf) (before after : Files) : Type 0 where
+pub record WritesImages (n : ℕ) (images : List KeptOf) (es : List ImageEntryOf) (before after : Files) : Type 0 where
   pub between : Files
-  pub apart : Apart n before between
+  pub apart : LeavesLowerFiles n before between
   pub written : AreWritten n images between
-  pub put : Put es between after
+  pub put : WritesActive es between after
 
 -- while images are written: what runs is as before, and was at each moment
 pub record IsStopped (n : ℕ) (before after : Files) (past now : List Files) : Type 0 where
-  pub apart : Apart n before after
-  pub passes : Passes (Apart n before) past now
+  pub apart : LeavesLowerFiles n before after
+  pub passes : PassesStates (LeavesLowerFiles n before) past now
 
 -- so many of them are written
 pub record IsWriting (n : ℕ) (images : List KeptOf) (before after : Files) (past now : List Files) : Type 0 where
@@ -76,23 +76,23 @@ pub record IsWriting (n : ℕ) (images : List KeptOf) (before after : Files) (pa
   pub written : AreWritten n images after
 
 -- a text that was written and came to the place of `active`, in two calls
-pub record IsPut (text : List ℕ) (before after : Files) (past now : List Files) : Type 0 where
+pub record ReplacesActive (text : List ℕ) (before after : Files) (past now : List Files) : Type 0 where
   pub between : Files
-  pub wrote : Wrote before between new_name text
-  pub renamed : Renamed between after new_name active_name
+  pub wrote : WritesFile before between new_name text
+  pub renamed : RenamesFile between after new_name active_name
   pub middle : List Files
   pub first : IsMoment before between past middle
   pub second : IsMoment between after middle now
 
 -- a text that didn't come there, in one call or in two
-pub record IsUnput (before after : Files) (past now : List Files) : Type 0 where
+pub record FailsToReplaceActive (before after : Files) (past now : List Files) : Type 0 where
   pub between : Files
-  pub only : ButNew before between
-  pub same : Unchanged between after
+  pub only : ChangesOnlyNewFile before between
+  pub same : LeavesFiles between after
   pub middle : List Files
   pub first : IsMoment before between past middle
   pub second : (now ≡ middle) ⊎ IsMoment between after middle now
 
 -- what runs is as before, or these images run
-abbrev pub MayHaveCome : ℕ → List KeptOf → List EntryOf → Files → Files → Type 0
-MayHaveCome n images es before after = Apart n before after ⊎ Came n images es before after
+abbrev pub MayHaveReplaced : ℕ → List KeptOf → List ImageEntryOf → Files → Files → Type 0
+MayHaveReplaced n images es before after = LeavesLowerFiles n before after ⊎ WritesImages n images es before after

@@ -9,12 +9,12 @@ pub record KeptOf : Type 0 where
   pub image : ImageOf
 
 -- a component with the image that runs
-abbrev pub running : RowOf → KeptOf
-running row = record { key = row.key; image = row.active }
+abbrev pub kept_of_row : RowOf → KeptOf
+kept_of_row row = record { key = row.key; image = row.active }
 
 -- what runs
 abbrev pub all_running : List RowOf → List KeptOf
-all_running rows = map running rows
+all_running rows = map kept_of_row rows
 
 abbrev pub applied_before : RowOf → Option ImageOf → List KeptOf → List KeptOf
 applied_before row None rest = rest

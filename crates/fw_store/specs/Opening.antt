@@ -3,14 +3,14 @@ use Rattle.std.specs.Prelude.{[], ◌∷◌, ◌≡◌, ◌≢◌, ◌||◌, Boo
 use Rattle.std.specs.List.{AllByRecursion}
 use Rattle.std.specs.Str.{bytes_eq}
 use Rattle.fwup_wire.specs.declared.values.Key.{Key}
-use Rattle.fw_store.specs.Active.{EntryOf, image_name, name_at}
+use Rattle.fw_store.specs.Active.{ImageEntryOf, image_name, name_at}
 use Rattle.fw_store.specs.Folders.{Files, active_name, images_of, lines_by, new_name}
 use Rattle.fw_store.specs.Kept.{KeptOf, image_for, kept_after}
 use Rattle.fw_store.specs.declared.faults.OpenFault.{OpenFault}
 use Rattle.fw_store.specs.declared.faults.OpenFault.TheVariants as faults
 
 -- whether a line is of a component that the configuration doesn't have
-abbrev pub has_foreign : (base : List KeptOf) → List EntryOf → Bool
+abbrev pub has_foreign : (base : List KeptOf) → List ImageEntryOf → Bool
 has_foreign base [] = false
 has_foreign base (e ∷ es) = if is_some (image_for base e.key) then has_foreign base es else true
 
@@ -18,7 +18,7 @@ abbrev pub found_over : (base : List KeptOf) → Option (List KeptOf) → Result
 found_over base None = Err faults.Damaged
 found_over base (Some stored) = Ok (kept_after base stored)
 
-abbrev pub found_by : (base : List KeptOf) → Files → Option (List EntryOf) → Result (List KeptOf) OpenFault
+abbrev pub found_by : (base : List KeptOf) → Files → Option (List ImageEntryOf) → Result (List KeptOf) OpenFault
 found_by base files None = Err faults.Damaged
 found_by base files (Some es) = if has_foreign base es then Err faults.Foreign else found_over base (images_of files es)
 
@@ -37,13 +37,13 @@ unfoldable pub is_ours : List ℕ → Bool
 is_ours name = bytes_eq name new_name || is_image_at name (name_at name)
 
 -- `active` and the files that these lines name are as before, and so is each file of another name than a store gives
-pub record IsUntouched (es : List EntryOf) (before after : Files) : Type 0 where
+pub record IsUntouched (es : List ImageEntryOf) (before after : Files) : Type 0 where
   pub active : after active_name ≡ before active_name
   pub named : AllByRecursion (λ e. after (image_name e.key e.number) ≡ before (image_name e.key e.number)) es
   pub others : (name : List ℕ) → is_ours name ≡ false → name ≢ active_name → after name ≡ before name
 
 -- a file of a name that a store gives, which no line names, nor is it `active`
-pub record IsStray (es : List EntryOf) (name : List ℕ) : Type 0 where
+pub record IsUnnamedFile (es : List ImageEntryOf) (name : List ℕ) : Type 0 where
   pub ours : is_ours name ≡ true
   pub other : active_name ≢ name
   pub unnamed : AllByRecursion (λ e. image_name e.key e.number ≢ name) es

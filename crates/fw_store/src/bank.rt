@@ -1,8 +1,8 @@
 //! A bank whose images last.
 
 ghost use Rattle.std.specs.Prelude.{◌≡◌, ◌++◌, Err, IfOk, None, OnErr, OnOk, map, option_map};
-ghost use Rattle.fd_core.specs.Banks.{AreApart, Rose};
-ghost use Rattle.fd_core.specs.Images.{key_of, switched};
+ghost use Rattle.fd_core.specs.Banks.{HaveKeysOnce, CountsFailure};
+ghost use Rattle.fd_core.specs.Images.{key_of, rows_after_switch};
 ghost use Rattle.fw_store.specs.Kept.{all_applied, all_running, kept_after, one_applied};
 
 use crate::store::{Kept, Store};
@@ -24,7 +24,7 @@ pub struct KeptBank<S: Store + Drop> {
 
 impl<S: Store + Drop> Model for KeptBank<S> {
     ghost use Rattle.std.specs.Prelude.{◌≡◌, map};
-    ghost use Rattle.fd_core.specs.Banks.{AreApart};
+    ghost use Rattle.fd_core.specs.Banks.{HaveKeysOnce};
     ghost use Rattle.fd_core.specs.Images.{key_of};
     ghost use Rattle.fw_store.specs.Kept.{KeptBankOf, all_running};
 
@@ -32,14 +32,14 @@ impl<S: Store + Drop> Model for KeptBank<S> {
 
     ghost view = { λ b. record { rows = b.bank.rows; stage = b.bank.stage; faults = b.faults; kept = S.kept b.store } };
 
-    ghost invariant = { λ b. (b.keys.items ≡ map key_of b.bank.rows) × AreApart b.keys.items × (S.kept b.store ≡ all_running b.bank.rows) };
+    ghost invariant = { λ b. (b.keys.items ≡ map key_of b.bank.rows) × HaveKeysOnce b.keys.items × (S.kept b.store ≡ all_running b.bank.rows) };
 }
 
 impl<S: Store + Drop> KeptBank<S> {
     /// A bank of these components over a store that keeps what runs of them.
     pub fn new(alloc: Global, bank: MemBank, keys: Vec<Key>, store: S) -> KeptBank<S>
         requires keys { keys.items ≡ map key_of bank.rows }
-        requires apart { AreApart keys.items }
+        requires apart { HaveKeysOnce keys.items }
         requires kept { S.kept store ≡ all_running bank.rows }
         ensures { result ≡ record { rows = bank.rows; stage = bank.stage; faults = 0; kept = S.kept store } }
     {
@@ -63,7 +63,7 @@ impl<S: Store + Drop> KeptBank<S> {
     fn fail(&mut self, fault: BankFault) -> Result<(), BankFault>
         ensures result { result ≡ Err fault }
         ensures same { self.new ≡ record self.old { faults = self.new.faults } }
-        ensures failed { Rose self.old.faults self.new.faults }
+        ensures failed { CountsFailure self.old.faults self.new.faults }
     {
         self.faults = self.faults.saturating_add(1);
         Err(fault)
@@ -103,9 +103,9 @@ impl<S: Store + Drop> Bank for KeptBank<S> {
 
     #[tactic(auto, using(crate::proofs::Keeping::keeping))]
     fn switch(&mut self) -> Result<(), BankFault>
-        ensures ok { OnOk result (self.new ≡ record { rows = switched self.old.rows; stage = None; faults = self.old.faults; kept = all_running (switched self.old.rows) }) }
+        ensures ok { OnOk result (self.new ≡ record { rows = rows_after_switch self.old.rows; stage = None; faults = self.old.faults; kept = all_running (rows_after_switch self.old.rows) }) }
         ensures stays { OnErr result (self.new ≡ record self.old { faults = self.new.faults }) }
-        ensures failed { OnErr result (Rose self.old.faults self.new.faults) }
+        ensures failed { OnErr result (CountsFailure self.old.faults self.new.faults) }
     {
         match keep_applied(
             self.alloc,
@@ -136,7 +136,7 @@ fn keep_applied<S: Store>(
     store: &mut S,
 ) -> Result<(), BankFault>
     requires keys { keys.now ≡ map key_of bank.now.rows }
-    requires apart { AreApart keys.now }
+    requires apart { HaveKeysOnce keys.now }
     ensures ok { OnOk result (S.kept store.new ≡ kept_after (S.kept store.old) (all_applied bank.now.rows)) }
     ensures err { OnErr result (S.kept store.new ≡ S.kept store.old) }
 {
@@ -170,7 +170,7 @@ fn applied_images<'a>(
     keys: &[Key],
 ) -> Result<Vec<Kept<'a>>, AllocError>
     requires keys { keys.now ≡ map key_of bank.now.rows }
-    requires apart { AreApart keys.now }
+    requires apart { HaveKeysOnce keys.now }
     ensures { IfOk result (λ images. images.items ≡ all_applied bank.now.rows) }
 {
     let mut images = Vec::new(alloc);

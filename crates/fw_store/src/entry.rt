@@ -6,7 +6,7 @@ use std::marker::Model;
 
 /// An image that is kept in a file: what a line of `active` says of it.
 #[derive(Drop)]
-pub struct Entry {
+pub struct ImageEntry {
     /// The component that it is of.
     pub key: Key,
     /// What it calls itself.
@@ -19,10 +19,10 @@ pub struct Entry {
     pub checksum: u32,
 }
 
-impl Model for Entry {
-    ghost use Rattle.fw_store.specs.Active.{EntryOf};
+impl Model for ImageEntry {
+    ghost use Rattle.fw_store.specs.Active.{ImageEntryOf};
 
-    ghost Value = { EntryOf };
+    ghost Value = { ImageEntryOf };
 
     ghost view = { λ e. record { key = e.key; label = e.label; number = e.number; size = e.size; checksum = e.checksum } };
 }

@@ -1,7 +1,7 @@
 //! Folders of files.
 
 ghost use Rattle.std.specs.Prelude.{◌≡◌, ◌⊎◌, Bool, IfErr, IfOk, List, OnErr, OnOk, Option, option_map, true, ℕ};
-ghost use Rattle.fw_store.specs.Folders.{IsMoment, OnlyThere, Renamed, Unchanged, Wrote};
+ghost use Rattle.fw_store.specs.Folders.{IsMoment, ChangesOnlyFile, RenamesFile, LeavesFiles, WritesFile};
 
 use std::alloc::Global;
 use thiserror::Error;
@@ -46,8 +46,8 @@ pub trait Folder {
     /// It can't be written whole. Of this file nothing is known then.
     fn write(&mut self, name: &[u8], bytes: &[u8]) -> Result<(), FolderFault>
         ensures known { is_known self.new ≡ is_known self.old }
-        ensures ok { OnOk result (is_known self.old ≡ true → Wrote (files self.old) (files self.new) name.now bytes.now) }
-        ensures err { OnErr result (is_known self.old ≡ true → OnlyThere (files self.old) (files self.new) name.now) }
+        ensures ok { OnOk result (is_known self.old ≡ true → WritesFile (files self.old) (files self.new) name.now bytes.now) }
+        ensures err { OnErr result (is_known self.old ≡ true → ChangesOnlyFile (files self.old) (files self.new) name.now) }
         ensures moment { is_known self.old ≡ true → IsMoment (files self.old) (files self.new) (moments self.old) (moments self.new) };
 
     /// Gives a file another name, in the place of the file of that name, wholly or not at all, and puts that on the disk.
@@ -56,9 +56,9 @@ pub trait Folder {
     /// Nothing has changed; or the file may have been given that name, and a crash may undo it.
     fn rename(&mut self, name: &[u8], place: &[u8]) -> Result<(), RenameFault>
         ensures known { is_known self.new ≡ is_known self.old }
-        ensures ok { OnOk result (is_known self.old ≡ true → Renamed (files self.old) (files self.new) name.now place.now) }
-        ensures unchanged { IfErr result (λ e. e ≡ RenameFault.Unchanged → is_known self.old ≡ true → Unchanged (files self.old) (files self.new)) }
-        ensures unsure { IfErr result (λ e. e ≡ RenameFault.Unsure → is_known self.old ≡ true → Unchanged (files self.old) (files self.new) ⊎ Renamed (files self.old) (files self.new) name.now place.now) }
+        ensures ok { OnOk result (is_known self.old ≡ true → RenamesFile (files self.old) (files self.new) name.now place.now) }
+        ensures unchanged { IfErr result (λ e. e ≡ RenameFault.Unchanged → is_known self.old ≡ true → LeavesFiles (files self.old) (files self.new)) }
+        ensures unsure { IfErr result (λ e. e ≡ RenameFault.Unsure → is_known self.old ≡ true → LeavesFiles (files self.old) (files self.new) ⊎ RenamesFile (files self.old) (files self.new) name.now place.now) }
         ensures moment { is_known self.old ≡ true → IsMoment (files self.old) (files self.new) (moments self.old) (moments self.new) };
 
     /// Removes a file.
@@ -67,7 +67,7 @@ pub trait Folder {
     /// It can't be removed. Of this file nothing is known then.
     fn remove(&mut self, name: &[u8]) -> Result<(), FolderFault>
         ensures known { is_known self.new ≡ is_known self.old }
-        ensures others { is_known self.old ≡ true → OnlyThere (files self.old) (files self.new) name.now }
+        ensures others { is_known self.old ≡ true → ChangesOnlyFile (files self.old) (files self.new) name.now }
         ensures moment { is_known self.old ≡ true → IsMoment (files self.old) (files self.new) (moments self.old) (moments self.new) };
 
     /// The names of its files.

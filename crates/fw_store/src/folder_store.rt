@@ -1,12 +1,12 @@
 //! A store in a folder.
 
 ghost use Rattle.std.specs.Prelude.{◌≡◌, ◌⊎◌, IfErr, OnErr, OnOk, true};
-ghost use Rattle.fw_store.specs.Folders.{IsAfter, IsBefore, IsBeforeOrAfter, Passes};
-ghost use Rattle.fw_store.specs.Keeping.{Settled};
+ghost use Rattle.fw_store.specs.Folders.{IsAfter, IsBefore, IsBeforeOrAfter, PassesStates};
+ghost use Rattle.fw_store.specs.Keeping.{IsSettledIfKnown};
 ghost use Rattle.fw_store.specs.Kept.{kept_after};
 ghost use Rattle.fw_store.specs.Opening.{IsUntouched};
 
-use crate::entry::Entry;
+use crate::entry::ImageEntry;
 use crate::faults::OpenFault;
 use crate::folder::{Folder, RenameFault};
 use crate::lines::{are_apart, entries_after};
@@ -26,7 +26,7 @@ pub struct FolderStore<F: Folder + Drop> {
     alloc: Global,
     folder: F,
     memory: MemStore,
-    entries: Vec<Entry>,
+    entries: Vec<ImageEntry>,
     next: u64,
     is_sure: bool,
 }
@@ -37,7 +37,7 @@ impl<F: Folder + Drop> FolderStore<F> {
         alloc: Global,
         folder: F,
         memory: MemStore,
-        entries: Vec<Entry>,
+        entries: Vec<ImageEntry>,
         next: u64,
     ) -> FolderStore<F>
         ensures folder { result.folder ≡ folder }
@@ -89,12 +89,12 @@ impl<F: Folder + Drop> FolderStore<F> {
         ensures sure { self.new.is_sure ≡ self.old.is_sure }
         ensures known { F.is_known self.new.folder ≡ F.is_known self.old.folder }
         ensures untouched { F.is_known self.old.folder ≡ true → IsUntouched self.old.entries.items (F.files self.old.folder) (F.files self.new.folder) }
-        ensures settled { Settled (F.is_known self.old.folder) self.old.is_sure self.old.next (F.files self.old.folder) self.old.entries.items
-            → Settled (F.is_known self.new.folder) self.new.is_sure self.new.next (F.files self.new.folder) self.new.entries.items }
-        ensures same { Settled (F.is_known self.old.folder) self.old.is_sure self.old.next (F.files self.old.folder) self.old.entries.items
+        ensures settled { IsSettledIfKnown (F.is_known self.old.folder) self.old.is_sure self.old.next (F.files self.old.folder) self.old.entries.items
+            → IsSettledIfKnown (F.is_known self.new.folder) self.new.is_sure self.new.next (F.files self.new.folder) self.new.entries.items }
+        ensures same { IsSettledIfKnown (F.is_known self.old.folder) self.old.is_sure self.old.next (F.files self.old.folder) self.old.entries.items
             → F.is_known self.old.folder ≡ true → self.old.is_sure ≡ true → IsBefore (F.files self.old.folder) (F.files self.new.folder) }
-        ensures moments { Settled (F.is_known self.old.folder) self.old.is_sure self.old.next (F.files self.old.folder) self.old.entries.items
-            → F.is_known self.old.folder ≡ true → self.old.is_sure ≡ true → Passes (IsBefore (F.files self.old.folder)) (F.moments self.old.folder) (F.moments self.new.folder) }
+        ensures moments { IsSettledIfKnown (F.is_known self.old.folder) self.old.is_sure self.old.next (F.files self.old.folder) self.old.entries.items
+            → F.is_known self.old.folder ≡ true → self.old.is_sure ≡ true → PassesStates (IsBefore (F.files self.old.folder)) (F.moments self.old.folder) (F.moments self.new.folder) }
         ensures unread { IfErr result (λ e. e ≡ OpenFault.Unreadable → self.new ≡ self.old) }
         ensures fault { IfErr result (λ e. (e ≡ OpenFault.Unreadable) ⊎ (e ≡ OpenFault.Memory)) }
     {
@@ -123,14 +123,14 @@ impl<F: Folder + Drop> FolderStore<F> {
         ensures err { OnErr result (self.new.memory.images.items ≡ self.old.memory.images.items) }
         ensures known { F.is_known self.new.folder ≡ F.is_known self.old.folder }
         ensures sure { OnOk result (self.new.is_sure ≡ true) }
-        ensures settled { Settled (F.is_known self.old.folder) self.old.is_sure self.old.next (F.files self.old.folder) self.old.entries.items
-            → Settled (F.is_known self.new.folder) self.new.is_sure self.new.next (F.files self.new.folder) self.new.entries.items }
-        ensures found { OnOk result (Settled (F.is_known self.old.folder) self.old.is_sure self.old.next (F.files self.old.folder) self.old.entries.items
+        ensures settled { IsSettledIfKnown (F.is_known self.old.folder) self.old.is_sure self.old.next (F.files self.old.folder) self.old.entries.items
+            → IsSettledIfKnown (F.is_known self.new.folder) self.new.is_sure self.new.next (F.files self.new.folder) self.new.entries.items }
+        ensures found { OnOk result (IsSettledIfKnown (F.is_known self.old.folder) self.old.is_sure self.old.next (F.files self.old.folder) self.old.entries.items
             → F.is_known self.old.folder ≡ true → IsAfter images.now (F.files self.old.folder) (F.files self.new.folder)) }
-        ensures stays { OnErr result (Settled (F.is_known self.old.folder) self.old.is_sure self.old.next (F.files self.old.folder) self.old.entries.items
+        ensures stays { OnErr result (IsSettledIfKnown (F.is_known self.old.folder) self.old.is_sure self.old.next (F.files self.old.folder) self.old.entries.items
             → F.is_known self.old.folder ≡ true → self.new.is_sure ≡ true → IsBefore (F.files self.old.folder) (F.files self.new.folder)) }
-        ensures moments { Settled (F.is_known self.old.folder) self.old.is_sure self.old.next (F.files self.old.folder) self.old.entries.items
-            → F.is_known self.old.folder ≡ true → Passes (IsBeforeOrAfter images.now (F.files self.old.folder)) (F.moments self.old.folder) (F.moments self.new.folder) }
+        ensures moments { IsSettledIfKnown (F.is_known self.old.folder) self.old.is_sure self.old.next (F.files self.old.folder) self.old.entries.items
+            → F.is_known self.old.folder ≡ true → PassesStates (IsBeforeOrAfter images.now (F.files self.old.folder)) (F.moments self.old.folder) (F.moments self.new.folder) }
     {
         if !self.is_sure || !are_apart(images) {
             return Err(StoreFault);

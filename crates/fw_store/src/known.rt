@@ -1,8 +1,8 @@
 //! A folder in memory, of which it is known what it holds and held.
 
 ghost use Rattle.std.specs.Prelude.{◌≡◌, ◌∷◌, ◌++◌, [], IfOk, List, OnErr, OnOk, Option, length, option_map, take, true, ℕ};
-ghost use Rattle.fw_store.specs.Folders.{IsMoment, OnlyThere, Renamed, Unchanged, Wrote};
-ghost use Rattle.fw_store.specs.Changes.{changed, files_of, seen_by, states_of};
+ghost use Rattle.fw_store.specs.Folders.{IsMoment, ChangesOnlyFile, RenamesFile, LeavesFiles, WritesFile};
+ghost use Rattle.fw_store.specs.Changes.{files_after_change, files_of, seen_by, states_of};
 
 use crate::folder::{Folder, FolderFault, RenameFault};
 use std::alloc::{AllocError, Global};
@@ -88,7 +88,7 @@ enum Seen<'a> {
 
 /// What a change says of the file of a name.
 fn see<'a>(change: &'a Change, name: &'a [u8]) -> Seen<'a>
-    ensures { (files : List ℕ → Option (List ℕ)) → changed change.now files name.now ≡ seen_by result files }
+    ensures { (files : List ℕ → Option (List ℕ)) → files_after_change change.now files name.now ≡ seen_by result files }
 {
     match change.kind {
         Kind::Put if change.name.as_slice() == name => Seen::Bytes(&change.other),
@@ -180,8 +180,8 @@ impl KnownFolder {
     /// Puts these bytes into a file.
     #[tactic(auto, using(crate::proofs::Changes::calling))]
     fn put(&mut self, name: &[u8], bytes: &[u8]) -> Result<(), FolderFault>
-        ensures ok { OnOk result (Wrote (files_of self.old.changes.items) (files_of self.new.changes.items) name.now bytes.now) }
-        ensures only { OnlyThere (files_of self.old.changes.items) (files_of self.new.changes.items) name.now }
+        ensures ok { OnOk result (WritesFile (files_of self.old.changes.items) (files_of self.new.changes.items) name.now bytes.now) }
+        ensures only { ChangesOnlyFile (files_of self.old.changes.items) (files_of self.new.changes.items) name.now }
         ensures moment { IsMoment (files_of self.old.changes.items) (files_of self.new.changes.items) (states_of self.old.changes.items) (states_of self.new.changes.items) }
     {
         match self.note(Kind::Put, name, bytes) {
@@ -193,8 +193,8 @@ impl KnownFolder {
     /// Gives a file another name.
     #[tactic(auto, using(crate::proofs::Changes::calling))]
     fn give(&mut self, name: &[u8], place: &[u8]) -> Result<(), FolderFault>
-        ensures ok { OnOk result (Renamed (files_of self.old.changes.items) (files_of self.new.changes.items) name.now place.now) }
-        ensures err { OnErr result (Unchanged (files_of self.old.changes.items) (files_of self.new.changes.items)) }
+        ensures ok { OnOk result (RenamesFile (files_of self.old.changes.items) (files_of self.new.changes.items) name.now place.now) }
+        ensures err { OnErr result (LeavesFiles (files_of self.old.changes.items) (files_of self.new.changes.items)) }
         ensures moment { IsMoment (files_of self.old.changes.items) (files_of self.new.changes.items) (states_of self.old.changes.items) (states_of self.new.changes.items) }
     {
         match self.note(Kind::Moved, name, place) {

@@ -20,7 +20,7 @@ mod system;
 mod writing;
 
 pub use bank::KeptBank;
-pub use entry::Entry;
+pub use entry::ImageEntry;
 pub use faults::OpenFault;
 pub use folder::{Folder, FolderFault, RenameFault};
 pub use folder_store::FolderStore;

@@ -2,11 +2,11 @@
 
 ghost use Rattle.std.specs.Prelude.{◌≡◌, ◌++◌, ◌<◌, ◌^◌, ℕ, get_or, IfOk, IfSome, None, OnOk, map, true};
 ghost use Rattle.std.specs.List.{AllByRecursion};
-ghost use Rattle.fd_core.specs.Banks.{AreApart};
-ghost use Rattle.fw_store.specs.Active.{IsEntry};
+ghost use Rattle.fd_core.specs.Banks.{HaveKeysOnce};
+ghost use Rattle.fw_store.specs.Active.{IsImageEntry};
 ghost use Rattle.fw_store.specs.Keeping.{entries_after as lines_after, entry_for as line_for, lines_left};
 
-use crate::entry::Entry;
+use crate::entry::ImageEntry;
 use crate::memory::find;
 use crate::store::{Kept, StoreFault};
 use fw_package::crc32;
@@ -16,7 +16,7 @@ use std::alloc::{AllocError, Global};
 /// Whether no component stands twice among these.
 #[tactic(auto, using(crate::proofs::Left::has_none))]
 pub(crate) fn are_apart(images: &[Kept<'_>]) -> bool
-    ensures { result ≡ true → AreApart (map (λ k. k.key) images.now) }
+    ensures { result ≡ true → HaveKeysOnce (map (λ k. k.key) images.now) }
 {
     match images {
         [] => true,
@@ -25,11 +25,11 @@ pub(crate) fn are_apart(images: &[Kept<'_>]) -> bool
 }
 
 /// The line of an image in a file of this number, where its size has four bytes.
-fn line_of(number: u32, image: &Kept<'_>) -> Option<Entry>
+fn line_of(number: u32, image: &Kept<'_>) -> Option<ImageEntry>
     ensures { IfSome result (λ e. e ≡ line_for number image.now) }
 {
     match u32::try_from(image.bytes.len()) {
-        Ok(size) => Some(Entry {
+        Ok(size) => Some(ImageEntry {
             key: image.key,
             label: image.label.copied(),
             number,
@@ -41,7 +41,11 @@ fn line_of(number: u32, image: &Kept<'_>) -> Option<Entry>
 }
 
 /// Appends the lines of images that are new.
-fn push_new(entries: &mut Vec<Entry>, number: u32, images: &[Kept<'_>]) -> Result<(), StoreFault>
+fn push_new(
+    entries: &mut Vec<ImageEntry>,
+    number: u32,
+    images: &[Kept<'_>],
+) -> Result<(), StoreFault>
     ensures { OnOk result (entries.new.items ≡ entries.old.items ++ map (line_for number) images.now) }
 {
     for image in images {
@@ -56,10 +60,10 @@ fn push_new(entries: &mut Vec<Entry>, number: u32, images: &[Kept<'_>]) -> Resul
 }
 
 /// The same line again.
-fn copied(entry: &Entry) -> Entry
+fn copied(entry: &ImageEntry) -> ImageEntry
     ensures { result ≡ entry.now }
 {
-    Entry {
+    ImageEntry {
         key: entry.key,
         label: entry.label.copied(),
         number: entry.number,
@@ -70,7 +74,11 @@ fn copied(entry: &Entry) -> Entry
 
 /// Appends the lines of other components than these.
 #[tactic(auto, using(crate::proofs::Left::leaving))]
-fn push_left(entries: &mut Vec<Entry>, images: &[Kept<'_>], old: &[Entry]) -> Result<(), StoreFault>
+fn push_left(
+    entries: &mut Vec<ImageEntry>,
+    images: &[Kept<'_>],
+    old: &[ImageEntry],
+) -> Result<(), StoreFault>
     ensures { OnOk result (entries.new.items ≡ entries.old.items ++ lines_left images.now old.now) }
 {
     for entry in old {
@@ -100,8 +108,8 @@ fn byte_widths(bytes: &[u8])
 {}
 
 /// So have those of a line.
-fn width(entry: &Entry)
-    ensures { IsEntry entry.now }
+fn width(entry: &ImageEntry)
+    ensures { IsImageEntry entry.now }
 {
     let version = entry.label.version();
     byte_widths(version.text.bytes);
@@ -117,8 +125,8 @@ fn width(entry: &Entry)
 
 /// So have those of each line.
 #[tactic(auto, using(crate::proofs::Left::all_more))]
-pub(crate) fn widths(entries: &[Entry])
-    ensures { AllByRecursion IsEntry entries.now }
+pub(crate) fn widths(entries: &[ImageEntry])
+    ensures { AllByRecursion IsImageEntry entries.now }
 {
     for entry in entries {
         width(entry);
@@ -130,10 +138,10 @@ pub(crate) fn entries_after(
     alloc: Global,
     number: u32,
     images: &[Kept<'_>],
-    old: &[Entry],
-) -> Result<Vec<Entry>, StoreFault>
+    old: &[ImageEntry],
+) -> Result<Vec<ImageEntry>, StoreFault>
     ensures lines { IfOk result (λ v. v.items ≡ lines_after number images.now old.now) }
-    ensures widths { IfOk result (λ v. AllByRecursion IsEntry v.items) }
+    ensures widths { IfOk result (λ v. AllByRecursion IsImageEntry v.items) }
 {
     let mut entries = Vec::new(alloc);
     push_new(&mut entries, number, images)?;

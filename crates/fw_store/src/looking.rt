@@ -6,7 +6,7 @@ ghost use Rattle.fw_store.specs.Folders.{active_name, image_by, images_of as ima
 ghost use Rattle.fw_store.specs.Kept.{kept_after};
 ghost use Rattle.fw_store.specs.Opening.{found_in, has_foreign as names_foreign};
 
-use crate::entry::Entry;
+use crate::entry::ImageEntry;
 use crate::faults::OpenFault;
 use crate::folder::Folder;
 use crate::memory::{MemStore, Stored, copied, find};
@@ -18,7 +18,7 @@ use fw_package::crc32;
 use std::alloc::{AllocError, Global};
 
 /// The lines of a folder's `active`, if it is their text: none where there is no such file.
-fn lines<F: Folder>(alloc: Global, folder: &F) -> Result<Option<Vec<Entry>>, OpenFault>
+fn lines<F: Folder>(alloc: Global, folder: &F) -> Result<Option<Vec<ImageEntry>>, OpenFault>
     ensures ok { IfOk result (λ r. F.is_known folder.now ≡ true → option_map (λ v. v.items) r ≡ lines_by (F.files folder.now active_name)) }
     ensures err { IfErr result (λ e. (e ≡ OpenFault.Unreadable) ⊎ (e ≡ OpenFault.Memory)) }
 {
@@ -36,7 +36,7 @@ fn lines<F: Folder>(alloc: Global, folder: &F) -> Result<Option<Vec<Entry>>, Ope
 }
 
 /// The image of a line, where its bytes have its size and its checksum.
-fn checked(entry: &Entry, bytes: Vec<u8>) -> Option<Stored>
+fn checked(entry: &ImageEntry, bytes: Vec<u8>) -> Option<Stored>
     ensures { result ≡ image_by entry.now (Some bytes.items) }
 {
     if bytes.len() as u64 == u64::from(entry.size) && crc32(&bytes) == entry.checksum {
@@ -47,7 +47,11 @@ fn checked(entry: &Entry, bytes: Vec<u8>) -> Option<Stored>
 }
 
 /// The image of a line, where it is there.
-fn image<F: Folder>(alloc: Global, folder: &F, entry: &Entry) -> Result<Option<Stored>, OpenFault>
+fn image<F: Folder>(
+    alloc: Global,
+    folder: &F,
+    entry: &ImageEntry,
+) -> Result<Option<Stored>, OpenFault>
     ensures ok { IfOk result (λ r. F.is_known folder.now ≡ true → r ≡ image_by entry.now (F.files folder.now (name_of entry.now.key entry.now.number))) }
     ensures err { IfErr result (λ e. (e ≡ OpenFault.Unreadable) ⊎ (e ≡ OpenFault.Memory)) }
 {
@@ -66,7 +70,7 @@ fn image<F: Folder>(alloc: Global, folder: &F, entry: &Entry) -> Result<Option<S
 fn images<F: Folder>(
     alloc: Global,
     folder: &F,
-    entries: &[Entry],
+    entries: &[ImageEntry],
 ) -> Result<Option<Vec<Stored>>, OpenFault>
     ensures ok { IfOk result (λ r. F.is_known folder.now ≡ true → option_map (λ v. v.items) r ≡ images_by (F.files folder.now) entries.now) }
     ensures err { IfErr result (λ e. (e ≡ OpenFault.Unreadable) ⊎ (e ≡ OpenFault.Memory)) }
@@ -88,7 +92,7 @@ fn images<F: Folder>(
 
 /// Whether a line is of a component that isn't among these.
 #[tactic(auto, using(crate::proofs::FoundImages::foreign))]
-fn has_foreign(components: &[Kept<'_>], entries: &[Entry]) -> bool
+fn has_foreign(components: &[Kept<'_>], entries: &[ImageEntry]) -> bool
     ensures { result ≡ names_foreign components.now entries.now }
 {
     for entry in entries {
@@ -139,7 +143,7 @@ pub(crate) fn look<F: Folder>(
     alloc: Global,
     folder: &F,
     components: &[Kept<'_>],
-) -> Result<(Vec<Entry>, MemStore), OpenFault>
+) -> Result<(Vec<ImageEntry>, MemStore), OpenFault>
     ensures ok { IfOk result (λ r. F.is_known folder.now ≡ true → found_in components.now (F.files folder.now) ≡ Ok r.1.images.items) }
     ensures lines { IfOk result (λ r. F.is_known folder.now ≡ true → lines_by (F.files folder.now active_name) ≡ Some r.0.items) }
     ensures there { IfOk result (λ r. F.is_known folder.now ≡ true → is_some (images_by (F.files folder.now) r.0.items) ≡ true) }

@@ -1,7 +1,7 @@
 //! A store in memory, which lasts as long as the program.
 
 ghost use Rattle.std.specs.Prelude.{◌≡◌, IfOk, None, OnErr, OnOk, map, option_map};
-ghost use Rattle.fd_core.specs.Banks.{AreApart};
+ghost use Rattle.fd_core.specs.Banks.{HaveKeysOnce};
 ghost use Rattle.fd_core.specs.Images.{key_of};
 ghost use Rattle.fw_store.specs.Kept.{KeptOf, all_running, image_for, kept_after, replaced_by};
 
@@ -117,7 +117,7 @@ impl MemStore {
     /// `AllocError` where memory is refused.
     pub fn of(alloc: Global, bank: &MemBank, keys: &[Key]) -> Result<MemStore, AllocError>
         requires keys { keys.now ≡ map key_of bank.now.rows }
-        requires apart { AreApart keys.now }
+        requires apart { HaveKeysOnce keys.now }
         ensures { IfOk result (λ s. s.images.items ≡ all_running bank.now.rows) }
     {
         let mut images = Vec::new(alloc);

@@ -2,10 +2,10 @@
 
 ghost use Rattle.std.specs.Prelude.{◌≡◌, ◌<◌, Err, IfErr, IfOk, Ok, OnOk, true};
 ghost use Rattle.std.specs.List.{AllByRecursion};
-ghost use Rattle.fw_store.specs.Keeping.{Settled};
+ghost use Rattle.fw_store.specs.Keeping.{IsSettledIfKnown};
 ghost use Rattle.fw_store.specs.Opening.{found_in};
 
-use crate::entry::Entry;
+use crate::entry::ImageEntry;
 use crate::faults::OpenFault;
 use crate::folder::Folder;
 use crate::folder_store::FolderStore;
@@ -16,7 +16,7 @@ use std::alloc::Global;
 
 /// A number above those of these lines.
 #[tactic(auto, using(crate::proofs::Swept::below_more))]
-fn next_after(entries: &[Entry]) -> u64
+fn next_after(entries: &[ImageEntry]) -> u64
     ensures { AllByRecursion (λ e. e.number < result) entries.now }
 {
     let mut next: u64 = 1;
@@ -39,7 +39,7 @@ pub fn open_store<F: Folder + Drop>(
 ) -> Result<FolderStore<F>, OpenFault>
     ensures found { IfOk result (λ s. F.is_known folder ≡ true → found_in components.now (F.files folder) ≡ Ok s.memory.images.items) }
     ensures sure { IfOk result (λ s. s.is_sure ≡ true) }
-    ensures settled { IfOk result (λ s. Settled (F.is_known s.folder) s.is_sure s.next (F.files s.folder) s.entries.items) }
+    ensures settled { IfOk result (λ s. IsSettledIfKnown (F.is_known s.folder) s.is_sure s.next (F.files s.folder) s.entries.items) }
     ensures untouched { IfOk result (λ s. s.folder ≡ folder) }
     ensures damaged { IfErr result (λ e. e ≡ OpenFault.Damaged → F.is_known folder ≡ true → found_in components.now (F.files folder) ≡ Err OpenFault.Damaged) }
     ensures foreign { IfErr result (λ e. e ≡ OpenFault.Foreign → F.is_known folder ≡ true → found_in components.now (F.files folder) ≡ Err OpenFault.Foreign) }

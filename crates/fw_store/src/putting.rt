@@ -1,12 +1,12 @@
 //! How images come to a folder: their files first, and then the text that names them.
 
 ghost use Rattle.std.specs.Prelude.{◌≡◌, ◌⊎◌, ◌^◌, ◌<◌, IfErr, IfOk, OnErr, OnOk, map, true};
-ghost use Rattle.fd_core.specs.Banks.{AreApart};
+ghost use Rattle.fd_core.specs.Banks.{HaveKeysOnce};
 ghost use Rattle.fw_store.specs.Active.{image_name as name_of};
-ghost use Rattle.fw_store.specs.Folders.{Passes};
-ghost use Rattle.fw_store.specs.Keeping.{Apart, Came, IsKey, IsPut, IsStopped, IsUnput, IsWriting, MayHaveCome};
+ghost use Rattle.fw_store.specs.Folders.{PassesStates};
+ghost use Rattle.fw_store.specs.Keeping.{LeavesLowerFiles, WritesImages, IsKey, ReplacesActive, IsStopped, FailsToReplaceActive, IsWriting, MayHaveReplaced};
 
-use crate::entry::Entry;
+use crate::entry::ImageEntry;
 use crate::folder::{Folder, FolderFault, RenameFault};
 use crate::store::Kept;
 use crate::writing::{active_text, image_name};
@@ -35,7 +35,7 @@ fn write_images<F: Folder>(
     number: u32,
     images: &[Kept<'_>],
 ) -> Result<(), FolderFault>
-    requires apart { AreApart (map (λ k. k.key) images.now) }
+    requires apart { HaveKeysOnce (map (λ k. k.key) images.now) }
     ensures known { F.is_known folder.new ≡ F.is_known folder.old }
     ensures ok { OnOk result (F.is_known folder.old ≡ true → IsWriting number images.now (F.files folder.old) (F.files folder.new) (F.moments folder.old) (F.moments folder.new)) }
     ensures err { OnErr result (F.is_known folder.old ≡ true → IsStopped number (F.files folder.old) (F.files folder.new) (F.moments folder.old) (F.moments folder.new)) }
@@ -56,9 +56,9 @@ fn write_images<F: Folder>(
 #[tactic(auto, using(crate::proofs::Moments::putting))]
 fn put_text<F: Folder>(folder: &mut F, text: &[u8]) -> Result<(), RenameFault>
     ensures known { F.is_known folder.new ≡ F.is_known folder.old }
-    ensures ok { OnOk result (F.is_known folder.old ≡ true → IsPut text.now (F.files folder.old) (F.files folder.new) (F.moments folder.old) (F.moments folder.new)) }
-    ensures unchanged { IfErr result (λ e. e ≡ RenameFault.Unchanged → F.is_known folder.old ≡ true → IsUnput (F.files folder.old) (F.files folder.new) (F.moments folder.old) (F.moments folder.new)) }
-    ensures unsure { IfErr result (λ e. e ≡ RenameFault.Unsure → F.is_known folder.old ≡ true → IsUnput (F.files folder.old) (F.files folder.new) (F.moments folder.old) (F.moments folder.new) ⊎ IsPut text.now (F.files folder.old) (F.files folder.new) (F.moments folder.old) (F.moments folder.new)) }
+    ensures ok { OnOk result (F.is_known folder.old ≡ true → ReplacesActive text.now (F.files folder.old) (F.files folder.new) (F.moments folder.old) (F.moments folder.new)) }
+    ensures unchanged { IfErr result (λ e. e ≡ RenameFault.Unchanged → F.is_known folder.old ≡ true → FailsToReplaceActive (F.files folder.old) (F.files folder.new) (F.moments folder.old) (F.moments folder.new)) }
+    ensures unsure { IfErr result (λ e. e ≡ RenameFault.Unsure → F.is_known folder.old ≡ true → FailsToReplaceActive (F.files folder.old) (F.files folder.new) (F.moments folder.old) (F.moments folder.new) ⊎ ReplacesActive text.now (F.files folder.old) (F.files folder.new) (F.moments folder.old) (F.moments folder.new)) }
 {
     match folder.write(ACTIVE_NEW, text) {
         Ok(()) => folder.rename(ACTIVE_NEW, ACTIVE),
@@ -76,14 +76,14 @@ pub(crate) fn put_images<F: Folder>(
     folder: &mut F,
     number: u32,
     images: &[Kept<'_>],
-    entries: &[Entry],
+    entries: &[ImageEntry],
 ) -> Result<(), RenameFault>
-    requires apart { AreApart (map (λ k. k.key) images.now) }
+    requires apart { HaveKeysOnce (map (λ k. k.key) images.now) }
     ensures known { F.is_known folder.new ≡ F.is_known folder.old }
-    ensures ok { OnOk result (F.is_known folder.old ≡ true → Came number images.now entries.now (F.files folder.old) (F.files folder.new)) }
-    ensures unchanged { IfErr result (λ e. e ≡ RenameFault.Unchanged → F.is_known folder.old ≡ true → Apart number (F.files folder.old) (F.files folder.new)) }
-    ensures unsure { IfErr result (λ e. e ≡ RenameFault.Unsure → F.is_known folder.old ≡ true → MayHaveCome number images.now entries.now (F.files folder.old) (F.files folder.new)) }
-    ensures moments { F.is_known folder.old ≡ true → Passes (MayHaveCome number images.now entries.now (F.files folder.old)) (F.moments folder.old) (F.moments folder.new) }
+    ensures ok { OnOk result (F.is_known folder.old ≡ true → WritesImages number images.now entries.now (F.files folder.old) (F.files folder.new)) }
+    ensures unchanged { IfErr result (λ e. e ≡ RenameFault.Unchanged → F.is_known folder.old ≡ true → LeavesLowerFiles number (F.files folder.old) (F.files folder.new)) }
+    ensures unsure { IfErr result (λ e. e ≡ RenameFault.Unsure → F.is_known folder.old ≡ true → MayHaveReplaced number images.now entries.now (F.files folder.old) (F.files folder.new)) }
+    ensures moments { F.is_known folder.old ≡ true → PassesStates (MayHaveReplaced number images.now entries.now (F.files folder.old)) (F.moments folder.old) (F.moments folder.new) }
 {
     let Ok(text) = active_text(alloc, entries) else {
         return Err(RenameFault::Unchanged);

@@ -6,7 +6,7 @@ ghost use Rattle.std.specs.List.{list_all, position};
 ghost use Rattle.std.specs.Str.Parse.{digits_value};
 ghost use Rattle.fw_store.specs.Active.{checksum_at, checksum_in, data_in, entries_from, entries_of, entry_at, field_at, key_at, label_at, name_at, number_at, number_in};
 
-use crate::entry::Entry;
+use crate::entry::ImageEntry;
 use crate::writing::active_text;
 use arrayvec::ArrayVec;
 use fd_core::{Label, MAX_TEXT};
@@ -155,7 +155,7 @@ fn checksum(text: &[u8]) -> Option<(u32, &[u8])>
 
 /// The image of a line, and what stands behind the line.
 #[tactic(auto, unfolding(crate::specs::Active::entry_at))]
-fn entry(text: &[u8]) -> Option<(Entry, &[u8])>
+fn entry(text: &[u8]) -> Option<(ImageEntry, &[u8])>
     ensures { option_map (λ f. (f.0, f.1.now)) result ≡ entry_at text.now }
 {
     let (key, rest) = key(text, b' ', b' ')?;
@@ -164,7 +164,7 @@ fn entry(text: &[u8]) -> Option<(Entry, &[u8])>
     let (_, rest) = field(rest, b' ')?;
     let (size, rest) = number(rest, b' ', 0xFFFF_FFFF)?;
     let (checksum, rest) = checksum(rest)?;
-    let entry = Entry {
+    let entry = ImageEntry {
         key,
         label,
         number: in_name,
@@ -176,7 +176,7 @@ fn entry(text: &[u8]) -> Option<(Entry, &[u8])>
 
 /// The images of so many lines at most, and no more text.
 #[tactic(auto, using(crate::proofs::EachLine::reading))]
-fn entries(alloc: Global, text: &[u8]) -> Result<Option<Vec<Entry>>, AllocError>
+fn entries(alloc: Global, text: &[u8]) -> Result<Option<Vec<ImageEntry>>, AllocError>
     ensures { IfOk result (λ r. option_map (λ v. v.items) r ≡ entries_from (length text.now) text.now) }
 {
     let mut entries = Vec::new(alloc);
@@ -202,7 +202,7 @@ fn entries(alloc: Global, text: &[u8]) -> Result<Option<Vec<Entry>>, AllocError>
 ///
 /// # Errors
 /// `AllocError` where memory is refused.
-pub fn read_active(alloc: Global, text: &[u8]) -> Result<Option<Vec<Entry>>, AllocError>
+pub fn read_active(alloc: Global, text: &[u8]) -> Result<Option<Vec<ImageEntry>>, AllocError>
     ensures { IfOk result (λ r. option_map (λ v. v.items) r ≡ entries_of text.now) }
 {
     let lines = &text[..text.len().saturating_sub(LAST_LINE)];

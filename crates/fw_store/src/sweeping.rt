@@ -3,10 +3,10 @@
 ghost use Rattle.std.specs.Prelude.{◌≡◌, ◌≢◌, IfOk, List, false, true};
 ghost use Rattle.std.specs.List.{AllByRecursion};
 ghost use Rattle.fw_store.specs.Active.{image_name as name_of};
-ghost use Rattle.fw_store.specs.Folders.{Files, Passes};
-ghost use Rattle.fw_store.specs.Opening.{IsStray, IsUntouched, is_ours as has_our_name};
+ghost use Rattle.fw_store.specs.Folders.{Files, PassesStates};
+ghost use Rattle.fw_store.specs.Opening.{IsUnnamedFile, IsUntouched, is_ours as has_our_name};
 
-use crate::entry::Entry;
+use crate::entry::ImageEntry;
 use crate::folder::Folder;
 use crate::putting::{ACTIVE, ACTIVE_NEW};
 use crate::reading::name as name_at;
@@ -29,7 +29,7 @@ fn is_ours(alloc: Global, name: &[u8]) -> Result<bool, AllocError>
 }
 
 /// Whether a line names a file.
-fn is_named(alloc: Global, entries: &[Entry], name: &[u8]) -> Result<bool, AllocError>
+fn is_named(alloc: Global, entries: &[ImageEntry], name: &[u8]) -> Result<bool, AllocError>
     ensures { IfOk result (λ b. b ≡ false → AllByRecursion (λ e. name_of e.key e.number ≢ name.now) entries.now) }
 {
     for entry in entries {
@@ -42,8 +42,8 @@ fn is_named(alloc: Global, entries: &[Entry], name: &[u8]) -> Result<bool, Alloc
 }
 
 /// Whether a file is one of this store that no line names.
-fn is_stray(alloc: Global, entries: &[Entry], name: &[u8]) -> Result<bool, AllocError>
-    ensures { IfOk result (λ b. b ≡ true → IsStray entries.now name.now) }
+fn is_stray(alloc: Global, entries: &[ImageEntry], name: &[u8]) -> Result<bool, AllocError>
+    ensures { IfOk result (λ b. b ≡ true → IsUnnamedFile entries.now name.now) }
 {
     if name == ACTIVE || !is_ours(alloc, name)? {
         return Ok(false);
@@ -55,13 +55,13 @@ fn is_stray(alloc: Global, entries: &[Entry], name: &[u8]) -> Result<bool, Alloc
 fn sweep_one<F: Folder>(
     alloc: Global,
     folder: &mut F,
-    entries: &[Entry],
+    entries: &[ImageEntry],
     name: &[u8],
 ) -> Result<(), AllocError>
     ensures known { F.is_known folder.new ≡ F.is_known folder.old }
     ensures untouched { F.is_known folder.old ≡ true → (first : Files) → IsUntouched entries.now first (F.files folder.old) → IsUntouched entries.now first (F.files folder.new) }
     ensures moments { F.is_known folder.old ≡ true → (first : Files) (past : List Files) → IsUntouched entries.now first (F.files folder.old)
-        → Passes (IsUntouched entries.now first) past (F.moments folder.old) → Passes (IsUntouched entries.now first) past (F.moments folder.new) }
+        → PassesStates (IsUntouched entries.now first) past (F.moments folder.old) → PassesStates (IsUntouched entries.now first) past (F.moments folder.new) }
 {
     match is_stray(alloc, entries, name) {
         Ok(true) => {}
@@ -77,12 +77,12 @@ fn sweep_one<F: Folder>(
 pub(crate) fn sweep<F: Folder>(
     alloc: Global,
     folder: &mut F,
-    entries: &[Entry],
+    entries: &[ImageEntry],
     names: &[Vec<u8>],
 ) -> Result<(), AllocError>
     ensures known { F.is_known folder.new ≡ F.is_known folder.old }
     ensures untouched { F.is_known folder.old ≡ true → IsUntouched entries.now (F.files folder.old) (F.files folder.new) }
-    ensures moments { F.is_known folder.old ≡ true → Passes (IsUntouched entries.now (F.files folder.old)) (F.moments folder.old) (F.moments folder.new) }
+    ensures moments { F.is_known folder.old ≡ true → PassesStates (IsUntouched entries.now (F.files folder.old)) (F.moments folder.old) (F.moments folder.new) }
 {
     for name in names {
         match sweep_one(alloc, folder, entries, name) {

@@ -1,10 +1,10 @@
 //! The text `active`, and the names of images' files.
 
 ghost use Rattle.std.specs.Prelude.{◌≡◌, IfOk, OnOk, codes, string_bytes};
-ghost use Rattle.fw_text.specs.Printing.{Adds};
+ghost use Rattle.fw_text.specs.Printing.{AppendsText};
 ghost use Rattle.fw_store.specs.Active.{active_text as text_of, image_name as name_of, label_text, line_of, lines_text as lines_of};
 
-use crate::entry::Entry;
+use crate::entry::ImageEntry;
 use fd_core::Label;
 use fw_package::crc32;
 use fw_text::{push_data, push_eight, push_number, push_words};
@@ -14,7 +14,7 @@ use std::alloc::{AllocError, Global};
 /// Appends the name of an image's file.
 #[tactic(auto, unfolding(crate::specs::Active::image_name))]
 fn push_name(alloc: Global, text: &mut Vec<u8>, key: Key, number: u32) -> Result<(), AllocError>
-    ensures { OnOk result (Adds text.old.items text.new.items (name_of key number)) }
+    ensures { OnOk result (AppendsText text.old.items text.new.items (name_of key number)) }
 {
     push_number(alloc, text, "", key.classification as usize)?;
     push_number(alloc, text, "-", key.identifier as usize)?;
@@ -26,7 +26,7 @@ fn push_name(alloc: Global, text: &mut Vec<u8>, key: Key, number: u32) -> Result
 /// Appends a label, a space before each of its fields.
 #[tactic(auto, unfolding(crate::specs::Active::label_text))]
 fn push_label(alloc: Global, text: &mut Vec<u8>, label: &Label) -> Result<(), AllocError>
-    ensures { OnOk result (Adds text.old.items text.new.items (label_text label.now)) }
+    ensures { OnOk result (AppendsText text.old.items text.new.items (label_text label.now)) }
 {
     push_number(alloc, text, " ", label.stamp as usize)?;
     push_number(alloc, text, " ", label.text_type as usize)?;
@@ -37,8 +37,8 @@ fn push_label(alloc: Global, text: &mut Vec<u8>, label: &Label) -> Result<(), Al
 
 /// Appends an image's line.
 #[tactic(auto, unfolding(crate::specs::Active::line_of))]
-fn push_line(alloc: Global, text: &mut Vec<u8>, entry: &Entry) -> Result<(), AllocError>
-    ensures { OnOk result (Adds text.old.items text.new.items (line_of entry.now)) }
+fn push_line(alloc: Global, text: &mut Vec<u8>, entry: &ImageEntry) -> Result<(), AllocError>
+    ensures { OnOk result (AppendsText text.old.items text.new.items (line_of entry.now)) }
 {
     push_number(alloc, text, "", entry.key.classification as usize)?;
     push_number(alloc, text, " ", entry.key.identifier as usize)?;
@@ -53,7 +53,7 @@ fn push_line(alloc: Global, text: &mut Vec<u8>, entry: &Entry) -> Result<(), All
 
 /// The lines of these images.
 #[tactic(auto, using(fw_text::proofs::Chains::telling))]
-fn lines_text(alloc: Global, entries: &[Entry]) -> Result<Vec<u8>, AllocError>
+fn lines_text(alloc: Global, entries: &[ImageEntry]) -> Result<Vec<u8>, AllocError>
     ensures { IfOk result (λ text. text.items ≡ lines_of entries.now) }
 {
     let mut text = Vec::new(alloc);
@@ -67,8 +67,8 @@ fn lines_text(alloc: Global, entries: &[Entry]) -> Result<Vec<u8>, AllocError>
 ///
 /// # Errors
 /// `AllocError` where memory is refused.
-#[tactic(auto, unfolding(crate::specs::Active::closed))]
-pub fn active_text(alloc: Global, entries: &[Entry]) -> Result<Vec<u8>, AllocError>
+#[tactic(auto, unfolding(crate::specs::Active::lines_with_checksum))]
+pub fn active_text(alloc: Global, entries: &[ImageEntry]) -> Result<Vec<u8>, AllocError>
     ensures { IfOk result (λ text. text.items ≡ text_of entries.now) }
 {
     let mut text = lines_text(alloc, entries)?;

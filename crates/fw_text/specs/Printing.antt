@@ -4,12 +4,12 @@ use Rattle.std.specs.List.{flat_map}
 use Rattle.hex.specs.Hex.{encode_upper}
 
 -- the new bytes are the old ones and a piece after them
-pub record Adds (old new piece : List ℕ) : Type 0 where
+pub record AppendsText (old new piece : List ℕ) : Type 0 where
   pub is : new ≡ old ++ piece
 
 -- a word, and a number in decimal digits after it
-unfoldable pub numbered : List ℕ → ℕ → List ℕ
-numbered word n = word ++ decimal n
+unfoldable pub word_and_number : List ℕ → ℕ → List ℕ
+word_and_number word n = word ++ decimal n
 
 -- a word, and a number of two bytes in four digits after it
 unfoldable pub in_four : List ℕ → ℕ → List ℕ
@@ -24,12 +24,12 @@ abbrev pub is_plain : ℕ → Bool
 is_plain b = (nat_le 0x20 b && nat_le b 0x7E) && (not (b == 0x22) && not (b == 0x5C))
 
 -- another byte is printed as \x and two digits
-abbrev pub escaped : ℕ → List ℕ
-escaped b = if is_plain b then b ∷ [] else codes "\\x" ++ encode_upper (b ∷ [])
+abbrev pub escaped_byte : ℕ → List ℕ
+escaped_byte b = if is_plain b then b ∷ [] else codes "\\x" ++ encode_upper (b ∷ [])
 
 -- a word, and a text in quotes after it
-unfoldable pub quoted : List ℕ → List ℕ → List ℕ
-quoted word text = word ++ 0x22 ∷ flat_map escaped text ++ 0x22 ∷ []
+unfoldable pub word_and_quoted : List ℕ → List ℕ → List ℕ
+word_and_quoted word text = word ++ 0x22 ∷ flat_map escaped_byte text ++ 0x22 ∷ []
 
 -- data in digits; no data is a dash
 abbrev pub data_text : List ℕ → List ℕ

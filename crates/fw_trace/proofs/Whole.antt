@@ -4,30 +4,30 @@ use Rattle.std.proofs.lemmas.Bool.Decides.{eqb_tells}
 use Rattle.mctp_wire.specs.Packet.{ReadsPackets, WritesPackets, packet_bytes}
 use Rattle.mctp_wire.specs.declared.layout.Head.{Head}
 use Rattle.mctp_wire.specs.declared.unit.Unit.{«Unit»}
-use Rattle.mctp_reasm.specs.Held.{Held, fed}
-use Rattle.mctp_reasm.specs.Inboxes.{fed_at, held_at}
+use Rattle.mctp_reasm.specs.Held.{Held, feed_outcome}
+use Rattle.mctp_reasm.specs.Inboxes.{feed_outcome_at, held_at}
 use Rattle.mctp_reasm.specs.Laws.{FeedsNext}
 use Rattle.mctp_reasm.specs.Pieces.{MessageOf, PacketOf, packet_of, pieces}
 use Rattle.mctp_reasm.specs.declared.outcomes.Fed.TheVariants as outcomes
 use Rattle.fw_trace.specs.Hearings.{Assemblies}
 use Rattle.fw_trace.specs.Laws.{IsBetween, ShowsParts, ShowsWhole, held_for}
-use Rattle.fw_trace.specs.Lines.{ReaderOf, head_text, heard_by, packet_line, packet_text, part_text}
+use Rattle.fw_trace.specs.Lines.{ReaderOf, head_text, outcome_of_packet, packet_line, packet_text, part_text}
 use Rattle.fw_trace.specs.Messages.{message_text}
-use Rattle.fw_trace.specs.declared.hearing.Heard.TheVariants as heards
+use Rattle.fw_trace.specs.declared.hearing.PacketOutcome.TheVariants as heards
 
 is_same : (a b : ℕ) → a ≡ b → (a == b) ≡ true
 is_same a b e = elim (eqb_tells a b) [ inl equal ↦ equal.0 | inr other ↦ absurd (other.1 e) ]
 
 -- an end feeds a packet to what it holds of its kind and tag
 by_kind : (to : Bool) (u : «Unit») (a : Assemblies) (p : PacketOf)
-    → (if to then fed_at u a.requests p else fed_at u a.replies p)
-    ≡ fed u (if to then held_at a.requests p.head.tag else held_at a.replies p.head.tag) p
+    → (if to then feed_outcome_at u a.requests p else feed_outcome_at u a.replies p)
+    ≡ feed_outcome u (if to then held_at a.requests p.head.tag else held_at a.replies p.head.tag) p
 by_kind true u a p = refl
 by_kind false u a p = refl
 
 -- so does the end that a packet between both goes to
-heard_there : (r : ReaderOf) (p : PacketOf) → IsBetween r p.head → heard_by r p ≡ heards.Fed (fed r.unit (held_for r p.head) p)
-unfolding heard_by
+heard_there : (r : ReaderOf) (p : PacketOf) → IsBetween r p.head → outcome_of_packet r p ≡ heards.Fed (feed_outcome r.unit (held_for r p.head) p)
+unfolding outcome_of_packet
 heard_there r p (inl way) =
     rw (is_same p.head.dest r.device way.1, is_same p.head.source r.agent way.0) (ap heards.Fed (by_kind p.head.to r.unit r.at_device p))
 heard_there r p (inr way) =
@@ -44,11 +44,11 @@ alone h body = record { dest = h.dest; source = h.source; to = h.to; tag = h.tag
 
 -- an assembly makes it whole, whatever it holds
 fed_whole : (u : «Unit») (held : Option Held) (h : Head) (body : List ℕ) → h.som ≡ true → h.eom ≡ true → h.seq ≡ 0
-    → fed u held (packet_of h body) ≡ outcomes.Whole (alone h body)
+    → feed_outcome u held (packet_of h body) ≡ outcomes.Whole (alone h body)
 fed_whole u held h body som eom seq = rw (som, seq, eom, append-nil body) refl
 
 heard_whole : (r : ReaderOf) (h : Head) (body : List ℕ) → IsBetween r h → h.som ≡ true → h.eom ≡ true → h.seq ≡ 0
-    → heard_by r (packet_of h body) ≡ heards.Fed (outcomes.Whole (alone h body))
+    → outcome_of_packet r (packet_of h body) ≡ heards.Fed (outcomes.Whole (alone h body))
 heard_whole r h body way som eom seq =
     heard_there r (packet_of h body) way ∙ ap heards.Fed (fed_whole r.unit (held_for r h) h body som eom seq)
 

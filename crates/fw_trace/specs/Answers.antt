@@ -1,10 +1,10 @@
 -- The fields of the answers of firmware update (DSP0267 1.0), in the order of their tables.
 use Rattle.std.specs.Prelude.{ℕ, ◌==◌, ◌&&◌, if◌then◌else◌, List, [], ◌∷◌, ◌++◌, codes, length, Result, Ok, Err}
 use Rattle.std.specs.List.{flat_map}
-use Rattle.fw_text.specs.Printing.{in_eight, in_four, numbered}
+use Rattle.fw_text.specs.Printing.{in_eight, in_four, word_and_number}
 use Rattle.fwup_wire.specs.Answers.{answer_read}
 use Rattle.fwup_wire.specs.Fields.{bit}
-use Rattle.fwup_wire.specs.Values.{AnswerOf, DescriptorOf, ParametersOf, VersionOf}
+use Rattle.fwup_wire.specs.Values.{AnswerOf, DeviceDescriptorOf, ParametersOf, VersionOf}
 use Rattle.fwup_wire.specs.declared.answer.Malformed.{Malformed}
 use Rattle.fwup_wire.specs.declared.answer.OfferResponse.{OfferResponse}
 use Rattle.fwup_wire.specs.declared.answer.Status.{Status}
@@ -14,11 +14,11 @@ use Rattle.fw_trace.specs.Names.{name_or_digits, update_code, update_command}
 use Rattle.fw_trace.specs.Pieces.{in_digits, in_two, rest_text, text_field}
 
 -- a descriptor: its type and its data
-unfoldable pub descriptor_fields : DescriptorOf → List ℕ
+unfoldable pub descriptor_fields : DeviceDescriptorOf → List ℕ
 descriptor_fields d = in_four (codes " ") d.kind ++ in_digits (codes " ") d.bytes
 
-unfoldable pub descriptors_fields : List DescriptorOf → List ℕ
-descriptors_fields ds = numbered (codes " descriptors ") (length ds) ++ flat_map descriptor_fields ds
+unfoldable pub descriptors_fields : List DeviceDescriptorOf → List ℕ
+descriptors_fields ds = word_and_number (codes " descriptors ") (length ds) ++ flat_map descriptor_fields ds
 
 -- a word, and an image's version after it: its comparison stamp and its text
 unfoldable pub version_fields : List ℕ → VersionOf → List ℕ
@@ -36,20 +36,20 @@ parameters_fields p =
     component_fields p.key p.index ++ version_fields (codes " active ") p.active ++ pending_fields p.pending
 
 unfoldable pub components_fields : List ParametersOf → List ℕ
-components_fields ps = numbered (codes " components ") (length ps) ++ flat_map parameters_fields ps
+components_fields ps = word_and_number (codes " components ") (length ps) ++ flat_map parameters_fields ps
 
 unfoldable pub table_fields : TableResponse → List ℕ
-table_fields r = numbered (codes " response ") r.response ++ numbered (codes " code ") r.code
+table_fields r = word_and_number (codes " response ") r.response ++ word_and_number (codes " code ") r.code
 
 unfoldable pub offer_response_fields : OfferResponse → List ℕ
 offer_response_fields r =
-    numbered (codes " compatibility ") r.compatibility ++ numbered (codes " code ") r.code ++ in_eight (codes " flags ") (bit r.force)
-    ++ numbered (codes " time ") r.time
+    word_and_number (codes " compatibility ") r.compatibility ++ word_and_number (codes " code ") r.code ++ in_eight (codes " flags ") (bit r.force)
+    ++ word_and_number (codes " time ") r.time
 
 unfoldable pub status_fields : Status → List ℕ
 status_fields s =
-    numbered (codes " state ") s.state ++ numbered (codes " previous ") s.previous ++ numbered (codes " aux ") s.aux
-    ++ in_two (codes " status ") s.aux_status ++ numbered (codes " progress ") s.progress ++ numbered (codes " reason ") s.reason
+    word_and_number (codes " state ") s.state ++ word_and_number (codes " previous ") s.previous ++ word_and_number (codes " aux ") s.aux
+    ++ in_two (codes " status ") s.aux_status ++ word_and_number (codes " progress ") s.progress ++ word_and_number (codes " reason ") s.reason
     ++ in_eight (codes " flags ") (bit s.force)
 
 -- The fields of an answer after its code. Of image data only their size is shown. An answer to RequestUpdate that is read
@@ -61,11 +61,11 @@ answer_fields (AnswerOf.GetFirmwareParameters components) = components_fields co
 answer_fields AnswerOf.RequestUpdate = codes " metadata 0 send 0"
 answer_fields (AnswerOf.PassComponentTable response) = table_fields response
 answer_fields (AnswerOf.UpdateComponent response) = offer_response_fields response
-answer_fields (AnswerOf.RequestFirmwareData bytes) = numbered (codes " bytes ") (length bytes)
+answer_fields (AnswerOf.RequestFirmwareData bytes) = word_and_number (codes " bytes ") (length bytes)
 answer_fields AnswerOf.TransferComplete = []
 answer_fields AnswerOf.VerifyComplete = []
 answer_fields AnswerOf.ApplyComplete = []
-answer_fields (AnswerOf.ActivateFirmware time) = numbered (codes " time ") time
+answer_fields (AnswerOf.ActivateFirmware time) = word_and_number (codes " time ") time
 answer_fields (AnswerOf.GetStatus status) = status_fields status
 answer_fields AnswerOf.CancelUpdateComponent = []
 answer_fields AnswerOf.CancelUpdate = codes " broken 0 components 0000000000000000"

@@ -1,12 +1,12 @@
 -- The messages of PLDM type 0 (DSP0240), and of the types whose commands aren't known here.
 use Rattle.std.specs.Prelude.{ℕ, ◌==◌, if◌then◌else◌, List, [], ◌∷◌, ◌++◌, codes, length, Option, Some, None}
-use Rattle.fw_text.specs.Printing.{numbered}
+use Rattle.fw_text.specs.Printing.{word_and_number}
 use Rattle.fw_trace.specs.Names.{base_code, base_command, name_or_digits, shared_code}
 use Rattle.fw_trace.specs.Pieces.{in_digits, in_two, rest_text}
 
 -- a terminus' identifier
 abbrev pub tid_field : List ℕ → List ℕ
-tid_field (tid ∷ []) = numbered (codes " tid ") tid
+tid_field (tid ∷ []) = word_and_number (codes " tid ") tid
 tid_field fields = rest_text fields
 
 -- so many bytes of bits

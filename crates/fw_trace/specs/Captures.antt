@@ -73,8 +73,8 @@ packets_in (suc fuel) (b ∷ bytes) =
     else option_map (λ ps. packet_in (b ∷ bytes) ∷ ps) (packets_in fuel (drop (16 + size_in (b ∷ bytes)) (b ∷ bytes)))
 
 -- the packets of a file, if it is a capture
-abbrev pub captured : List ℕ → Option (List CapturedOf)
-captured bytes = if starts_with nat_eq bytes capture_header then packets_in (length bytes) (drop 24 bytes) else None
+abbrev pub capture_packets : List ℕ → Option (List CapturedOf)
+capture_packets bytes = if starts_with nat_eq bytes capture_header then packets_in (length bytes) (drop 24 bytes) else None
 
 -- what a capture can hold: times and sizes of four bytes
 abbrev pub IsCapturable : CapturedOf → Type 0
@@ -82,4 +82,4 @@ IsCapturable p = (p.turn < 2 ^ 32) × (16 + length p.bytes < 2 ^ 32)
 
 -- a file reads back as its packets
 abbrev pub CaptureReadsBack : Type 0
-CaptureReadsBack = (ps : List CapturedOf) → AllByRecursion IsCapturable ps → captured (capture_file ps) ≡ Some ps
+CaptureReadsBack = (ps : List CapturedOf) → AllByRecursion IsCapturable ps → capture_packets (capture_file ps) ≡ Some ps

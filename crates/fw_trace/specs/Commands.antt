@@ -1,9 +1,9 @@
 -- The fields of the commands of firmware update (DSP0267 1.0), in the order of their tables.
 use Rattle.std.specs.Prelude.{ℕ, ◌==◌, if◌then◌else◌, List, [], ◌++◌, codes, Result, Ok, Err}
-use Rattle.fw_text.specs.Printing.{in_eight, in_four, numbered}
+use Rattle.fw_text.specs.Printing.{in_eight, in_four, word_and_number}
 use Rattle.fwup_wire.specs.Commands.{command_read}
 use Rattle.fwup_wire.specs.Fields.{bit, flag_byte}
-use Rattle.fwup_wire.specs.Values.{CommandOf, EntryOf, OfferOf, RequestOf}
+use Rattle.fwup_wire.specs.Values.{CommandOf, TableEntryOf, OfferOf, UpdateRequestOf}
 use Rattle.fwup_wire.specs.declared.values.Key.{Key}
 use Rattle.fw_trace.specs.Names.{name_or_digits, update_command}
 use Rattle.fw_trace.specs.Pieces.{in_two, rest_text, text_field}
@@ -11,29 +11,29 @@ use Rattle.fw_trace.specs.Pieces.{in_two, rest_text, text_field}
 -- a component: its classification, its identifier and its index
 unfoldable pub component_fields : Key → (index : ℕ) → List ℕ
 component_fields key index =
-    numbered (codes " class ") key.classification ++ numbered (codes " ident ") key.identifier ++ numbered (codes " index ") index
+    word_and_number (codes " class ") key.classification ++ word_and_number (codes " ident ") key.identifier ++ word_and_number (codes " index ") index
 
 -- the bytes of package data, where there are some
 abbrev pub package_data_field : ℕ → List ℕ
-package_data_field n = if n == 0 then [] else numbered (codes " package ") n
+package_data_field n = if n == 0 then [] else word_and_number (codes " package ") n
 
-unfoldable pub request_fields : RequestOf → List ℕ
+unfoldable pub request_fields : UpdateRequestOf → List ℕ
 request_fields r =
-    numbered (codes " size ") r.transfer_size ++ numbered (codes " components ") r.components
-    ++ numbered (codes " outstanding ") r.outstanding ++ package_data_field r.package_data_length ++ text_field (codes " set ") r.image_set
+    word_and_number (codes " size ") r.transfer_size ++ word_and_number (codes " components ") r.components
+    ++ word_and_number (codes " outstanding ") r.outstanding ++ package_data_field r.package_data_length ++ text_field (codes " set ") r.image_set
 
-unfoldable pub entry_fields : EntryOf → List ℕ
+unfoldable pub entry_fields : TableEntryOf → List ℕ
 entry_fields e =
-    numbered (codes " flag ") (flag_byte e.flag) ++ component_fields e.key e.index ++ in_eight (codes " stamp ") e.version.stamp
+    word_and_number (codes " flag ") (flag_byte e.flag) ++ component_fields e.key e.index ++ in_eight (codes " stamp ") e.version.stamp
     ++ text_field (codes " version ") e.version.text
 
 unfoldable pub offer_fields : OfferOf → List ℕ
 offer_fields o =
-    component_fields o.key o.index ++ in_eight (codes " stamp ") o.version.stamp ++ numbered (codes " size ") o.size
+    component_fields o.key o.index ++ in_eight (codes " stamp ") o.version.stamp ++ word_and_number (codes " size ") o.size
     ++ in_eight (codes " options ") (bit o.force) ++ text_field (codes " version ") o.version.text
 
 unfoldable pub data_fields : (offset size : ℕ) → List ℕ
-data_fields offset size = numbered (codes " offset ") offset ++ numbered (codes " length ") size
+data_fields offset size = word_and_number (codes " offset ") offset ++ word_and_number (codes " length ") size
 
 unfoldable pub apply_fields : (result methods : ℕ) → List ℕ
 apply_fields result methods = in_two (codes " result ") result ++ in_four (codes " methods ") methods
@@ -49,7 +49,7 @@ command_fields (CommandOf.RequestFirmwareData offset size) = data_fields offset 
 command_fields (CommandOf.TransferComplete result) = in_two (codes " result ") result
 command_fields (CommandOf.VerifyComplete result) = in_two (codes " result ") result
 command_fields (CommandOf.ApplyComplete result methods) = apply_fields result methods
-command_fields (CommandOf.ActivateFirmware self_contained) = numbered (codes " self ") (bit self_contained)
+command_fields (CommandOf.ActivateFirmware self_contained) = word_and_number (codes " self ") (bit self_contained)
 command_fields CommandOf.GetStatus = []
 command_fields CommandOf.CancelUpdateComponent = []
 command_fields CommandOf.CancelUpdate = []

@@ -1,7 +1,7 @@
 -- MCTP's control messages (DSP0236, section 12).
 use Rattle.std.specs.Prelude.{ℕ, ◌/◌, ◌%◌, ◌*◌, ◌==◌, if◌then◌else◌, List, [], ◌∷◌, ◌++◌, codes, length, Option, Some, None}
 use Rattle.std.specs.Option.{option_map}
-use Rattle.fw_text.specs.Printing.{numbered}
+use Rattle.fw_text.specs.Printing.{word_and_number}
 use Rattle.mctp_ctl.specs.Codes.{command_of}
 use Rattle.mctp_ctl.specs.declared.codes.ControlCommand.{ControlCommand}
 use Rattle.mctp_ctl.specs.declared.codes.ControlCommand.TheVariants as controls
@@ -10,19 +10,19 @@ use Rattle.fw_trace.specs.Pieces.{in_digits, in_two, rest_text}
 
 -- Set Endpoint ID asks with an operation and an identifier.
 unfoldable pub set_endpoint_request : List ℕ → List ℕ
-set_endpoint_request (operation ∷ eid ∷ []) = in_two (codes " operation ") operation ++ numbered (codes " eid ") eid
+set_endpoint_request (operation ∷ eid ∷ []) = in_two (codes " operation ") operation ++ word_and_number (codes " eid ") eid
 set_endpoint_request fields = rest_text fields
 
 -- It is answered with a status, the identifier, and the size of the pool.
 unfoldable pub set_endpoint_answer : List ℕ → List ℕ
 set_endpoint_answer (status ∷ eid ∷ pool ∷ []) =
-    in_two (codes " status ") status ++ numbered (codes " eid ") eid ++ numbered (codes " pool ") pool
+    in_two (codes " status ") status ++ word_and_number (codes " eid ") eid ++ word_and_number (codes " pool ") pool
 set_endpoint_answer fields = rest_text fields
 
 -- Get Endpoint ID is answered with the identifier, its type, and a byte of the medium.
 unfoldable pub endpoint_answer : List ℕ → List ℕ
 endpoint_answer (eid ∷ kind ∷ medium ∷ []) =
-    numbered (codes " eid ") eid ++ in_two (codes " type ") kind ++ in_two (codes " medium ") medium
+    word_and_number (codes " eid ") eid ++ in_two (codes " type ") kind ++ in_two (codes " medium ") medium
 endpoint_answer fields = rest_text fields
 
 -- Get Endpoint UUID with 16 bytes
@@ -35,10 +35,10 @@ versions_request (kind ∷ []) = in_two (codes " type ") kind
 versions_request fields = rest_text fields
 
 -- a word, and a list after it: how many items, each of so many bytes, and they
-unfoldable pub listed : List ℕ → (size : ℕ) → List ℕ → List ℕ
-listed word size [] = []
-listed word size (count ∷ items) =
-    if length items == size * count then numbered word count ++ rest_text items else rest_text (count ∷ items)
+unfoldable pub list_field : List ℕ → (size : ℕ) → List ℕ → List ℕ
+list_field word size [] = []
+list_field word size (count ∷ items) =
+    if length items == size * count then word_and_number word count ++ rest_text items else rest_text (count ∷ items)
 
 -- the fields of a request by its command
 abbrev pub control_request_fields : Option ControlCommand → List ℕ → List ℕ
@@ -51,8 +51,8 @@ abbrev pub control_success_fields : Option ControlCommand → List ℕ → List 
 control_success_fields (Some controls.SetEndpointId) fields = set_endpoint_answer fields
 control_success_fields (Some controls.GetEndpointId) fields = endpoint_answer fields
 control_success_fields (Some controls.GetEndpointUuid) fields = uuid_answer fields
-control_success_fields (Some controls.GetMctpVersionSupport) fields = listed (codes " versions ") 4 fields
-control_success_fields (Some controls.GetMessageTypeSupport) fields = listed (codes " types ") 1 fields
+control_success_fields (Some controls.GetMctpVersionSupport) fields = list_field (codes " versions ") 4 fields
+control_success_fields (Some controls.GetMessageTypeSupport) fields = list_field (codes " types ") 1 fields
 control_success_fields None fields = rest_text fields
 
 -- an answer's code, and its fields
@@ -64,7 +64,7 @@ control_code_and_fields command (code ∷ fields) =
 -- a word, and after it the instance identifier and the command
 unfoldable pub control_start : List ℕ → (instance command : ℕ) → List ℕ
 control_start word instance command =
-    numbered word instance ++ name_or_digits (option_map control_name (command_of command)) command
+    word_and_number word instance ++ name_or_digits (option_map control_name (command_of command)) command
 
 unfoldable pub control_request : (instance command : ℕ) → List ℕ → List ℕ
 control_request instance command fields =

@@ -2,7 +2,7 @@
 use Rattle.std.specs.Prelude.{ℕ, if◌then◌else◌, List, Option}
 use Rattle.mctp_wire.specs.declared.unit.Unit.{«Unit»}
 use Rattle.mctp_reasm.specs.Held.{Held}
-use Rattle.mctp_reasm.specs.Inboxes.{fed_at, held_with, none_held}
+use Rattle.mctp_reasm.specs.Inboxes.{feed_outcome_at, held_with, none_held}
 use Rattle.mctp_reasm.specs.Pieces.{PacketOf}
 use Rattle.mctp_reasm.specs.declared.outcomes.Fed.{Fed}
 
@@ -24,7 +24,7 @@ no_assemblies = record { requests = none_held; replies = none_held }
 
 -- what comes of a packet at the end that it goes to: a request has TO set
 abbrev pub fed_in : «Unit» → Assemblies → PacketOf → Fed
-fed_in u a p = if p.head.to then fed_at u a.requests p else fed_at u a.replies p
+fed_in u a p = if p.head.to then feed_outcome_at u a.requests p else feed_outcome_at u a.replies p
 
 -- what that end holds afterwards
 abbrev pub held_in : «Unit» → Assemblies → PacketOf → Assemblies

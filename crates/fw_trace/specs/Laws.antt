@@ -1,22 +1,22 @@
 -- What a line shows of what was written.
 use Rattle.std.specs.Prelude.{ℕ, ◌≡◌, ◌<◌, ◌≤◌, ◌⊎◌, ◌+◌, ◌==◌, Bool, if◌then◌else◌, List, ◌++◌, codes, length, slice_get, Option, Some, true, false}
-use Rattle.fw_text.specs.Printing.{numbered}
+use Rattle.fw_text.specs.Printing.{word_and_number}
 use Rattle.mctp_wire.specs.Packet.{IsHead, packet_bytes}
 use Rattle.mctp_wire.specs.Units.{bytes_of}
 use Rattle.mctp_wire.specs.declared.layout.Head.{Head}
 use Rattle.mctp_reasm.specs.Held.{Held}
 use Rattle.mctp_reasm.specs.Inboxes.{held_at}
-use Rattle.mctp_reasm.specs.Laws.{holding}
+use Rattle.mctp_reasm.specs.Laws.{held_first_pieces}
 use Rattle.mctp_reasm.specs.Pieces.{IsMessage, MessageOf, PacketOf, pieces}
 use Rattle.pldm_base.specs.Header.{pldm_bytes}
 use Rattle.pldm_base.specs.declared.header.PldmHead.{PldmHead}
 use Rattle.fwup_wire.specs.Answers.{HasAnswerWidths, IsAnswerWritable, answer_bytes, answer_code, answers_command}
-use Rattle.fwup_wire.specs.Commands.{IsSpoken, command_bytes, command_code}
+use Rattle.fwup_wire.specs.Commands.{CommandRoundTrips, command_bytes, command_code}
 use Rattle.fwup_wire.specs.Values.{AnswerOf, CommandOf}
 use Rattle.fw_trace.specs.Answers.{answer_fields}
 use Rattle.fw_trace.specs.Commands.{command_fields}
 use Rattle.fw_trace.specs.Hearings.{Assemblies}
-use Rattle.fw_trace.specs.Lines.{ReaderOf, head_text, heard_by, packet_line, packet_text, part_text, place_text}
+use Rattle.fw_trace.specs.Lines.{ReaderOf, head_text, outcome_of_packet, packet_line, packet_text, part_text, place_text}
 use Rattle.fw_trace.specs.Messages.{message_text}
 use Rattle.fw_trace.specs.Names.{name_or_digits, update_code, update_command}
 
@@ -42,19 +42,19 @@ command_name CommandOf.CancelUpdate = codes "CancelUpdate"
 
 -- what a line says of a request: its instance identifier, the command's name, and the command's fields
 abbrev pub asked_text : (instance : ℕ) → CommandOf → List ℕ
-asked_text instance c = numbered (codes "pldm rq ") instance ++ ((codes " " ++ command_name c) ++ command_fields c)
+asked_text instance c = word_and_number (codes "pldm rq ") instance ++ ((codes " " ++ command_name c) ++ command_fields c)
 
 -- of an answer: its instance identifier, the command, the completion code, and the answer's fields
 abbrev pub answered_text : (instance command : ℕ) → AnswerOf → List ℕ
 answered_text instance command a =
-    numbered (codes "pldm rs ") instance
+    word_and_number (codes "pldm rs ") instance
     ++ (name_or_digits (update_command command) command
     ++ (name_or_digits (update_code (answer_code a)) (answer_code a) ++ answer_fields a))
 
 -- The message that a command is written as shows that very command.
 abbrev pub ShowsCommands : Type 0
 ShowsCommands =
-    (instance : ℕ) (c : CommandOf) → instance ≤ 31 → IsSpoken c
+    (instance : ℕ) (c : CommandOf) → instance ≤ 31 → CommandRoundTrips c
     → message_text (pldm_bytes (update_head true instance (command_code c)) (command_bytes c)) ≡ asked_text instance c
 
 -- The message that an answer is written as shows that very answer.
@@ -77,8 +77,8 @@ held_for r h =
 abbrev pub ShowsParts : Type 0
 ShowsParts =
     (r : ReaderOf) (m : MessageOf) (k age : ℕ) (p : PacketOf) → IsMessage r.unit m → IsBetween r p.head
-    → k < length (pieces r.unit m) → slice_get (pieces r.unit m) k ≡ Some p → held_for r p.head ≡ holding r.unit m k age
-    → packet_text p (heard_by r p)
+    → k < length (pieces r.unit m) → slice_get (pieces r.unit m) k ≡ Some p → held_for r p.head ≡ held_first_pieces r.unit m k age
+    → packet_text p (outcome_of_packet r p)
     ≡ head_text p.head ++ (if k + 1 == length (pieces r.unit m) then codes " " ++ message_text m.bytes else part_text p)
 
 -- A message of one packet is shown whole, whatever was sent before.

@@ -1,6 +1,6 @@
 -- A line of each packet between an agent and a device.
 use Rattle.std.specs.Prelude.{ℕ, ◌+◌, ◌==◌, if◌then◌else◌, List, [], ◌∷◌, ◌++◌, codes, length, Result, Ok, Err}
-use Rattle.fw_text.specs.Printing.{numbered}
+use Rattle.fw_text.specs.Printing.{word_and_number}
 use Rattle.mctp_wire.specs.Packet as wire
 use Rattle.mctp_wire.specs.declared.fault.WireFault.{WireFault}
 use Rattle.mctp_wire.specs.declared.layout.Head.{Head}
@@ -12,8 +12,8 @@ use Rattle.fw_trace.specs.Hearings.{Assemblies, fed_in, held_in, no_assemblies}
 use Rattle.fw_trace.specs.Messages.{message_text}
 use Rattle.fw_trace.specs.Names.{cause_name}
 use Rattle.fw_trace.specs.Pieces.{in_digits}
-use Rattle.fw_trace.specs.declared.hearing.Heard.{Heard}
-use Rattle.fw_trace.specs.declared.hearing.Heard.TheVariants as heards
+use Rattle.fw_trace.specs.declared.hearing.PacketOutcome.{PacketOutcome}
+use Rattle.fw_trace.specs.declared.hearing.PacketOutcome.TheVariants as heards
 
 -- A reader: the network's unit, both ends, and what the assemblies of each hold. Time doesn't age what is held.
 pub record ReaderOf : Type 0 where
@@ -29,8 +29,8 @@ new_reader u agent device =
     record { unit = u; agent = agent; device = device; at_agent = no_assemblies; at_device = no_assemblies }
 
 -- what comes of a packet
-unfoldable pub heard_by : ReaderOf → PacketOf → Heard
-heard_by r p =
+unfoldable pub outcome_of_packet : ReaderOf → PacketOf → PacketOutcome
+outcome_of_packet r p =
     if p.head.dest == r.device
     then (if p.head.source == r.agent then heards.Fed (fed_in r.unit r.at_device p) else heards.Source)
     else if p.head.dest == r.agent
@@ -56,7 +56,7 @@ reader_after r bytes = after_read r (wire.packet_of r.unit bytes)
 
 -- a packet of a message that goes on: its number within the message and the size of its body
 unfoldable pub part_text : PacketOf → List ℕ
-part_text p = numbered (codes " part ") p.head.seq ++ numbered (codes " of ") (length p.body) ++ codes " bytes"
+part_text p = word_and_number (codes " part ") p.head.seq ++ word_and_number (codes " of ") (length p.body) ++ codes " bytes"
 
 -- what is shown of a packet: a part, the message that it ends, or why it is dropped
 abbrev pub fed_text : PacketOf → Fed → List ℕ
@@ -64,26 +64,26 @@ fed_text p outcomes.Open = part_text p
 fed_text p (outcomes.Whole m) = codes " " ++ message_text m.bytes
 fed_text p (outcomes.Dropped cause) = codes " drop " ++ cause_name cause
 
-abbrev pub heard_text : PacketOf → Heard → List ℕ
-heard_text p heards.Destination = codes " drop Destination"
-heard_text p heards.Source = codes " drop Source"
-heard_text p (heards.Fed fed) = fed_text p fed
+abbrev pub outcome_text : PacketOf → PacketOutcome → List ℕ
+outcome_text p heards.Destination = codes " drop Destination"
+outcome_text p heards.Source = codes " drop Source"
+outcome_text p (heards.Fed fed) = fed_text p fed
 
 -- the packet's own source and destination, and its tag
 unfoldable pub head_text : Head → List ℕ
-head_text h = numbered (codes " ") h.source ++ numbered (codes " > ") h.dest ++ numbered (codes " tag ") h.tag
+head_text h = word_and_number (codes " ") h.source ++ word_and_number (codes " > ") h.dest ++ word_and_number (codes " tag ") h.tag
 
-unfoldable pub packet_text : PacketOf → Heard → List ℕ
-packet_text p heard = head_text p.head ++ heard_text p heard
+unfoldable pub packet_text : PacketOf → PacketOutcome → List ℕ
+packet_text p heard = head_text p.head ++ outcome_text p heard
 
 -- what is shown of bytes that were sent as a packet
 abbrev pub read_text : ReaderOf → Result (Head × List ℕ) WireFault → List ℕ → List ℕ
-read_text r (Ok p) bytes = packet_text (packet_of p.0 p.1) (heard_by r (packet_of p.0 p.1))
+read_text r (Ok p) bytes = packet_text (packet_of p.0 p.1) (outcome_of_packet r (packet_of p.0 p.1))
 read_text r (Err fault) bytes = in_digits (codes " bytes ") bytes
 
 -- when a packet was sent, between the agent and which device, and its number among those of the pair, from 1
 unfoldable pub place_text : (turn device number : ℕ) → List ℕ
-place_text turn device number = numbered [] turn ++ numbered (codes " ") device ++ numbered (codes " ") number
+place_text turn device number = word_and_number [] turn ++ word_and_number (codes " ") device ++ word_and_number (codes " ") number
 
 -- the line of a packet
 unfoldable pub packet_line : ReaderOf → (turn number : ℕ) → List ℕ → List ℕ

@@ -1,6 +1,6 @@
 -- What a message says.
 use Rattle.std.specs.Prelude.{ℕ, ◌==◌, if◌then◌else◌, List, [], ◌∷◌, ◌++◌, codes, Result, Ok, Err}
-use Rattle.fw_text.specs.Printing.{numbered}
+use Rattle.fw_text.specs.Printing.{word_and_number}
 use Rattle.pldm_base.specs.Header.{pldm_of}
 use Rattle.pldm_base.specs.declared.header.PldmFault.{PldmFault}
 use Rattle.pldm_base.specs.declared.header.PldmHead.{PldmHead}
@@ -25,10 +25,10 @@ answer_text h body =
 
 -- a PLDM message: whether it is a request, its instance identifier, its command and its fields
 unfoldable pub pldm_request : PldmHead → List ℕ → List ℕ
-pldm_request h body = numbered (codes "pldm rq ") h.instance ++ request_text h body
+pldm_request h body = word_and_number (codes "pldm rq ") h.instance ++ request_text h body
 
 unfoldable pub pldm_answer : PldmHead → List ℕ → List ℕ
-pldm_answer h body = numbered (codes "pldm rs ") h.instance ++ answer_text h body
+pldm_answer h body = word_and_number (codes "pldm rs ") h.instance ++ answer_text h body
 
 -- one whose head can't be read, by what follows its type byte
 unfoldable pub pldm_unread : List ℕ → List ℕ

@@ -1,8 +1,8 @@
 -- Pieces of a packet's line.
 use Rattle.std.specs.Prelude.{ℕ, ◌==◌, if◌then◌else◌, List, [], ◌∷◌, ◌++◌, codes}
 use Rattle.hex.specs.Hex.{encode_upper}
-use Rattle.fw_text.specs.Printing.{data_text, quoted}
-use Rattle.fwup_wire.specs.Values.{TextOf}
+use Rattle.fw_text.specs.Printing.{data_text, word_and_quoted}
+use Rattle.fwup_wire.specs.Values.{TypedTextOf}
 
 -- a word, and a byte in two digits after it
 unfoldable pub in_two : List ℕ → ℕ → List ℕ
@@ -28,9 +28,9 @@ encoding_text n =
     else in_two (codes "encoding ") n
 
 -- a text that isn't ASCII: its encoding and its bytes in digits
-unfoldable pub encoded : List ℕ → TextOf → List ℕ
-encoded word t = word ++ encoding_text t.text_type ++ in_digits (codes " ") t.bytes
+unfoldable pub encoded_text : List ℕ → TypedTextOf → List ℕ
+encoded_text word t = word ++ encoding_text t.text_type ++ in_digits (codes " ") t.bytes
 
 -- a word, and a text after it: ASCII stands in quotes
-abbrev pub text_field : List ℕ → TextOf → List ℕ
-text_field word t = if t.text_type == 1 then quoted word t.bytes else encoded word t
+abbrev pub text_field : List ℕ → TypedTextOf → List ℕ
+text_field word t = if t.text_type == 1 then word_and_quoted word t.bytes else encoded_text word t

@@ -3,9 +3,9 @@
 
 ghost use Rattle.std.specs.Prelude.{OnOk, ◌++◌};
 ghost use Rattle.std.specs.List.{flat_map};
-ghost use Rattle.fw_text.specs.Printing.{Adds};
+ghost use Rattle.fw_text.specs.Printing.{AppendsText};
 ghost use Rattle.fwup_wire.specs.Answers.{answer_read};
-ghost use Rattle.fwup_wire.specs.Lent.{answer_of, descriptor_of, parameters_of, version_of};
+ghost use Rattle.fwup_wire.specs.Lent.{answer_of, device_descriptor_of, parameters_of, version_of};
 ghost use Rattle.fw_trace.specs.Answers.{answer_fields, answer_fields_read, code_and_fields, components_fields, descriptor_fields, descriptors_fields, offer_response_fields, parameters_fields, pending_fields, status_fields, table_fields, update_answer, version_fields};
 ghost use Rattle.fw_trace.specs.Names.{name_or_digits, update_code};
 
@@ -16,8 +16,8 @@ use crate::pieces::{
 };
 use fw_text::{push_eight, push_four, push_number, push_words};
 use fwup_wire::{
-    Answer, ComponentParameters, Descriptor, Descriptors, OfferResponse, Parameters, Status,
-    TableResponse, Version,
+    Answer, ComponentParameters, DeviceDescriptor, DeviceDescriptors, OfferResponse, Parameters,
+    Status, TableResponse, Version,
 };
 use std::alloc::{AllocError, Global};
 
@@ -25,9 +25,9 @@ use std::alloc::{AllocError, Global};
 fn push_descriptor(
     alloc: Global,
     text: &mut Vec<u8>,
-    descriptor: Descriptor<'_>,
+    descriptor: DeviceDescriptor<'_>,
 ) -> Result<(), AllocError>
-    ensures { OnOk result (Adds text.old.items text.new.items (descriptor_fields (descriptor_of descriptor.entry))) }
+    ensures { OnOk result (AppendsText text.old.items text.new.items (descriptor_fields (device_descriptor_of descriptor.entry))) }
 {
     push_four(alloc, text, " ", descriptor.kind)?;
     push_digits(alloc, text, " ", descriptor.bytes)?;
@@ -39,9 +39,9 @@ fn push_descriptor(
 fn push_each_descriptor(
     alloc: Global,
     text: &mut Vec<u8>,
-    descriptors: Descriptors<'_>,
+    descriptors: DeviceDescriptors<'_>,
 ) -> Result<(), AllocError>
-    ensures { OnOk result (Adds text.old.items text.new.items (flat_map descriptor_fields descriptors.entry)) }
+    ensures { OnOk result (AppendsText text.old.items text.new.items (flat_map descriptor_fields descriptors.entry)) }
 {
     for descriptor in descriptors {
         push_descriptor(alloc, text, descriptor)?;
@@ -53,9 +53,9 @@ fn push_each_descriptor(
 fn push_descriptors(
     alloc: Global,
     text: &mut Vec<u8>,
-    descriptors: &Descriptors<'_>,
+    descriptors: &DeviceDescriptors<'_>,
 ) -> Result<(), AllocError>
-    ensures { OnOk result (Adds text.old.items text.new.items (descriptors_fields descriptors.now)) }
+    ensures { OnOk result (AppendsText text.old.items text.new.items (descriptors_fields descriptors.now)) }
 {
     push_number(alloc, text, " descriptors ", descriptors.len())?;
     push_each_descriptor(alloc, text, descriptors.iter())?;
@@ -69,7 +69,7 @@ fn push_version(
     word: &str,
     version: &Version<'_>,
 ) -> Result<(), AllocError>
-    ensures { OnOk result (Adds text.old.items text.new.items (version_fields word.now (version_of version.now))) }
+    ensures { OnOk result (AppendsText text.old.items text.new.items (version_fields word.now (version_of version.now))) }
 {
     push_eight(alloc, text, word, version.stamp)?;
     push_text(alloc, text, " ", &version.text)?;
@@ -78,7 +78,7 @@ fn push_version(
 
 /// Appends the version of the image that is to be active, where there is one.
 fn push_pending(alloc: Global, text: &mut Vec<u8>, version: &Version<'_>) -> Result<(), AllocError>
-    ensures { OnOk result (Adds text.old.items text.new.items (pending_fields (version_of version.now))) }
+    ensures { OnOk result (AppendsText text.old.items text.new.items (pending_fields (version_of version.now))) }
 {
     if version.stamp == 0 && version.text.text_type == 0 && version.text.bytes.is_empty() {
         return Ok(());
@@ -92,7 +92,7 @@ fn push_parameters(
     text: &mut Vec<u8>,
     parameters: ComponentParameters<'_>,
 ) -> Result<(), AllocError>
-    ensures { OnOk result (Adds text.old.items text.new.items (parameters_fields (parameters_of parameters.entry))) }
+    ensures { OnOk result (AppendsText text.old.items text.new.items (parameters_fields (parameters_of parameters.entry))) }
 {
     push_component(alloc, text, parameters.key, parameters.index)?;
     push_version(alloc, text, " active ", &parameters.active)?;
@@ -107,7 +107,7 @@ fn push_each_component(
     text: &mut Vec<u8>,
     components: Parameters<'_>,
 ) -> Result<(), AllocError>
-    ensures { OnOk result (Adds text.old.items text.new.items (flat_map parameters_fields components.entry)) }
+    ensures { OnOk result (AppendsText text.old.items text.new.items (flat_map parameters_fields components.entry)) }
 {
     for parameters in components {
         push_parameters(alloc, text, parameters)?;
@@ -121,7 +121,7 @@ fn push_components(
     text: &mut Vec<u8>,
     components: &Parameters<'_>,
 ) -> Result<(), AllocError>
-    ensures { OnOk result (Adds text.old.items text.new.items (components_fields components.now)) }
+    ensures { OnOk result (AppendsText text.old.items text.new.items (components_fields components.now)) }
 {
     push_number(alloc, text, " components ", components.len())?;
     push_each_component(alloc, text, components.iter())?;
@@ -130,7 +130,7 @@ fn push_components(
 
 /// Appends the fields of PassComponentTable's answer.
 fn push_table(alloc: Global, text: &mut Vec<u8>, response: TableResponse) -> Result<(), AllocError>
-    ensures { OnOk result (Adds text.old.items text.new.items (table_fields response)) }
+    ensures { OnOk result (AppendsText text.old.items text.new.items (table_fields response)) }
 {
     push_byte(alloc, text, " response ", response.response)?;
     push_byte(alloc, text, " code ", response.code)?;
@@ -143,7 +143,7 @@ fn push_offer_response(
     text: &mut Vec<u8>,
     response: OfferResponse,
 ) -> Result<(), AllocError>
-    ensures { OnOk result (Adds text.old.items text.new.items (offer_response_fields response)) }
+    ensures { OnOk result (AppendsText text.old.items text.new.items (offer_response_fields response)) }
 {
     push_byte(alloc, text, " compatibility ", response.compatibility)?;
     push_byte(alloc, text, " code ", response.code)?;
@@ -154,7 +154,7 @@ fn push_offer_response(
 
 /// Appends the fields of GetStatus' answer.
 fn push_status(alloc: Global, text: &mut Vec<u8>, status: Status) -> Result<(), AllocError>
-    ensures { OnOk result (Adds text.old.items text.new.items (status_fields status)) }
+    ensures { OnOk result (AppendsText text.old.items text.new.items (status_fields status)) }
 {
     push_byte(alloc, text, " state ", status.state)?;
     push_byte(alloc, text, " previous ", status.previous)?;
@@ -168,7 +168,7 @@ fn push_status(alloc: Global, text: &mut Vec<u8>, status: Status) -> Result<(), 
 
 /// Appends the fields of an answer after its code.
 fn push_answer(alloc: Global, text: &mut Vec<u8>, answer: &Answer<'_>) -> Result<(), AllocError>
-    ensures { OnOk result (Adds text.old.items text.new.items (answer_fields (answer_of answer.now))) }
+    ensures { OnOk result (AppendsText text.old.items text.new.items (answer_fields (answer_of answer.now))) }
 {
     match answer {
         Answer::QueryDeviceIdentifiers(descriptors) => push_descriptors(alloc, text, descriptors),
@@ -196,7 +196,7 @@ fn push_fields(
     answer: &[u8],
     fields: &[u8],
 ) -> Result<(), AllocError>
-    ensures { OnOk result (Adds text.old.items text.new.items (answer_fields_read (answer_read command answer.now) fields.now)) }
+    ensures { OnOk result (AppendsText text.old.items text.new.items (answer_fields_read (answer_read command answer.now) fields.now)) }
 {
     match fwup_wire::read_answer(command, answer) {
         Ok(answer) => push_answer(alloc, text, &answer),
@@ -213,7 +213,7 @@ fn push_coded(
     answer: &[u8],
     fields: &[u8],
 ) -> Result<(), AllocError>
-    ensures { OnOk result (Adds text.old.items text.new.items (name_or_digits (update_code code) code ++ answer_fields_read (answer_read command answer.now) fields.now)) }
+    ensures { OnOk result (AppendsText text.old.items text.new.items (name_or_digits (update_code code) code ++ answer_fields_read (answer_read command answer.now) fields.now)) }
 {
     push_name(alloc, text, update_code(code), code)?;
     push_fields(alloc, text, command, answer, fields)?;
@@ -227,7 +227,7 @@ fn push_code_and_fields(
     command: u8,
     body: &[u8],
 ) -> Result<(), AllocError>
-    ensures { OnOk result (Adds text.old.items text.new.items (code_and_fields command body.now)) }
+    ensures { OnOk result (AppendsText text.old.items text.new.items (code_and_fields command body.now)) }
 {
     let [code, fields @ ..] = body else {
         return Ok(());
@@ -243,7 +243,7 @@ pub fn push_update_answer(
     command: u8,
     body: &[u8],
 ) -> Result<(), AllocError>
-    ensures { OnOk result (Adds text.old.items text.new.items (update_answer command body.now)) }
+    ensures { OnOk result (AppendsText text.old.items text.new.items (update_answer command body.now)) }
 {
     push_name(alloc, text, update_command(command), command)?;
     push_code_and_fields(alloc, text, command, body)?;

@@ -2,7 +2,7 @@
 //! of memory.
 
 ghost use Rattle.std.specs.Prelude.{OnOk, ◌==◌, ◌++◌, codes, if◌then◌else◌};
-ghost use Rattle.fw_text.specs.Printing.{Adds};
+ghost use Rattle.fw_text.specs.Printing.{AppendsText};
 ghost use Rattle.fw_trace.specs.Bases.{base_answer, base_code_and_fields, base_request, base_request_fields, base_success_fields, bits_field, commands_request, other_answer, other_code_and_fields, other_command, other_request, tid_field, version_answer, version_request};
 ghost use Rattle.fw_trace.specs.Pieces.{in_digits, in_two, rest_text};
 ghost use Rattle.fw_trace.specs.Names.{base_code, name_or_digits, shared_code};
@@ -22,7 +22,7 @@ const COMMAND_BITS: usize = 32;
 
 /// Appends a terminus' identifier.
 fn push_tid(alloc: Global, text: &mut Vec<u8>, fields: &[u8]) -> Result<(), AllocError>
-    ensures { OnOk result (Adds text.old.items text.new.items (tid_field fields.now)) }
+    ensures { OnOk result (AppendsText text.old.items text.new.items (tid_field fields.now)) }
 {
     match fields {
         [tid] => push_byte(alloc, text, " tid ", *tid),
@@ -38,7 +38,7 @@ fn push_bits(
     size: usize,
     bits: &[u8],
 ) -> Result<(), AllocError>
-    ensures { OnOk result (Adds text.old.items text.new.items (bits_field word.now size bits.now)) }
+    ensures { OnOk result (AppendsText text.old.items text.new.items (bits_field word.now size bits.now)) }
 {
     if bits.len() == size {
         push_digits(alloc, text, word, bits)
@@ -55,7 +55,7 @@ fn push_version_asked(
     operation: u8,
     kind: u8,
 ) -> Result<(), AllocError>
-    ensures { OnOk result (Adds text.old.items text.new.items (in_digits (codes " handle ") handle.now ++ in_two (codes " operation ") operation ++ in_two (codes " type ") kind)) }
+    ensures { OnOk result (AppendsText text.old.items text.new.items (in_digits (codes " handle ") handle.now ++ in_two (codes " operation ") operation ++ in_two (codes " type ") kind)) }
 {
     push_digits(alloc, text, " handle ", handle)?;
     push_two(alloc, text, " operation ", operation)?;
@@ -66,7 +66,7 @@ fn push_version_asked(
 /// Appends the fields of GetPLDMVersion's request.
 #[tactic(auto, unfolding(crate::specs::Bases::version_request))]
 fn push_version_request(alloc: Global, text: &mut Vec<u8>, fields: &[u8]) -> Result<(), AllocError>
-    ensures { OnOk result (Adds text.old.items text.new.items (version_request fields.now)) }
+    ensures { OnOk result (AppendsText text.old.items text.new.items (version_request fields.now)) }
 {
     let [h0, h1, h2, h3, operation, kind] = fields else {
         return push_rest(alloc, text, fields);
@@ -82,7 +82,7 @@ fn push_version_told(
     flag: u8,
     versions: &[u8],
 ) -> Result<(), AllocError>
-    ensures { OnOk result (Adds text.old.items text.new.items (in_digits (codes " handle ") handle.now ++ in_two (codes " flag ") flag ++ in_digits (codes " versions ") versions.now)) }
+    ensures { OnOk result (AppendsText text.old.items text.new.items (in_digits (codes " handle ") handle.now ++ in_two (codes " flag ") flag ++ in_digits (codes " versions ") versions.now)) }
 {
     push_digits(alloc, text, " handle ", handle)?;
     push_two(alloc, text, " flag ", flag)?;
@@ -93,7 +93,7 @@ fn push_version_told(
 /// Appends the fields of GetPLDMVersion's answer.
 #[tactic(auto, unfolding(crate::specs::Bases::version_answer))]
 fn push_version_answer(alloc: Global, text: &mut Vec<u8>, fields: &[u8]) -> Result<(), AllocError>
-    ensures { OnOk result (Adds text.old.items text.new.items (version_answer fields.now)) }
+    ensures { OnOk result (AppendsText text.old.items text.new.items (version_answer fields.now)) }
 {
     let [h0, h1, h2, h3, flag, versions @ ..] = fields else {
         return push_rest(alloc, text, fields);
@@ -108,7 +108,7 @@ fn push_commands_asked(
     kind: u8,
     version: &[u8],
 ) -> Result<(), AllocError>
-    ensures { OnOk result (Adds text.old.items text.new.items (in_two (codes " type ") kind ++ in_digits (codes " version ") version.now)) }
+    ensures { OnOk result (AppendsText text.old.items text.new.items (in_two (codes " type ") kind ++ in_digits (codes " version ") version.now)) }
 {
     push_two(alloc, text, " type ", kind)?;
     push_digits(alloc, text, " version ", version)?;
@@ -118,7 +118,7 @@ fn push_commands_asked(
 /// Appends the fields of GetPLDMCommands' request.
 #[tactic(auto, unfolding(crate::specs::Bases::commands_request))]
 fn push_commands_request(alloc: Global, text: &mut Vec<u8>, fields: &[u8]) -> Result<(), AllocError>
-    ensures { OnOk result (Adds text.old.items text.new.items (commands_request fields.now)) }
+    ensures { OnOk result (AppendsText text.old.items text.new.items (commands_request fields.now)) }
 {
     let [kind, v0, v1, v2, v3] = fields else {
         return push_rest(alloc, text, fields);
@@ -133,7 +133,7 @@ fn push_request_fields(
     command: u8,
     fields: &[u8],
 ) -> Result<(), AllocError>
-    ensures { OnOk result (Adds text.old.items text.new.items (base_request_fields command fields.now)) }
+    ensures { OnOk result (AppendsText text.old.items text.new.items (base_request_fields command fields.now)) }
 {
     match command {
         SET_TID => push_tid(alloc, text, fields),
@@ -150,7 +150,7 @@ fn push_success_fields(
     command: u8,
     fields: &[u8],
 ) -> Result<(), AllocError>
-    ensures { OnOk result (Adds text.old.items text.new.items (base_success_fields command fields.now)) }
+    ensures { OnOk result (AppendsText text.old.items text.new.items (base_success_fields command fields.now)) }
 {
     match command {
         GET_TID => push_tid(alloc, text, fields),
@@ -169,7 +169,7 @@ fn push_answer_fields(
     code: u8,
     fields: &[u8],
 ) -> Result<(), AllocError>
-    ensures { OnOk result (Adds text.old.items text.new.items (if code == 0 then base_success_fields command fields.now else rest_text fields.now)) }
+    ensures { OnOk result (AppendsText text.old.items text.new.items (if code == 0 then base_success_fields command fields.now else rest_text fields.now)) }
 {
     if code == SUCCESS {
         push_success_fields(alloc, text, command, fields)
@@ -186,7 +186,7 @@ fn push_coded(
     code: u8,
     fields: &[u8],
 ) -> Result<(), AllocError>
-    ensures { OnOk result (Adds text.old.items text.new.items (name_or_digits (base_code code) code ++ (if code == 0 then base_success_fields command fields.now else rest_text fields.now))) }
+    ensures { OnOk result (AppendsText text.old.items text.new.items (name_or_digits (base_code code) code ++ (if code == 0 then base_success_fields command fields.now else rest_text fields.now))) }
 {
     push_name(alloc, text, base_code(code), code)?;
     push_answer_fields(alloc, text, command, code, fields)?;
@@ -200,7 +200,7 @@ fn push_code_and_fields(
     command: u8,
     body: &[u8],
 ) -> Result<(), AllocError>
-    ensures { OnOk result (Adds text.old.items text.new.items (base_code_and_fields command body.now)) }
+    ensures { OnOk result (AppendsText text.old.items text.new.items (base_code_and_fields command body.now)) }
 {
     let [code, fields @ ..] = body else {
         return Ok(());
@@ -215,7 +215,7 @@ fn push_other_command(
     kind: u8,
     command: u8,
 ) -> Result<(), AllocError>
-    ensures { OnOk result (Adds text.old.items text.new.items (other_command kind command)) }
+    ensures { OnOk result (AppendsText text.old.items text.new.items (other_command kind command)) }
 {
     push_two(alloc, text, " type ", kind)?;
     push_two(alloc, text, " command ", command)?;
@@ -229,7 +229,7 @@ fn push_other_coded(
     code: u8,
     fields: &[u8],
 ) -> Result<(), AllocError>
-    ensures { OnOk result (Adds text.old.items text.new.items (name_or_digits (shared_code code) code ++ rest_text fields.now)) }
+    ensures { OnOk result (AppendsText text.old.items text.new.items (name_or_digits (shared_code code) code ++ rest_text fields.now)) }
 {
     push_name(alloc, text, shared_code(code), code)?;
     push_rest(alloc, text, fields)?;
@@ -238,7 +238,7 @@ fn push_other_coded(
 
 /// Appends the code of such a command's answer, and the digits of what follows.
 fn push_other_code(alloc: Global, text: &mut Vec<u8>, body: &[u8]) -> Result<(), AllocError>
-    ensures { OnOk result (Adds text.old.items text.new.items (other_code_and_fields body.now)) }
+    ensures { OnOk result (AppendsText text.old.items text.new.items (other_code_and_fields body.now)) }
 {
     let [code, fields @ ..] = body else {
         return Ok(());
@@ -254,7 +254,7 @@ pub fn push_other_request(
     command: u8,
     fields: &[u8],
 ) -> Result<(), AllocError>
-    ensures { OnOk result (Adds text.old.items text.new.items (other_request kind command fields.now)) }
+    ensures { OnOk result (AppendsText text.old.items text.new.items (other_request kind command fields.now)) }
 {
     push_other_command(alloc, text, kind, command)?;
     push_rest(alloc, text, fields)?;
@@ -269,7 +269,7 @@ pub fn push_other_answer(
     command: u8,
     body: &[u8],
 ) -> Result<(), AllocError>
-    ensures { OnOk result (Adds text.old.items text.new.items (other_answer kind command body.now)) }
+    ensures { OnOk result (AppendsText text.old.items text.new.items (other_answer kind command body.now)) }
 {
     push_other_command(alloc, text, kind, command)?;
     push_other_code(alloc, text, body)?;
@@ -284,7 +284,7 @@ fn push_named_request(
     command: u8,
     fields: &[u8],
 ) -> Result<(), AllocError>
-    ensures { OnOk result (Adds text.old.items text.new.items (codes " " ++ name.now ++ base_request_fields command fields.now)) }
+    ensures { OnOk result (AppendsText text.old.items text.new.items (codes " " ++ name.now ++ base_request_fields command fields.now)) }
 {
     push_words(text, " ")?;
     push_words(text, name)?;
@@ -300,7 +300,7 @@ pub fn push_base_request(
     command: u8,
     fields: &[u8],
 ) -> Result<(), AllocError>
-    ensures { OnOk result (Adds text.old.items text.new.items (base_request command fields.now)) }
+    ensures { OnOk result (AppendsText text.old.items text.new.items (base_request command fields.now)) }
 {
     let Some(name) = base_command(command) else {
         return push_other_request(alloc, text, TYPE_BASE, command, fields);
@@ -316,7 +316,7 @@ fn push_named_answer(
     command: u8,
     body: &[u8],
 ) -> Result<(), AllocError>
-    ensures { OnOk result (Adds text.old.items text.new.items (codes " " ++ name.now ++ base_code_and_fields command body.now)) }
+    ensures { OnOk result (AppendsText text.old.items text.new.items (codes " " ++ name.now ++ base_code_and_fields command body.now)) }
 {
     push_words(text, " ")?;
     push_words(text, name)?;
@@ -332,7 +332,7 @@ pub fn push_base_answer(
     command: u8,
     body: &[u8],
 ) -> Result<(), AllocError>
-    ensures { OnOk result (Adds text.old.items text.new.items (base_answer command body.now)) }
+    ensures { OnOk result (AppendsText text.old.items text.new.items (base_answer command body.now)) }
 {
     let Some(name) = base_command(command) else {
         return push_other_answer(alloc, text, TYPE_BASE, command, body);

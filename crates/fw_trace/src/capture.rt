@@ -1,7 +1,7 @@
 //! Packets as Linux captures them on an MCTP interface: the bytes of a file that network analysers open.
 
 ghost use Rattle.std.specs.Prelude.{◌≡◌, OnOk};
-ghost use Rattle.fw_text.specs.Printing.{Adds};
+ghost use Rattle.fw_text.specs.Printing.{AppendsText};
 ghost use Rattle.fw_trace.specs.Captures.{CaptureReadsBack, capture_header, capture_record, captured_size, cooked_head, record_head, source_of, word};
 
 use std::alloc::AllocError;
@@ -58,7 +58,7 @@ pub fn capture_header() -> &'static [u8]
 /// Appends a number of four bytes, the low one first.
 #[tactic(auto, unfolding(crate::specs::Captures::word))]
 fn push_word(text: &mut Vec<u8>, number: u32) -> Result<(), AllocError>
-    ensures { OnOk result (Adds text.old.items text.new.items (word number)) }
+    ensures { OnOk result (AppendsText text.old.items text.new.items (word number)) }
 {
     text.extend_from_slice(&number.to_le_bytes())?;
     Ok(())
@@ -67,7 +67,7 @@ fn push_word(text: &mut Vec<u8>, number: u32) -> Result<(), AllocError>
 /// Appends the head of a packet: its turn as a second, and its size, which is captured whole.
 #[tactic(auto, unfolding(crate::specs::Captures::record_head))]
 fn push_head(text: &mut Vec<u8>, turn: u32, size: u32) -> Result<(), AllocError>
-    ensures { OnOk result (Adds text.old.items text.new.items (record_head turn size)) }
+    ensures { OnOk result (AppendsText text.old.items text.new.items (record_head turn size)) }
 {
     push_word(text, turn)?;
     push_word(text, 0)?;
@@ -78,7 +78,7 @@ fn push_head(text: &mut Vec<u8>, turn: u32, size: u32) -> Result<(), AllocError>
 
 /// Appends the head of cooked mode: whether the packet was sent by us, and from where.
 fn push_cooked(text: &mut Vec<u8>, is_sent: bool, source: u8) -> Result<(), AllocError>
-    ensures { OnOk result (Adds text.old.items text.new.items (cooked_head is_sent source)) }
+    ensures { OnOk result (AppendsText text.old.items text.new.items (cooked_head is_sent source)) }
 {
     text.push(0)?;
     text.push(if is_sent { SENT_BY_US } else { SENT_TO_US })?;
@@ -100,7 +100,7 @@ pub fn push_capture(
     is_sent: bool,
     bytes: &[u8],
 ) -> Result<(), AllocError>
-    ensures { OnOk result (Adds text.old.items text.new.items (capture_record (record { turn = turn; is_sent = is_sent; bytes = bytes.now }))) }
+    ensures { OnOk result (AppendsText text.old.items text.new.items (capture_record (record { turn = turn; is_sent = is_sent; bytes = bytes.now }))) }
 {
     push_head(text, turn, size(bytes))?;
     push_cooked(text, is_sent, source(bytes))?;

@@ -2,9 +2,9 @@
 //! want of memory.
 
 ghost use Rattle.std.specs.Prelude.{OnOk};
-ghost use Rattle.fw_text.specs.Printing.{Adds};
+ghost use Rattle.fw_text.specs.Printing.{AppendsText};
 ghost use Rattle.fwup_wire.specs.Commands.{command_read};
-ghost use Rattle.fwup_wire.specs.Lent.{command_of, entry_of, offer_of, request_of};
+ghost use Rattle.fwup_wire.specs.Lent.{command_of, table_entry_of, offer_of, update_request_of};
 ghost use Rattle.fw_trace.specs.Commands.{apply_fields, command_fields, component_fields, data_fields, entry_fields, fields_read, offer_fields, package_data_field, request_fields, update_request};
 
 use crate::names::update_command;
@@ -20,7 +20,7 @@ pub fn push_component(
     key: Key,
     index: u8,
 ) -> Result<(), AllocError>
-    ensures { OnOk result (Adds text.old.items text.new.items (component_fields key index)) }
+    ensures { OnOk result (AppendsText text.old.items text.new.items (component_fields key index)) }
 {
     push_short(alloc, text, " class ", key.classification)?;
     push_short(alloc, text, " ident ", key.identifier)?;
@@ -30,7 +30,7 @@ pub fn push_component(
 
 /// Appends how many bytes of package data there are, where there are some.
 fn push_package_data(alloc: Global, text: &mut Vec<u8>, length: u16) -> Result<(), AllocError>
-    ensures { OnOk result (Adds text.old.items text.new.items (package_data_field length)) }
+    ensures { OnOk result (AppendsText text.old.items text.new.items (package_data_field length)) }
 {
     if length == 0 {
         return Ok(());
@@ -44,7 +44,7 @@ fn push_request(
     text: &mut Vec<u8>,
     request: &UpdateRequest<'_>,
 ) -> Result<(), AllocError>
-    ensures { OnOk result (Adds text.old.items text.new.items (request_fields (request_of request.now))) }
+    ensures { OnOk result (AppendsText text.old.items text.new.items (request_fields (update_request_of request.now))) }
 {
     push_long(alloc, text, " size ", request.transfer_size)?;
     push_short(alloc, text, " components ", request.components)?;
@@ -56,7 +56,7 @@ fn push_request(
 
 /// Appends the fields of PassComponentTable.
 fn push_entry(alloc: Global, text: &mut Vec<u8>, entry: &TableEntry<'_>) -> Result<(), AllocError>
-    ensures { OnOk result (Adds text.old.items text.new.items (entry_fields (entry_of entry.now))) }
+    ensures { OnOk result (AppendsText text.old.items text.new.items (entry_fields (table_entry_of entry.now))) }
 {
     let flag = entry.flag.byte();
     push_byte(alloc, text, " flag ", flag)?;
@@ -72,7 +72,7 @@ fn push_offer(
     text: &mut Vec<u8>,
     offer: &ComponentOffer<'_>,
 ) -> Result<(), AllocError>
-    ensures { OnOk result (Adds text.old.items text.new.items (offer_fields (offer_of offer.now))) }
+    ensures { OnOk result (AppendsText text.old.items text.new.items (offer_fields (offer_of offer.now))) }
 {
     push_component(alloc, text, offer.key, offer.index)?;
     push_eight(alloc, text, " stamp ", offer.version.stamp)?;
@@ -89,7 +89,7 @@ fn push_data_request(
     offset: u32,
     length: u32,
 ) -> Result<(), AllocError>
-    ensures { OnOk result (Adds text.old.items text.new.items (data_fields offset length)) }
+    ensures { OnOk result (AppendsText text.old.items text.new.items (data_fields offset length)) }
 {
     push_long(alloc, text, " offset ", offset)?;
     push_long(alloc, text, " length ", length)?;
@@ -103,7 +103,7 @@ fn push_apply(
     outcome: u8,
     methods: u16,
 ) -> Result<(), AllocError>
-    ensures { OnOk result (Adds text.old.items text.new.items (apply_fields outcome methods)) }
+    ensures { OnOk result (AppendsText text.old.items text.new.items (apply_fields outcome methods)) }
 {
     push_two(alloc, text, " result ", outcome)?;
     push_four(alloc, text, " methods ", methods)?;
@@ -112,7 +112,7 @@ fn push_apply(
 
 /// Appends the fields of a command.
 fn push_command(alloc: Global, text: &mut Vec<u8>, command: &Command<'_>) -> Result<(), AllocError>
-    ensures { OnOk result (Adds text.old.items text.new.items (command_fields (command_of command.now))) }
+    ensures { OnOk result (AppendsText text.old.items text.new.items (command_fields (command_of command.now))) }
 {
     match command {
         Command::RequestUpdate(request) => push_request(alloc, text, request),
@@ -143,7 +143,7 @@ fn push_fields(
     command: u8,
     fields: &[u8],
 ) -> Result<(), AllocError>
-    ensures { OnOk result (Adds text.old.items text.new.items (fields_read (command_read command fields.now) fields.now)) }
+    ensures { OnOk result (AppendsText text.old.items text.new.items (fields_read (command_read command fields.now) fields.now)) }
 {
     match fwup_wire::read(command, fields) {
         Ok(command) => push_command(alloc, text, &command),
@@ -159,7 +159,7 @@ pub fn push_update_request(
     command: u8,
     fields: &[u8],
 ) -> Result<(), AllocError>
-    ensures { OnOk result (Adds text.old.items text.new.items (update_request command fields.now)) }
+    ensures { OnOk result (AppendsText text.old.items text.new.items (update_request command fields.now)) }
 {
     push_name(alloc, text, update_command(command), command)?;
     push_fields(alloc, text, command, fields)?;

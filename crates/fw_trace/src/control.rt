@@ -1,8 +1,8 @@
 //! MCTP's control messages (DSP0236, section 12). Each function's only error is want of memory.
 
 ghost use Rattle.std.specs.Prelude.{OnOk, ◌==◌, ◌++◌, codes, if◌then◌else◌};
-ghost use Rattle.fw_text.specs.Printing.{Adds, numbered};
-ghost use Rattle.fw_trace.specs.Control.{control_answer, control_code_and_fields, control_request, control_request_fields, control_start, control_success_fields, control_text, control_unread, endpoint_answer, listed, set_endpoint_answer, set_endpoint_request, uuid_answer, versions_request};
+ghost use Rattle.fw_text.specs.Printing.{AppendsText, word_and_number};
+ghost use Rattle.fw_trace.specs.Control.{control_answer, control_code_and_fields, control_request, control_request_fields, control_start, control_success_fields, control_text, control_unread, endpoint_answer, list_field, set_endpoint_answer, set_endpoint_request, uuid_answer, versions_request};
 ghost use Rattle.fw_trace.specs.Pieces.{in_two, rest_text};
 ghost use Rattle.fw_trace.specs.Names.{control_code, name_or_digits};
 
@@ -40,7 +40,7 @@ fn push_set_endpoint_asked(
     operation: u8,
     eid: u8,
 ) -> Result<(), AllocError>
-    ensures { OnOk result (Adds text.old.items text.new.items (in_two (codes " operation ") operation ++ numbered (codes " eid ") eid)) }
+    ensures { OnOk result (AppendsText text.old.items text.new.items (in_two (codes " operation ") operation ++ word_and_number (codes " eid ") eid)) }
 {
     push_two(alloc, text, " operation ", operation)?;
     push_byte(alloc, text, " eid ", eid)?;
@@ -54,7 +54,7 @@ fn push_set_endpoint_request(
     text: &mut Vec<u8>,
     fields: &[u8],
 ) -> Result<(), AllocError>
-    ensures { OnOk result (Adds text.old.items text.new.items (set_endpoint_request fields.now)) }
+    ensures { OnOk result (AppendsText text.old.items text.new.items (set_endpoint_request fields.now)) }
 {
     let [operation, eid] = fields else {
         return push_rest(alloc, text, fields);
@@ -70,7 +70,7 @@ fn push_set_endpoint_told(
     eid: u8,
     pool: u8,
 ) -> Result<(), AllocError>
-    ensures { OnOk result (Adds text.old.items text.new.items (in_two (codes " status ") status ++ numbered (codes " eid ") eid ++ numbered (codes " pool ") pool)) }
+    ensures { OnOk result (AppendsText text.old.items text.new.items (in_two (codes " status ") status ++ word_and_number (codes " eid ") eid ++ word_and_number (codes " pool ") pool)) }
 {
     push_two(alloc, text, " status ", status)?;
     push_byte(alloc, text, " eid ", eid)?;
@@ -85,7 +85,7 @@ fn push_set_endpoint_answer(
     text: &mut Vec<u8>,
     fields: &[u8],
 ) -> Result<(), AllocError>
-    ensures { OnOk result (Adds text.old.items text.new.items (set_endpoint_answer fields.now)) }
+    ensures { OnOk result (AppendsText text.old.items text.new.items (set_endpoint_answer fields.now)) }
 {
     let [status, eid, pool] = fields else {
         return push_rest(alloc, text, fields);
@@ -101,7 +101,7 @@ fn push_endpoint_told(
     kind: u8,
     medium: u8,
 ) -> Result<(), AllocError>
-    ensures { OnOk result (Adds text.old.items text.new.items (numbered (codes " eid ") eid ++ in_two (codes " type ") kind ++ in_two (codes " medium ") medium)) }
+    ensures { OnOk result (AppendsText text.old.items text.new.items (word_and_number (codes " eid ") eid ++ in_two (codes " type ") kind ++ in_two (codes " medium ") medium)) }
 {
     push_byte(alloc, text, " eid ", eid)?;
     push_two(alloc, text, " type ", kind)?;
@@ -112,7 +112,7 @@ fn push_endpoint_told(
 /// Appends the fields of Get Endpoint ID's answer.
 #[tactic(auto, unfolding(crate::specs::Control::endpoint_answer))]
 fn push_endpoint_answer(alloc: Global, text: &mut Vec<u8>, fields: &[u8]) -> Result<(), AllocError>
-    ensures { OnOk result (Adds text.old.items text.new.items (endpoint_answer fields.now)) }
+    ensures { OnOk result (AppendsText text.old.items text.new.items (endpoint_answer fields.now)) }
 {
     let [eid, kind, medium] = fields else {
         return push_rest(alloc, text, fields);
@@ -122,7 +122,7 @@ fn push_endpoint_answer(alloc: Global, text: &mut Vec<u8>, fields: &[u8]) -> Res
 
 /// Appends the fields of Get Endpoint UUID's answer.
 fn push_uuid(alloc: Global, text: &mut Vec<u8>, fields: &[u8]) -> Result<(), AllocError>
-    ensures { OnOk result (Adds text.old.items text.new.items (uuid_answer fields.now)) }
+    ensures { OnOk result (AppendsText text.old.items text.new.items (uuid_answer fields.now)) }
 {
     if fields.len() == UUID_SIZE {
         push_digits(alloc, text, " uuid ", fields)
@@ -133,7 +133,7 @@ fn push_uuid(alloc: Global, text: &mut Vec<u8>, fields: &[u8]) -> Result<(), All
 
 /// Appends the fields of Get MCTP Version Support's request.
 fn push_versions_request(alloc: Global, text: &mut Vec<u8>, fields: &[u8]) -> Result<(), AllocError>
-    ensures { OnOk result (Adds text.old.items text.new.items (versions_request fields.now)) }
+    ensures { OnOk result (AppendsText text.old.items text.new.items (versions_request fields.now)) }
 {
     match fields {
         [kind] => push_two(alloc, text, " type ", *kind),
@@ -149,7 +149,7 @@ fn push_items(
     count: u8,
     items: &[u8],
 ) -> Result<(), AllocError>
-    ensures { OnOk result (Adds text.old.items text.new.items (numbered word.now count ++ rest_text items.now)) }
+    ensures { OnOk result (AppendsText text.old.items text.new.items (word_and_number word.now count ++ rest_text items.now)) }
 {
     push_byte(alloc, text, word, count)?;
     push_rest(alloc, text, items)?;
@@ -157,7 +157,7 @@ fn push_items(
 }
 
 /// Appends a word and a list of items of so many bytes, whose first byte says how many there are.
-#[tactic(auto, unfolding(crate::specs::Control::listed))]
+#[tactic(auto, unfolding(crate::specs::Control::list_field))]
 fn push_listed(
     alloc: Global,
     text: &mut Vec<u8>,
@@ -165,7 +165,7 @@ fn push_listed(
     size: u8,
     fields: &[u8],
 ) -> Result<(), AllocError>
-    ensures { OnOk result (Adds text.old.items text.new.items (listed word.now size fields.now)) }
+    ensures { OnOk result (AppendsText text.old.items text.new.items (list_field word.now size fields.now)) }
 {
     let [count, items @ ..] = fields else {
         return Ok(());
@@ -183,7 +183,7 @@ fn push_request_fields(
     command: Option<ControlCommand>,
     fields: &[u8],
 ) -> Result<(), AllocError>
-    ensures { OnOk result (Adds text.old.items text.new.items (control_request_fields command fields.now)) }
+    ensures { OnOk result (AppendsText text.old.items text.new.items (control_request_fields command fields.now)) }
 {
     match command {
         Some(ControlCommand::SetEndpointId) => push_set_endpoint_request(alloc, text, fields),
@@ -204,7 +204,7 @@ fn push_success_fields(
     command: Option<ControlCommand>,
     fields: &[u8],
 ) -> Result<(), AllocError>
-    ensures { OnOk result (Adds text.old.items text.new.items (control_success_fields command fields.now)) }
+    ensures { OnOk result (AppendsText text.old.items text.new.items (control_success_fields command fields.now)) }
 {
     match command {
         Some(ControlCommand::SetEndpointId) => push_set_endpoint_answer(alloc, text, fields),
@@ -228,7 +228,7 @@ fn push_answer_fields(
     code: u8,
     fields: &[u8],
 ) -> Result<(), AllocError>
-    ensures { OnOk result (Adds text.old.items text.new.items (if code == 0 then control_success_fields command fields.now else rest_text fields.now)) }
+    ensures { OnOk result (AppendsText text.old.items text.new.items (if code == 0 then control_success_fields command fields.now else rest_text fields.now)) }
 {
     if code == SUCCESS {
         push_success_fields(alloc, text, command, fields)
@@ -245,7 +245,7 @@ fn push_coded(
     code: u8,
     fields: &[u8],
 ) -> Result<(), AllocError>
-    ensures { OnOk result (Adds text.old.items text.new.items (name_or_digits (control_code code) code ++ (if code == 0 then control_success_fields command fields.now else rest_text fields.now))) }
+    ensures { OnOk result (AppendsText text.old.items text.new.items (name_or_digits (control_code code) code ++ (if code == 0 then control_success_fields command fields.now else rest_text fields.now))) }
 {
     push_name(alloc, text, names::control_code(code), code)?;
     push_answer_fields(alloc, text, command, code, fields)?;
@@ -259,7 +259,7 @@ fn push_code_and_fields(
     command: Option<ControlCommand>,
     body: &[u8],
 ) -> Result<(), AllocError>
-    ensures { OnOk result (Adds text.old.items text.new.items (control_code_and_fields command body.now)) }
+    ensures { OnOk result (AppendsText text.old.items text.new.items (control_code_and_fields command body.now)) }
 {
     let [code, fields @ ..] = body else {
         return Ok(());
@@ -275,7 +275,7 @@ fn push_start(
     instance: u8,
     command: u8,
 ) -> Result<(), AllocError>
-    ensures { OnOk result (Adds text.old.items text.new.items (control_start word.now instance command)) }
+    ensures { OnOk result (AppendsText text.old.items text.new.items (control_start word.now instance command)) }
 {
     push_byte(alloc, text, word, instance)?;
     let name = names::control_command(ControlCommand::from_code(command));
@@ -291,7 +291,7 @@ fn push_request(
     command: u8,
     fields: &[u8],
 ) -> Result<(), AllocError>
-    ensures { OnOk result (Adds text.old.items text.new.items (control_request instance command fields.now)) }
+    ensures { OnOk result (AppendsText text.old.items text.new.items (control_request instance command fields.now)) }
 {
     push_start(alloc, text, "control rq ", instance, command)?;
     push_request_fields(alloc, text, ControlCommand::from_code(command), fields)?;
@@ -306,7 +306,7 @@ fn push_answer(
     command: u8,
     body: &[u8],
 ) -> Result<(), AllocError>
-    ensures { OnOk result (Adds text.old.items text.new.items (control_answer instance command body.now)) }
+    ensures { OnOk result (AppendsText text.old.items text.new.items (control_answer instance command body.now)) }
 {
     push_start(alloc, text, "control rs ", instance, command)?;
     push_code_and_fields(alloc, text, ControlCommand::from_code(command), body)?;
@@ -315,7 +315,7 @@ fn push_answer(
 
 /// Appends a control message that can't be read.
 fn push_unread(alloc: Global, text: &mut Vec<u8>, bytes: &[u8]) -> Result<(), AllocError>
-    ensures { OnOk result (Adds text.old.items text.new.items (control_unread bytes.now)) }
+    ensures { OnOk result (AppendsText text.old.items text.new.items (control_unread bytes.now)) }
 {
     push_words(text, "control")?;
     push_rest(alloc, text, bytes)?;
@@ -325,7 +325,7 @@ fn push_unread(alloc: Global, text: &mut Vec<u8>, bytes: &[u8]) -> Result<(), Al
 /// Appends a control message, given by what follows its type byte.
 #[tactic(auto, unfolding(crate::specs::Control::control_text))]
 pub fn push_control(alloc: Global, text: &mut Vec<u8>, bytes: &[u8]) -> Result<(), AllocError>
-    ensures { OnOk result (Adds text.old.items text.new.items (control_text bytes.now)) }
+    ensures { OnOk result (AppendsText text.old.items text.new.items (control_text bytes.now)) }
 {
     let [flags, command, fields @ ..] = bytes else {
         return push_unread(alloc, text, bytes);

@@ -11,7 +11,7 @@ use std::marker::Model;
 
 /// What comes of a packet between an agent and a device.
 #[derive(Drop)]
-pub enum Heard {
+pub enum PacketOutcome {
     /// It goes to neither of them.
     Destination,
     /// It goes to one of them, and doesn't come from the other.
@@ -22,12 +22,12 @@ pub enum Heard {
 
 /// The assemblies of one end: of the other end's requests and of its replies.
 #[derive(Drop)]
-pub struct Hearing {
+pub struct EndAssemblies {
     requests: Inbox,
     replies: Inbox,
 }
 
-impl Model for Hearing {
+impl Model for EndAssemblies {
     ghost use Rattle.std.specs.Prelude.{◌≡◌, false, true};
     ghost use Rattle.fw_trace.specs.Hearings.{HearingOf};
 
@@ -38,12 +38,12 @@ impl Model for Hearing {
     ghost invariant = { λ h. (h.requests.to ≡ true) × (h.replies.to ≡ false) × (h.replies.unit ≡ h.requests.unit) × (h.replies.own ≡ h.requests.own) × (h.replies.peer ≡ h.requests.peer) };
 }
 
-impl Hearing {
+impl EndAssemblies {
     /// Those of the endpoint `own` in a network with this transmission unit, which hold nothing.
-    pub fn new(unit: Unit, own: u8, peer: u8) -> Hearing
+    pub fn new(unit: Unit, own: u8, peer: u8) -> EndAssemblies
         ensures { result ≡ record { unit = unit; own = own; peer = peer; held = no_assemblies } }
     {
-        Hearing {
+        EndAssemblies {
             requests: Inbox::new(unit, own, peer, true),
             replies: Inbox::new(unit, own, peer, false),
         }

@@ -3,13 +3,13 @@
 ghost use Rattle.std.specs.Prelude.{◌≡◌, ◌≤◌, ◌++◌, codes, length, OnOk};
 ghost use Rattle.mctp_reasm.specs.Pieces.{packet_of};
 ghost use Rattle.mctp_wire.specs.Units.{bytes_of};
-ghost use Rattle.fw_text.specs.Printing.{Adds};
-ghost use Rattle.fw_trace.specs.Lines.{after_packet, fed_text, head_text, heard_by, heard_text, new_reader, packet_line, packet_text, part_text, place_text, reader_after};
+ghost use Rattle.fw_text.specs.Printing.{AppendsText};
+ghost use Rattle.fw_trace.specs.Lines.{after_packet, fed_text, head_text, outcome_of_packet, outcome_text, new_reader, packet_line, packet_text, part_text, place_text, reader_after};
 ghost use Rattle.fw_trace.specs.Messages.{message_text};
 ghost use Rattle.fw_trace.specs.Names.{cause_name};
 ghost use Rattle.fw_trace.specs.Pieces.{in_digits};
 
-use crate::hearing::{Heard, Hearing};
+use crate::hearing::{EndAssemblies, PacketOutcome};
 use crate::messages::push_message;
 use crate::names::cause_name;
 use crate::pieces::{push_byte, push_digits, push_long};
@@ -24,8 +24,8 @@ use std::marker::Model;
 /// what they hold.
 #[derive(Drop)]
 pub struct PacketReader {
-    at_agent: Hearing,
-    at_device: Hearing,
+    at_agent: EndAssemblies,
+    at_device: EndAssemblies,
 }
 
 impl Model for PacketReader {
@@ -57,8 +57,8 @@ impl PacketReader {
         ensures { result ≡ new_reader unit agent device }
     {
         PacketReader {
-            at_agent: Hearing::new(unit, agent, device),
-            at_device: Hearing::new(unit, device, agent),
+            at_agent: EndAssemblies::new(unit, agent, device),
+            at_device: EndAssemblies::new(unit, device, agent),
         }
     }
 
@@ -84,27 +84,27 @@ impl PacketReader {
     }
 
     /// Hears a packet at the end that it goes to.
-    #[tactic(auto, unfolding(crate::specs::Lines::heard_by, crate::specs::Lines::after_packet))]
-    fn hear(&mut self, packet: &Packet<'_>) -> Heard
+    #[tactic(auto, unfolding(crate::specs::Lines::outcome_of_packet, crate::specs::Lines::after_packet))]
+    fn assemble(&mut self, packet: &Packet<'_>) -> PacketOutcome
         requires body { (1 ≤ length packet.now.body.now) × (length packet.now.body.now ≤ bytes_of self.old.unit) }
         requires tag { packet.now.head.tag ≤ 7 }
-        ensures heard { result ≡ heard_by self.old (packet_of packet.now.head packet.now.body.now) }
+        ensures heard { result ≡ outcome_of_packet self.old (packet_of packet.now.head packet.now.body.now) }
         ensures after { self.new ≡ after_packet self.old (packet_of packet.now.head packet.now.body.now) }
     {
         let (end, from) = (packet.head.dest, packet.head.source);
         if end == self.device() {
             if from != self.agent() {
-                return Heard::Source;
+                return PacketOutcome::Source;
             }
-            return Heard::Fed(self.at_device.feed(packet));
+            return PacketOutcome::Fed(self.at_device.feed(packet));
         }
         if end != self.agent() {
-            return Heard::Destination;
+            return PacketOutcome::Destination;
         }
         if from != self.device() {
-            return Heard::Source;
+            return PacketOutcome::Source;
         }
-        Heard::Fed(self.at_agent.feed(packet))
+        PacketOutcome::Fed(self.at_agent.feed(packet))
     }
 
     /// Appends the line of the next packet: it was sent at `turn`, in ticks, as the pair's packet of this number, counted from
@@ -121,7 +121,7 @@ impl PacketReader {
         number: usize,
         bytes: &[u8],
     ) -> Result<(), AllocError>
-        ensures line { OnOk result (Adds text.old.items text.new.items (packet_line self.old turn number bytes.now)) }
+        ensures line { OnOk result (AppendsText text.old.items text.new.items (packet_line self.old turn number bytes.now)) }
         ensures after { self.new ≡ reader_after self.old bytes.now }
     {
         let place = Place {
@@ -132,14 +132,14 @@ impl PacketReader {
         let Ok(packet) = mctp_wire::decode(self.unit(), bytes) else {
             return push_bytes_line(alloc, text, place, bytes);
         };
-        let heard = self.hear(&packet);
+        let heard = self.assemble(&packet);
         push_packet_line(alloc, text, place, &packet, &heard)
     }
 }
 
 /// Appends when a packet was sent, its device, and its number.
 fn push_place(alloc: Global, text: &mut Vec<u8>, place: Place) -> Result<(), AllocError>
-    ensures { OnOk result (Adds text.old.items text.new.items (place_text place.turn place.device place.number)) }
+    ensures { OnOk result (AppendsText text.old.items text.new.items (place_text place.turn place.device place.number)) }
 {
     push_long(alloc, text, "", place.turn)?;
     push_byte(alloc, text, " ", place.device)?;
@@ -149,7 +149,7 @@ fn push_place(alloc: Global, text: &mut Vec<u8>, place: Place) -> Result<(), All
 
 /// Appends the packet's own source and destination, and its tag.
 fn push_head(alloc: Global, text: &mut Vec<u8>, head: &Head) -> Result<(), AllocError>
-    ensures { OnOk result (Adds text.old.items text.new.items (head_text head.now)) }
+    ensures { OnOk result (AppendsText text.old.items text.new.items (head_text head.now)) }
 {
     push_byte(alloc, text, " ", head.source)?;
     push_byte(alloc, text, " > ", head.dest)?;
@@ -159,7 +159,7 @@ fn push_head(alloc: Global, text: &mut Vec<u8>, head: &Head) -> Result<(), Alloc
 
 /// Appends a packet of a message that goes on.
 fn push_part(alloc: Global, text: &mut Vec<u8>, packet: &Packet<'_>) -> Result<(), AllocError>
-    ensures { OnOk result (Adds text.old.items text.new.items (part_text (packet_of packet.now.head packet.now.body.now))) }
+    ensures { OnOk result (AppendsText text.old.items text.new.items (part_text (packet_of packet.now.head packet.now.body.now))) }
 {
     push_byte(alloc, text, " part ", packet.head.seq)?;
     push_number(alloc, text, " of ", packet.body.len())?;
@@ -169,7 +169,7 @@ fn push_part(alloc: Global, text: &mut Vec<u8>, packet: &Packet<'_>) -> Result<(
 
 /// Appends the message that a packet ends.
 fn push_whole(alloc: Global, text: &mut Vec<u8>, message: &[u8]) -> Result<(), AllocError>
-    ensures { OnOk result (Adds text.old.items text.new.items (codes " " ++ message_text message.now)) }
+    ensures { OnOk result (AppendsText text.old.items text.new.items (codes " " ++ message_text message.now)) }
 {
     push_words(text, " ")?;
     push_message(alloc, text, message)?;
@@ -178,7 +178,7 @@ fn push_whole(alloc: Global, text: &mut Vec<u8>, message: &[u8]) -> Result<(), A
 
 /// Appends why a packet is dropped.
 fn push_dropped(text: &mut Vec<u8>, cause: DropCause) -> Result<(), AllocError>
-    ensures { OnOk result (Adds text.old.items text.new.items (codes " drop " ++ cause_name cause)) }
+    ensures { OnOk result (AppendsText text.old.items text.new.items (codes " drop " ++ cause_name cause)) }
 {
     push_words(text, " drop ")?;
     push_words(text, cause_name(cause))?;
@@ -192,7 +192,7 @@ fn push_fed(
     packet: &Packet<'_>,
     fed: &Fed,
 ) -> Result<(), AllocError>
-    ensures { OnOk result (Adds text.old.items text.new.items (fed_text (packet_of packet.now.head packet.now.body.now) fed.now)) }
+    ensures { OnOk result (AppendsText text.old.items text.new.items (fed_text (packet_of packet.now.head packet.now.body.now) fed.now)) }
 {
     match fed {
         Fed::Open => push_part(alloc, text, packet),
@@ -202,18 +202,18 @@ fn push_fed(
 }
 
 /// Appends what came of a packet.
-fn push_heard(
+fn push_outcome(
     alloc: Global,
     text: &mut Vec<u8>,
     packet: &Packet<'_>,
-    heard: &Heard,
+    heard: &PacketOutcome,
 ) -> Result<(), AllocError>
-    ensures { OnOk result (Adds text.old.items text.new.items (heard_text (packet_of packet.now.head packet.now.body.now) heard.now)) }
+    ensures { OnOk result (AppendsText text.old.items text.new.items (outcome_text (packet_of packet.now.head packet.now.body.now) heard.now)) }
 {
     match heard {
-        Heard::Destination => push_words(text, " drop Destination"),
-        Heard::Source => push_words(text, " drop Source"),
-        Heard::Fed(fed) => push_fed(alloc, text, packet, fed),
+        PacketOutcome::Destination => push_words(text, " drop Destination"),
+        PacketOutcome::Source => push_words(text, " drop Source"),
+        PacketOutcome::Fed(fed) => push_fed(alloc, text, packet, fed),
     }
 }
 
@@ -222,12 +222,12 @@ fn push_packet(
     alloc: Global,
     text: &mut Vec<u8>,
     packet: &Packet<'_>,
-    heard: &Heard,
+    heard: &PacketOutcome,
 ) -> Result<(), AllocError>
-    ensures { OnOk result (Adds text.old.items text.new.items (packet_text (packet_of packet.now.head packet.now.body.now) heard.now)) }
+    ensures { OnOk result (AppendsText text.old.items text.new.items (packet_text (packet_of packet.now.head packet.now.body.now) heard.now)) }
 {
     push_head(alloc, text, &packet.head)?;
-    push_heard(alloc, text, packet, heard)?;
+    push_outcome(alloc, text, packet, heard)?;
     Ok(())
 }
 
@@ -237,9 +237,9 @@ fn push_packet_line(
     text: &mut Vec<u8>,
     place: Place,
     packet: &Packet<'_>,
-    heard: &Heard,
+    heard: &PacketOutcome,
 ) -> Result<(), AllocError>
-    ensures { OnOk result (Adds text.old.items text.new.items (place_text place.turn place.device place.number ++ packet_text (packet_of packet.now.head packet.now.body.now) heard.now ++ codes "\n")) }
+    ensures { OnOk result (AppendsText text.old.items text.new.items (place_text place.turn place.device place.number ++ packet_text (packet_of packet.now.head packet.now.body.now) heard.now ++ codes "\n")) }
 {
     push_place(alloc, text, place)?;
     push_packet(alloc, text, packet, heard)?;
@@ -254,7 +254,7 @@ fn push_bytes_line(
     place: Place,
     bytes: &[u8],
 ) -> Result<(), AllocError>
-    ensures { OnOk result (Adds text.old.items text.new.items (place_text place.turn place.device place.number ++ in_digits (codes " bytes ") bytes.now ++ codes "\n")) }
+    ensures { OnOk result (AppendsText text.old.items text.new.items (place_text place.turn place.device place.number ++ in_digits (codes " bytes ") bytes.now ++ codes "\n")) }
 {
     push_place(alloc, text, place)?;
     push_digits(alloc, text, " bytes ", bytes)?;

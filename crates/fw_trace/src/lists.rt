@@ -1,7 +1,7 @@
 //! The lines of a list of packets.
 
 ghost use Rattle.std.specs.Prelude.{◌≡◌, OnOk, map};
-ghost use Rattle.fw_text.specs.Printing.{Adds};
+ghost use Rattle.fw_text.specs.Printing.{AppendsText};
 ghost use Rattle.fw_trace.specs.Lines.{lines_of, reader_along};
 ghost use Rattle.fw_trace.specs.Sent.{sent_of};
 
@@ -29,7 +29,7 @@ pub fn push_lines(
     reader: &mut PacketReader,
     packets: &[Sent<'_>],
 ) -> Result<(), AllocError>
-    ensures lines { OnOk result (Adds text.old.items text.new.items (lines_of reader.old 1 (map sent_of packets.now))) }
+    ensures lines { OnOk result (AppendsText text.old.items text.new.items (lines_of reader.old 1 (map sent_of packets.now))) }
     ensures after { OnOk result (reader.new ≡ reader_along reader.old (map sent_of packets.now)) }
 {
     for (place, sent) in packets.iter().enumerate() {

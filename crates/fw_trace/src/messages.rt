@@ -1,7 +1,7 @@
 //! What a message says. Each function's only error is want of memory.
 
 ghost use Rattle.std.specs.Prelude.{OnOk, ◌∷◌};
-ghost use Rattle.fw_text.specs.Printing.{Adds};
+ghost use Rattle.fw_text.specs.Printing.{AppendsText};
 ghost use Rattle.pldm_base.specs.Header.{pldm_of};
 ghost use Rattle.fw_trace.specs.Messages.{answer_text, message_text, other_text, pldm_answer, pldm_read, pldm_request, pldm_unread, request_text};
 
@@ -22,7 +22,7 @@ fn push_typed_request(
     head: &PldmHead,
     body: &[u8],
 ) -> Result<(), AllocError>
-    ensures { OnOk result (Adds text.old.items text.new.items (request_text head.now body.now)) }
+    ensures { OnOk result (AppendsText text.old.items text.new.items (request_text head.now body.now)) }
 {
     match head.pldm_type {
         TYPE_FIRMWARE_UPDATE => push_update_request(alloc, text, head.command, body),
@@ -38,7 +38,7 @@ fn push_typed_answer(
     head: &PldmHead,
     body: &[u8],
 ) -> Result<(), AllocError>
-    ensures { OnOk result (Adds text.old.items text.new.items (answer_text head.now body.now)) }
+    ensures { OnOk result (AppendsText text.old.items text.new.items (answer_text head.now body.now)) }
 {
     match head.pldm_type {
         TYPE_FIRMWARE_UPDATE => push_update_answer(alloc, text, head.command, body),
@@ -54,7 +54,7 @@ fn push_request(
     head: &PldmHead,
     body: &[u8],
 ) -> Result<(), AllocError>
-    ensures { OnOk result (Adds text.old.items text.new.items (pldm_request head.now body.now)) }
+    ensures { OnOk result (AppendsText text.old.items text.new.items (pldm_request head.now body.now)) }
 {
     push_byte(alloc, text, "pldm rq ", head.instance)?;
     push_typed_request(alloc, text, head, body)?;
@@ -68,7 +68,7 @@ fn push_answer(
     head: &PldmHead,
     body: &[u8],
 ) -> Result<(), AllocError>
-    ensures { OnOk result (Adds text.old.items text.new.items (pldm_answer head.now body.now)) }
+    ensures { OnOk result (AppendsText text.old.items text.new.items (pldm_answer head.now body.now)) }
 {
     push_byte(alloc, text, "pldm rs ", head.instance)?;
     push_typed_answer(alloc, text, head, body)?;
@@ -77,7 +77,7 @@ fn push_answer(
 
 /// Appends a message of PLDM whose head can't be read, given by what follows its type byte.
 fn push_unread(alloc: Global, text: &mut Vec<u8>, bytes: &[u8]) -> Result<(), AllocError>
-    ensures { OnOk result (Adds text.old.items text.new.items (pldm_unread bytes.now)) }
+    ensures { OnOk result (AppendsText text.old.items text.new.items (pldm_unread bytes.now)) }
 {
     push_words(text, "pldm")?;
     push_rest(alloc, text, bytes)?;
@@ -91,7 +91,7 @@ fn push_pldm(
     message: &[u8],
     bytes: &[u8],
 ) -> Result<(), AllocError>
-    ensures { OnOk result (Adds text.old.items text.new.items (pldm_read (pldm_of message.now) bytes.now)) }
+    ensures { OnOk result (AppendsText text.old.items text.new.items (pldm_read (pldm_of message.now) bytes.now)) }
 {
     match pldm_base::decode(message) {
         Ok((head, body)) => {
@@ -107,7 +107,7 @@ fn push_pldm(
 
 /// Appends a message of another type than control messages and PLDM.
 fn push_other(alloc: Global, text: &mut Vec<u8>, kind: u8, bytes: &[u8]) -> Result<(), AllocError>
-    ensures { OnOk result (Adds text.old.items text.new.items (other_text kind bytes.now)) }
+    ensures { OnOk result (AppendsText text.old.items text.new.items (other_text kind bytes.now)) }
 {
     push_two(alloc, text, "type ", kind)?;
     push_rest(alloc, text, bytes)?;
@@ -121,7 +121,7 @@ fn push_other(alloc: Global, text: &mut Vec<u8>, kind: u8, bytes: &[u8]) -> Resu
 /// Memory was refused. Of the text nothing is known then.
 #[tactic(auto, unfolding(crate::specs::Messages::message_text))]
 pub fn push_message(alloc: Global, text: &mut Vec<u8>, message: &[u8]) -> Result<(), AllocError>
-    ensures { OnOk result (Adds text.old.items text.new.items (message_text message.now)) }
+    ensures { OnOk result (AppendsText text.old.items text.new.items (message_text message.now)) }
 {
     let [kind, bytes @ ..] = message else {
         return Ok(());

@@ -1,13 +1,13 @@
 //! Pieces of a packet's line, each appended to the text that is there. Their only error is want of memory.
 
 ghost use Rattle.std.specs.Prelude.{OnOk, option_map};
-ghost use Rattle.fw_text.specs.Printing.{Adds, numbered};
-ghost use Rattle.fwup_wire.specs.Lent.{text_of};
+ghost use Rattle.fw_text.specs.Printing.{AppendsText, word_and_number};
+ghost use Rattle.fwup_wire.specs.Lent.{typed_text_of};
 ghost use Rattle.fw_trace.specs.Names.{name_or_digits};
-ghost use Rattle.fw_trace.specs.Pieces.{encoded, encoding_text, in_digits, in_two, rest_text, text_field};
+ghost use Rattle.fw_trace.specs.Pieces.{encoded_text, encoding_text, in_digits, in_two, rest_text, text_field};
 
 use fw_text::{push_data, push_number, push_quoted, push_words};
-use fwup_wire::Text;
+use fwup_wire::TypedText;
 use fwup_wire::code::text_type;
 use std::alloc::{AllocError, Global};
 
@@ -18,7 +18,7 @@ pub fn push_byte(
     word: &str,
     number: u8,
 ) -> Result<(), AllocError>
-    ensures { OnOk result (Adds text.old.items text.new.items (numbered word.now number)) }
+    ensures { OnOk result (AppendsText text.old.items text.new.items (word_and_number word.now number)) }
 {
     push_number(alloc, text, word, usize::from(number))
 }
@@ -30,7 +30,7 @@ pub fn push_short(
     word: &str,
     number: u16,
 ) -> Result<(), AllocError>
-    ensures { OnOk result (Adds text.old.items text.new.items (numbered word.now number)) }
+    ensures { OnOk result (AppendsText text.old.items text.new.items (word_and_number word.now number)) }
 {
     push_number(alloc, text, word, usize::from(number))
 }
@@ -42,7 +42,7 @@ pub fn push_long(
     word: &str,
     number: u32,
 ) -> Result<(), AllocError>
-    ensures { OnOk result (Adds text.old.items text.new.items (numbered word.now number)) }
+    ensures { OnOk result (AppendsText text.old.items text.new.items (word_and_number word.now number)) }
 {
     push_number(alloc, text, word, number as usize)
 }
@@ -50,7 +50,7 @@ pub fn push_long(
 /// Appends a word and a byte in two digits.
 #[tactic(auto, unfolding(crate::specs::Pieces::in_two))]
 pub fn push_two(alloc: Global, text: &mut Vec<u8>, word: &str, number: u8) -> Result<(), AllocError>
-    ensures { OnOk result (Adds text.old.items text.new.items (in_two word.now number)) }
+    ensures { OnOk result (AppendsText text.old.items text.new.items (in_two word.now number)) }
 {
     push_words(text, word)?;
     push_data(alloc, text, &[number])?;
@@ -65,7 +65,7 @@ pub fn push_digits(
     word: &str,
     bytes: &[u8],
 ) -> Result<(), AllocError>
-    ensures { OnOk result (Adds text.old.items text.new.items (in_digits word.now bytes.now)) }
+    ensures { OnOk result (AppendsText text.old.items text.new.items (in_digits word.now bytes.now)) }
 {
     push_words(text, word)?;
     push_data(alloc, text, bytes)?;
@@ -75,7 +75,7 @@ pub fn push_digits(
 /// Appends what isn't read any further: a space and its digits, or nothing where there are none.
 #[tactic(auto, unfolding(crate::specs::Pieces::rest_text))]
 pub fn push_rest(alloc: Global, text: &mut Vec<u8>, bytes: &[u8]) -> Result<(), AllocError>
-    ensures { OnOk result (Adds text.old.items text.new.items (rest_text bytes.now)) }
+    ensures { OnOk result (AppendsText text.old.items text.new.items (rest_text bytes.now)) }
 {
     if bytes.is_empty() {
         return Ok(());
@@ -92,7 +92,7 @@ pub fn push_name(
     name: Option<&'static str>,
     number: u8,
 ) -> Result<(), AllocError>
-    ensures { OnOk result (Adds text.old.items text.new.items (name_or_digits (option_map (λ s. s.now) name.entry) number)) }
+    ensures { OnOk result (AppendsText text.old.items text.new.items (name_or_digits (option_map (λ s. s.now) name.entry) number)) }
 {
     let Some(name) = name else {
         return push_two(alloc, text, " ", number);
@@ -104,7 +104,7 @@ pub fn push_name(
 
 /// Appends the name of an encoding that isn't ASCII, or its two digits.
 fn push_encoding(alloc: Global, text: &mut Vec<u8>, number: u8) -> Result<(), AllocError>
-    ensures { OnOk result (Adds text.old.items text.new.items (encoding_text number)) }
+    ensures { OnOk result (AppendsText text.old.items text.new.items (encoding_text number)) }
 {
     match number {
         text_type::UNKNOWN => push_words(text, "unknown"),
@@ -121,9 +121,9 @@ fn push_encoded(
     alloc: Global,
     text: &mut Vec<u8>,
     word: &str,
-    value: &Text<'_>,
+    value: &TypedText<'_>,
 ) -> Result<(), AllocError>
-    ensures { OnOk result (Adds text.old.items text.new.items (encoded word.now (text_of value.now))) }
+    ensures { OnOk result (AppendsText text.old.items text.new.items (encoded_text word.now (typed_text_of value.now))) }
 {
     push_words(text, word)?;
     push_encoding(alloc, text, value.text_type)?;
@@ -136,9 +136,9 @@ pub fn push_text(
     alloc: Global,
     text: &mut Vec<u8>,
     word: &str,
-    value: &Text<'_>,
+    value: &TypedText<'_>,
 ) -> Result<(), AllocError>
-    ensures { OnOk result (Adds text.old.items text.new.items (text_field word.now (text_of value.now))) }
+    ensures { OnOk result (AppendsText text.old.items text.new.items (text_field word.now (typed_text_of value.now))) }
 {
     if value.text_type == text_type::ASCII {
         push_quoted(alloc, text, word, value.bytes)

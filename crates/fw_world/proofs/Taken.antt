@@ -2,13 +2,13 @@
 use Rattle.std.proofs.Common.{◌<◌, ◌+◌, ℕ, List, [], ◌∷◌, length, take, get_or, refl, subst, sym}
 use Rattle.std.specs.Prelude.{IsOk, OnOk, Result, Ok, Err}
 use Rattle.std.proofs.lemmas.List.{take_more}
-use Rattle.fw_steps.specs.Headline.{Leads, Run}
+use Rattle.fw_steps.specs.Headline.{StepsTo, Run}
 use Rattle.fw_steps.specs.Worlds.{WorldOf}
 use Rattle.fw_steps.specs.declared.step.Step.{Step}
 use Rattle.fw_steps.proofs.Running.{run_append}
 
 -- one step more
-pub run_next : (w v u : WorldOf) (ss : List Step) (i : ℕ) (s : Step) → i < length ss → Run w (take i ss) v → Leads v (get_or ss i s) u → Run w (take (i + 1) ss) u
+pub run_next : (w v u : WorldOf) (ss : List Step) (i : ℕ) (s : Step) → i < length ss → Run w (take i ss) v → StepsTo v (get_or ss i s) u → Run w (take (i + 1) ss) u
 run_next w v u ss i s lt h k =
     subst (λ xs. Run w xs u) (sym (take_more ss i s lt)) (run_append w v u (take i ss) (get_or ss i s ∷ []) h (u, k, refl))
 

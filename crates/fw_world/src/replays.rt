@@ -2,9 +2,9 @@
 
 ghost use Rattle.std.specs.Prelude.{◌≡◌, ◌<◌, IfErr, IfSome, List, OnOk, length, slice_get, take, true, ℕ};
 ghost use Rattle.fw_steps.specs.Clocks.{KeepsTime};
-ghost use Rattle.fw_steps.specs.Headline.{IsLed, IsOpeningWorld, IsPromised, IsSafeWorld, Run, is_node};
-ghost use Rattle.fw_steps.specs.Moments.{IsGrown, IsTiedBetween};
-ghost use Rattle.fw_steps.specs.Replays.{Refuses};
+ghost use Rattle.fw_steps.specs.Headline.{IsAfterSteps, IsOpeningWorld, IsPromised, IsSafeWorld, Run, is_node};
+ghost use Rattle.fw_steps.specs.Moments.{GrowsHistory, IsTiedBetween};
+ghost use Rattle.fw_steps.specs.Replays.{RefusesStep};
 ghost use Rattle.fw_steps.specs.Worlds.{WorldOf};
 ghost use Rattle.fw_steps.specs.declared.step.Step.{Step};
 
@@ -30,8 +30,8 @@ pub fn replay<B: Bank + Drop>(
     steps: &[Step],
 ) -> Result<(), (usize, StepFault)>
     ensures ok { OnOk result (Run world.old steps.now world.new) }
-    ensures stopped { IfErr result (λ e. (e.0 < length steps.now) × Run world.old (take e.0 steps.now) world.new × IfSome (slice_get steps.now e.0) (λ s. Refuses world.new s e.1)) }
-    ensures grown { IsGrown world.old world.new }
+    ensures stopped { IfErr result (λ e. (e.0 < length steps.now) × Run world.old (take e.0 steps.now) world.new × IfSome (slice_get steps.now e.0) (λ s. RefusesStep world.new s e.1)) }
+    ensures grown { GrowsHistory world.old world.new }
     ensures tied { IsTiedBetween world.old world.new }
     ensures moments { (opening earlier later : WorldOf) (before between after : List Step) → IsOpeningWorld opening → Run opening before earlier → Run earlier between later → Run later after world.new → IsSafeWorld opening later × IsTiedBetween earlier later }
     ensures clocks { OnOk result ((eid : ℕ) → is_node world.old eid ≡ true → KeepsTime eid steps.now) }
@@ -54,8 +54,8 @@ fn take_all<B: Bank + Drop>(
     steps: &[Step],
 ) -> Result<(), (usize, StepFault)>
     ensures ok { OnOk result (Run world.old steps.now world.new) }
-    ensures stopped { IfErr result (λ e. (e.0 < length steps.now) × Run world.old (take e.0 steps.now) world.new × IfSome (slice_get steps.now e.0) (λ s. Refuses world.new s e.1)) }
-    ensures led { IsLed world.old world.new }
+    ensures stopped { IfErr result (λ e. (e.0 < length steps.now) × Run world.old (take e.0 steps.now) world.new × IfSome (slice_get steps.now e.0) (λ s. RefusesStep world.new s e.1)) }
+    ensures led { IsAfterSteps world.old world.new }
 {
     for (i, step) in steps.iter().enumerate() {
         match world.step(step) {

@@ -1,7 +1,7 @@
 -- What reading an answer gives is what the bytes are.
 use Rattle.std.proofs.Common.{Bool, IfSome, List, None, Option, Some, [], false, if◌then◌else◌, refl, rules, sym, true, ◌==◌, ◌∷◌, ◌≡◌, ◌≢◌, ℕ}
 use Rattle.std.proofs.lemmas.Bool.{eqb-false, eqb-true}
-use Rattle.fwup_wire.specs.Answers.{IsAnswer, IsSuccess, answer_in, bare, is_known, success_in}
+use Rattle.fwup_wire.specs.Answers.{IsAnswer, IsSuccess, answer_in, fieldless_answer, is_known, success_in}
 use Rattle.fwup_wire.specs.Laws.{ReadsOnlyAnswers}
 use Rattle.fwup_wire.specs.Values.{AnswerOf}
 
@@ -21,7 +21,7 @@ coded command fields (Some a) h = with_code command fields a h
 
 -- a refusal, of a known command and with nothing behind the code
 refused : (known : Bool) (command code : ℕ) (fields : List ℕ) → is_known command ≡ known → code ≢ 0
-    → IfSome (if known then bare (AnswerOf.Refused code) fields else None) (λ a. IsAnswer command (code ∷ fields) a)
+    → IfSome (if known then fieldless_answer (AnswerOf.Refused code) fields else None) (λ a. IsAnswer command (code ∷ fields) a)
 refused true command code [] known other = (known, refl, other, refl)
 refused true command code (x ∷ xs) known other = tt
 refused false command code fields known other = tt
@@ -29,7 +29,7 @@ refused false command code fields known other = tt
 by_code : (is_zero : Bool) (command code : ℕ) (fields : List ℕ) → (code == 0) ≡ is_zero
     → IfSome
     (if is_zero then success_in command fields
-    else if is_known command then bare (AnswerOf.Refused code) fields
+    else if is_known command then fieldless_answer (AnswerOf.Refused code) fields
     else None)
     (λ a. IsAnswer command (code ∷ fields) a)
 by_code true command code fields e =

@@ -4,7 +4,7 @@ use Rattle.std.proofs.Common.{refl}
 use Rattle.std.specs.Cmp.Lexicographic.{pointwise}
 use Rattle.std.proofs.lemmas.Bool.{and_parts, eqb-true, eq-eqb}
 use Rattle.fwup_wire.specs.Fields.{flag_byte}
-use Rattle.fwup_wire.specs.Values.{CommandOf, EntryOf, OfferOf, RequestOf, TextOf, VersionOf}
+use Rattle.fwup_wire.specs.Values.{CommandOf, TableEntryOf, OfferOf, UpdateRequestOf, TypedTextOf, VersionOf}
 use Rattle.fwup_wire.specs.declared.values.Key.{Key}
 use Rattle.fwup_wire.specs.Same.{same_bool, same_key, same_text, same_version, same_request, same_entry, same_offer, same_command}
 
@@ -38,13 +38,13 @@ key_means a b e =
     let here : P (record { classification = a.classification; identifier = a.identifier }) ≡ P (record { classification = b.classification; identifier = b.identifier }) = rw (x, y) refl in
     here
 
-text_self : (a : TextOf) → same_text a a ≡ true
+text_self : (a : TypedTextOf) → same_text a a ≡ true
 text_self a = rw (eq-eqb a.text_type a.text_type refl, bytes_self a.bytes) refl
 
 version_self : (a : VersionOf) → same_version a a ≡ true
 version_self a = rw (eq-eqb a.stamp a.stamp refl, text_self a.text) refl
 
-request_self : (a : RequestOf) → same_request a a ≡ true
+request_self : (a : UpdateRequestOf) → same_request a a ≡ true
 request_self a =
     rw (
       eq-eqb a.transfer_size a.transfer_size refl,
@@ -54,7 +54,7 @@ request_self a =
       text_self a.image_set,
     ) refl
 
-entry_self : (a : EntryOf) → same_entry a a ≡ true
+entry_self : (a : TableEntryOf) → same_entry a a ≡ true
 entry_self a =
     rw (eq-eqb (flag_byte a.flag) (flag_byte a.flag) refl, key_self a.key, eq-eqb a.index a.index refl, version_self a.version) refl
 

@@ -1,10 +1,10 @@
 -- What is written reads back, at a command that equals a written one.
 use Rattle.std.proofs.Common.{Ok, ◌≡◌, rules}
-use Rattle.fwup_wire.specs.Commands.{HasWidths, IsCommand, IsWritable, command_bytes, command_code, command_read}
+use Rattle.fwup_wire.specs.Commands.{HasCommandWidths, IsCommand, IsWritable, command_bytes, command_code, command_read}
 use Rattle.fwup_wire.specs.Values.{CommandOf}
 
-pub writes_back : (c : CommandOf) → HasWidths c → IsWritable c → command_read (command_code c) (command_bytes c) ≡ Ok c
+pub writes_back : (c : CommandOf) → HasCommandWidths c → IsWritable c → command_read (command_code c) (command_bytes c) ≡ Ok c
 writes_back c w f = search rules
 
-pub writes_member : (c : CommandOf) → HasWidths c → IsWritable c → IsCommand (command_code c) (command_bytes c) c
+pub writes_member : (c : CommandOf) → HasCommandWidths c → IsWritable c → IsCommand (command_code c) (command_bytes c) c
 writes_member c w f = search rules

@@ -10,9 +10,9 @@ use Rattle.fwup_wire.specs.Descriptors.{HasDescriptorWidths, descriptor_bytes, d
 use Rattle.fwup_wire.specs.Items.{EachItem}
 use Rattle.fwup_wire.specs.Laws.{WritesAnswers}
 use Rattle.fwup_wire.specs.Parameters.{HasParametersWidths, all_parameters_bytes, first_parameters, parameters_bytes, parameters_in, parameters_size}
-use Rattle.fwup_wire.specs.Values.{AnswerOf, DescriptorOf, ParametersOf}
+use Rattle.fwup_wire.specs.Values.{AnswerOf, DeviceDescriptorOf, ParametersOf}
 
-identifiers_back : (ds : List DescriptorOf) → EachItem HasDescriptorWidths ds → length (descriptors_bytes ds) < 256 ^ 4
+identifiers_back : (ds : List DeviceDescriptorOf) → EachItem HasDescriptorWidths ds → length (descriptors_bytes ds) < 256 ^ 4
     → identifiers_in (success_bytes (AnswerOf.QueryDeviceIdentifiers ds)) ≡ Some (AnswerOf.QueryDeviceIdentifiers ds)
 identifiers_back ds each short =
     let size = little_number-reads_back 4 (length (descriptors_bytes ds)) [] short in

@@ -8,7 +8,7 @@ use Rattle.fwup_wire.specs.Fields.{bit, u16_of, u32_of}
 use Rattle.fwup_wire.specs.Descriptors.{HasDescriptorWidths, descriptors_bytes, descriptors_in}
 use Rattle.fwup_wire.specs.Items.{EachItem}
 use Rattle.fwup_wire.specs.Parameters.{HasParametersWidths, all_parameters_bytes, parameters_in}
-use Rattle.fwup_wire.specs.Values.{AnswerOf, DescriptorOf, ParametersOf}
+use Rattle.fwup_wire.specs.Values.{AnswerOf, DeviceDescriptorOf, ParametersOf}
 use Rattle.fwup_wire.specs.declared.answer.Malformed.{Malformed}
 use Rattle.fwup_wire.specs.declared.answer.OfferResponse.{OfferResponse}
 use Rattle.fwup_wire.specs.declared.answer.Status.{Status}
@@ -27,7 +27,7 @@ answer_code (AnswerOf.Refused code) = code
 answer_code _ = 0
 
 -- After the code of QueryDeviceIdentifiers: how many bytes and how many descriptors follow, and they.
-abbrev pub IsIdentifiers : List ℕ → List DescriptorOf → Type 0
+abbrev pub IsIdentifiers : List ℕ → List DeviceDescriptorOf → Type 0
 IsIdentifiers (l0 ∷ l1 ∷ l2 ∷ l3 ∷ count ∷ rest) ds =
     (u32_of l0 l1 l2 l3 ≡ length rest) × (descriptors_in count rest ≡ Some ds)
 IsIdentifiers _ ds = ⊥
@@ -93,9 +93,9 @@ IsAnswer command (code ∷ fields) (AnswerOf.Refused refusal) =
 IsAnswer command (code ∷ fields) a = (code ≡ 0) × IsSuccess command fields a
 
 -- an answer without fields
-abbrev pub bare : AnswerOf → List ℕ → Option AnswerOf
-bare a [] = Some a
-bare a (_ ∷ _) = None
+abbrev pub fieldless_answer : AnswerOf → List ℕ → Option AnswerOf
+fieldless_answer a [] = Some a
+fieldless_answer a (_ ∷ _) = None
 
 abbrev pub identifiers_in : List ℕ → Option AnswerOf
 identifiers_in (l0 ∷ l1 ∷ l2 ∷ l3 ∷ count ∷ rest) =
@@ -167,12 +167,12 @@ success_in command fields =
     else if command == 0x13 then table_response_in fields
     else if command == 0x14 then offer_response_in fields
     else if command == 0x15 then Some (AnswerOf.RequestFirmwareData fields)
-    else if command == 0x16 then bare AnswerOf.TransferComplete fields
-    else if command == 0x17 then bare AnswerOf.VerifyComplete fields
-    else if command == 0x18 then bare AnswerOf.ApplyComplete fields
+    else if command == 0x16 then fieldless_answer AnswerOf.TransferComplete fields
+    else if command == 0x17 then fieldless_answer AnswerOf.VerifyComplete fields
+    else if command == 0x18 then fieldless_answer AnswerOf.ApplyComplete fields
     else if command == 0x1A then activation_in fields
     else if command == 0x1B then status_in fields
-    else if command == 0x1C then bare AnswerOf.CancelUpdateComponent fields
+    else if command == 0x1C then fieldless_answer AnswerOf.CancelUpdateComponent fields
     else if command == 0x1D then update_cancelled_in fields
     else None
 
@@ -185,7 +185,7 @@ abbrev pub answer_in : ℕ → List ℕ → Option AnswerOf
 answer_in command [] = None
 answer_in command (code ∷ fields) =
     if code == 0 then success_in command fields
-    else if is_known command then bare (AnswerOf.Refused code) fields
+    else if is_known command then fieldless_answer (AnswerOf.Refused code) fields
     else None
 
 -- the same as a result

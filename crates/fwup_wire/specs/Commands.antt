@@ -6,7 +6,7 @@ use Rattle.mctp_wire.specs.declared.unit.Unit.TheVariants.{U64}
 use Rattle.pldm_base.specs.Codes.{invalid_data, invalid_length, unsupported_command}
 use Rattle.pldm_base.specs.Limits.{reply_limit}
 use Rattle.fwup_wire.specs.Fields.{HasComponentWidths, IsText, bit, component_bytes, flag_byte, flag_of, last_text, text_bytes, u16_of, u32_of}
-use Rattle.fwup_wire.specs.Values.{CommandOf, EntryOf, OfferOf, RequestOf, TextOf}
+use Rattle.fwup_wire.specs.Values.{CommandOf, TableEntryOf, OfferOf, UpdateRequestOf, TypedTextOf}
 use Rattle.fwup_wire.specs.declared.values.Key.{Key}
 use Rattle.fwup_wire.specs.declared.values.TransferFlag.{TransferFlag}
 
@@ -27,14 +27,14 @@ command_code CommandOf.CancelUpdateComponent = 0x1C
 command_code CommandOf.CancelUpdate = 0x1D
 
 -- The request data of RequestUpdate: transfer size, components, outstanding requests, package data length, text.
-abbrev pub IsRequest : List ℕ → RequestOf → Type 0
+abbrev pub IsRequest : List ℕ → UpdateRequestOf → Type 0
 IsRequest (t0 ∷ t1 ∷ t2 ∷ t3 ∷ c0 ∷ c1 ∷ outstanding ∷ p0 ∷ p1 ∷ text) r =
     (u32_of t0 t1 t2 t3 ≡ r.transfer_size) × (u16_of c0 c1 ≡ r.components) × (outstanding ≡ r.outstanding)
     × (u16_of p0 p1 ≡ r.package_data_length) × IsText text r.image_set
 IsRequest _ r = ⊥
 
 -- Of PassComponentTable: transfer flag, classification, identifier, index, comparison stamp, text.
-abbrev pub IsEntry : List ℕ → EntryOf → Type 0
+abbrev pub IsEntry : List ℕ → TableEntryOf → Type 0
 IsEntry (flag ∷ c0 ∷ c1 ∷ i0 ∷ i1 ∷ index ∷ s0 ∷ s1 ∷ s2 ∷ s3 ∷ text) e =
     (flag ≡ flag_byte e.flag) × (u16_of c0 c1 ≡ e.key.classification) × (u16_of i0 i1 ≡ e.key.identifier)
     × (index ≡ e.index) × (u32_of s0 s1 s2 s3 ≡ e.version.stamp) × IsText text e.version.text
@@ -90,7 +90,7 @@ alone [] c = Ok c
 alone (_ ∷ _) c = Err invalid_length
 
 -- the request data of RequestUpdate, if these are
-abbrev pub request_in : List ℕ → Option RequestOf
+abbrev pub request_in : List ℕ → Option UpdateRequestOf
 request_in (t0 ∷ t1 ∷ t2 ∷ t3 ∷ c0 ∷ c1 ∷ outstanding ∷ p0 ∷ p1 ∷ text) =
     option_map (λ image_set. record {
       transfer_size = u32_of t0 t1 t2 t3;
@@ -102,7 +102,7 @@ request_in (t0 ∷ t1 ∷ t2 ∷ t3 ∷ c0 ∷ c1 ∷ outstanding ∷ p0 ∷ p1 
 request_in _ = None
 
 -- of PassComponentTable, whose flag is looked at after the length
-abbrev pub entry_with : Option TransferFlag → Key → ℕ → ℕ → Option TextOf → Result CommandOf ℕ
+abbrev pub entry_with : Option TransferFlag → Key → ℕ → ℕ → Option TypedTextOf → Result CommandOf ℕ
 entry_with flag key index stamp None = Err invalid_length
 entry_with None key index stamp (Some text) = Err invalid_data
 entry_with (Some flag) key index stamp (Some text) =
@@ -200,19 +200,19 @@ abbrev pub IsWritable : CommandOf → Type 0
 IsWritable c = length (command_bytes c) ≤ command_limit
 
 -- each number fits its field
-abbrev pub HasWidths : CommandOf → Type 0
-HasWidths (CommandOf.RequestUpdate r) =
+abbrev pub HasCommandWidths : CommandOf → Type 0
+HasCommandWidths (CommandOf.RequestUpdate r) =
     (r.transfer_size < 256 ^ 4) × (r.components < 256 ^ 2) × (r.package_data_length < 256 ^ 2)
-HasWidths (CommandOf.PassComponentTable e) = HasComponentWidths e.key e.version.stamp
-HasWidths (CommandOf.UpdateComponent o) = HasComponentWidths o.key o.version.stamp × (o.size < 256 ^ 4)
-HasWidths (CommandOf.RequestFirmwareData offset size) = (offset < 256 ^ 4) × (size < 256 ^ 4)
-HasWidths (CommandOf.ApplyComplete result methods) = methods < 256 ^ 2
-HasWidths c = Unit {0}
+HasCommandWidths (CommandOf.PassComponentTable e) = HasComponentWidths e.key e.version.stamp
+HasCommandWidths (CommandOf.UpdateComponent o) = HasComponentWidths o.key o.version.stamp × (o.size < 256 ^ 4)
+HasCommandWidths (CommandOf.RequestFirmwareData offset size) = (offset < 256 ^ 4) × (size < 256 ^ 4)
+HasCommandWidths (CommandOf.ApplyComplete result methods) = methods < 256 ^ 2
+HasCommandWidths c = Unit {0}
 
 -- what can be said: it can be written, and each number fits its field
-pub record IsSpoken (c : CommandOf) : Type 0 where
+pub record CommandRoundTrips (c : CommandOf) : Type 0 where
   pub writable : IsWritable c
-  pub widths : HasWidths c
+  pub widths : HasCommandWidths c
 
 -- the commands that go from a device to its agent: RequestFirmwareData, TransferComplete, VerifyComplete, ApplyComplete
 abbrev pub is_asked_of_agent : ℕ → Bool

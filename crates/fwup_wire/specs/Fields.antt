@@ -1,7 +1,7 @@
 -- The fields that messages are made of. Integers are little-endian.
 use Rattle.std.specs.Prelude.{nat_le, take, [], ◌++◌, ◌==◌, ◌∷◌, ◌≡◌, Bool, List, None, Option, false, true, ◌<◌, ◌^◌, Some, if◌then◌else◌, length, ℕ}
 use Rattle.byteorder.specs.Endian.{little_bytes, little_number}
-use Rattle.fwup_wire.specs.Values.{TextOf}
+use Rattle.fwup_wire.specs.Values.{TypedTextOf}
 use Rattle.fwup_wire.specs.declared.values.Key.{Key}
 use Rattle.fwup_wire.specs.declared.values.TransferFlag.{TransferFlag}
 use Rattle.fwup_wire.specs.declared.values.TransferFlag.TheVariants as flags
@@ -61,18 +61,18 @@ abbrev pub first_bytes : ℕ → List ℕ → Option (List ℕ)
 first_bytes count bytes = if nat_le count (length bytes) then Some (take count bytes) else None
 
 -- The bytes are this text: its type, its length and exactly as many bytes.
-abbrev pub IsText : List ℕ → TextOf → Type 0
+abbrev pub IsText : List ℕ → TypedTextOf → Type 0
 IsText (text_type ∷ size ∷ bytes) t = (text_type ≡ t.text_type) × (size ≡ length bytes) × (bytes ≡ t.bytes)
 IsText _ t = ⊥
 
 -- the text that the bytes are
-abbrev pub last_text : List ℕ → Option TextOf
+abbrev pub last_text : List ℕ → Option TypedTextOf
 last_text (text_type ∷ size ∷ bytes) =
     if size == length bytes then Some (record { text_type = text_type; bytes = bytes }) else None
 last_text _ = None
 
 -- how a text is written
-abbrev pub text_bytes : TextOf → List ℕ
+abbrev pub text_bytes : TypedTextOf → List ℕ
 text_bytes t = t.text_type ∷ length t.bytes ∷ t.bytes
 
 -- how key, index and comparison stamp are written

@@ -1,6 +1,6 @@
 -- What reading and writing have to do with each other.
 use Rattle.std.specs.Prelude.{IfOk, IfSome, List, Ok, Some, true, ◌≡◌, ℕ}
-use Rattle.fwup_wire.specs.Commands.{HasWidths, IsCommand, IsWritable, command_bytes, command_code, command_read}
+use Rattle.fwup_wire.specs.Commands.{HasCommandWidths, IsCommand, IsWritable, command_bytes, command_code, command_read}
 use Rattle.fwup_wire.specs.Answers.{HasAnswerWidths, IsAnswer, IsAnswerWritable, answer_bytes, answer_in, answers_command}
 use Rattle.fwup_wire.specs.Values.{AnswerOf, CommandOf}
 
@@ -14,7 +14,7 @@ ReadsOnlyCommands = (command : ℕ) (fields : List ℕ) → IfOk (command_read c
 
 -- what is written reads back as the same command
 abbrev pub WritesCommands : Type 0
-WritesCommands = (c : CommandOf) → HasWidths c → IsWritable c → command_read (command_code c) (command_bytes c) ≡ Ok c
+WritesCommands = (c : CommandOf) → HasCommandWidths c → IsWritable c → command_read (command_code c) (command_bytes c) ≡ Ok c
 
 -- bytes are one answer to a command at most, and that is what is read
 abbrev pub ReadsAnswers : Type 0

@@ -1,5 +1,5 @@
 -- The values of commands and answers whose texts and data are lent.
-use Rattle.fwup_wire.specs.Values.{AnswerOf, CommandOf, DescriptorOf, EntryOf, OfferOf, ParametersOf, RequestOf, TextOf, VersionOf}
+use Rattle.fwup_wire.specs.Values.{AnswerOf, CommandOf, DeviceDescriptorOf, TableEntryOf, OfferOf, ParametersOf, UpdateRequestOf, TypedTextOf, VersionOf}
 use Rattle.fwup_wire.specs.declared.answer.Answer.{Answer}
 use Rattle.fwup_wire.specs.declared.answer.Answer.TheVariants as answers
 use Rattle.fwup_wire.specs.declared.command.Command.{Command}
@@ -8,35 +8,35 @@ use Rattle.fwup_wire.specs.declared.command.ComponentOffer.{ComponentOffer}
 use Rattle.fwup_wire.specs.declared.command.TableEntry.{TableEntry}
 use Rattle.fwup_wire.specs.declared.command.UpdateRequest.{UpdateRequest}
 use Rattle.fwup_wire.specs.declared.values.ComponentParameters.{ComponentParameters}
-use Rattle.fwup_wire.specs.declared.values.Descriptor.{Descriptor}
-use Rattle.fwup_wire.specs.declared.values.Text.{Text}
+use Rattle.fwup_wire.specs.declared.values.DeviceDescriptor.{DeviceDescriptor}
+use Rattle.fwup_wire.specs.declared.values.TypedText.{TypedText}
 use Rattle.fwup_wire.specs.declared.values.Version.{Version}
 
-abbrev pub text_of : Text → TextOf
-text_of t = record { text_type = t.text_type; bytes = t.bytes.now }
+abbrev pub typed_text_of : TypedText → TypedTextOf
+typed_text_of t = record { text_type = t.text_type; bytes = t.bytes.now }
 
-abbrev pub descriptor_of : Descriptor → DescriptorOf
-descriptor_of d = record { kind = d.kind; bytes = d.bytes.now }
+abbrev pub device_descriptor_of : DeviceDescriptor → DeviceDescriptorOf
+device_descriptor_of d = record { kind = d.kind; bytes = d.bytes.now }
 
 abbrev pub version_of : Version → VersionOf
-version_of v = record { stamp = v.stamp; text = text_of v.text }
+version_of v = record { stamp = v.stamp; text = typed_text_of v.text }
 
 abbrev pub parameters_of : ComponentParameters → ParametersOf
 parameters_of p =
     record { key = p.key; index = p.index; active = version_of p.active; pending = version_of p.pending }
 
-abbrev pub request_of : UpdateRequest → RequestOf
-request_of r =
+abbrev pub update_request_of : UpdateRequest → UpdateRequestOf
+update_request_of r =
     record {
       transfer_size = r.transfer_size;
       components = r.components;
       outstanding = r.outstanding;
       package_data_length = r.package_data_length;
-      image_set = text_of r.image_set;
+      image_set = typed_text_of r.image_set;
     }
 
-abbrev pub entry_of : TableEntry → EntryOf
-entry_of e = record { flag = e.flag; key = e.key; index = e.index; version = version_of e.version }
+abbrev pub table_entry_of : TableEntry → TableEntryOf
+table_entry_of e = record { flag = e.flag; key = e.key; index = e.index; version = version_of e.version }
 
 abbrev pub offer_of : ComponentOffer → OfferOf
 offer_of o =
@@ -46,8 +46,8 @@ offer_of o =
 abbrev pub command_of : Command → CommandOf
 command_of commands.QueryDeviceIdentifiers = CommandOf.QueryDeviceIdentifiers
 command_of commands.GetFirmwareParameters = CommandOf.GetFirmwareParameters
-command_of (commands.RequestUpdate request) = CommandOf.RequestUpdate (request_of request)
-command_of (commands.PassComponentTable entry) = CommandOf.PassComponentTable (entry_of entry)
+command_of (commands.RequestUpdate request) = CommandOf.RequestUpdate (update_request_of request)
+command_of (commands.PassComponentTable entry) = CommandOf.PassComponentTable (table_entry_of entry)
 command_of (commands.UpdateComponent offer) = CommandOf.UpdateComponent (offer_of offer)
 command_of (commands.RequestFirmwareData offset size) = CommandOf.RequestFirmwareData offset size
 command_of (commands.TransferComplete result) = CommandOf.TransferComplete result

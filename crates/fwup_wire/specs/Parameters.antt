@@ -4,7 +4,7 @@ use Rattle.byteorder.specs.Endian.{little_bytes}
 use Rattle.fwup_wire.specs.Fields.{HasComponentWidths, component_bytes, first_bytes, first_component, first_u32}
 use Rattle.fwup_wire.specs.Items.{AreItems, HoldsItems, items_bytes, items_in}
 use Rattle.fwup_wire.specs.declared.values.Key.{Key}
-use Rattle.fwup_wire.specs.Values.{ParametersOf, TextOf}
+use Rattle.fwup_wire.specs.Values.{ParametersOf, TypedTextOf}
 
 -- A text's type and its length, and a release date that isn't set, eight bytes 0. The text's bytes come later.
 abbrev pub first_text_head : List ℕ → Option (ℕ × ℕ)
@@ -62,7 +62,7 @@ abbrev pub parameters_in : ℕ → List ℕ → Option (List ParametersOf)
 parameters_in count bytes = items_in first_parameters parameters_size count bytes
 
 -- how the parameters of a component are written, and a list of them
-abbrev pub text_head_bytes : TextOf → List ℕ
+abbrev pub text_head_bytes : TypedTextOf → List ℕ
 text_head_bytes t = t.text_type ∷ length t.bytes ∷ replicate 8 0
 
 abbrev pub parameters_bytes : ParametersOf → List ℕ

@@ -2,7 +2,7 @@
 use Rattle.std.specs.Prelude.{nat_eq, ◌==◌, ◌&&◌, Bool, true, false}
 use Rattle.std.specs.Cmp.Lexicographic.{pointwise}
 use Rattle.fwup_wire.specs.Fields.{flag_byte}
-use Rattle.fwup_wire.specs.Values.{CommandOf, EntryOf, OfferOf, RequestOf, TextOf, VersionOf}
+use Rattle.fwup_wire.specs.Values.{CommandOf, TableEntryOf, OfferOf, UpdateRequestOf, TypedTextOf, VersionOf}
 use Rattle.fwup_wire.specs.declared.values.Key.{Key}
 
 abbrev pub same_bool : Bool → Bool → Bool
@@ -13,20 +13,20 @@ same_bool false false = true
 abbrev pub same_key : Key → Key → Bool
 same_key a b = (a.classification == b.classification) && (a.identifier == b.identifier)
 
-abbrev pub same_text : TextOf → TextOf → Bool
+abbrev pub same_text : TypedTextOf → TypedTextOf → Bool
 same_text a b = (a.text_type == b.text_type) && pointwise nat_eq a.bytes b.bytes
 
 abbrev pub same_version : VersionOf → VersionOf → Bool
 same_version a b = (a.stamp == b.stamp) && same_text a.text b.text
 
-abbrev pub same_request : RequestOf → RequestOf → Bool
+abbrev pub same_request : UpdateRequestOf → UpdateRequestOf → Bool
 same_request a b =
     (a.transfer_size == b.transfer_size)
     && ((a.components == b.components)
     && ((a.outstanding == b.outstanding)
     && ((a.package_data_length == b.package_data_length) && same_text a.image_set b.image_set)))
 
-abbrev pub same_entry : EntryOf → EntryOf → Bool
+abbrev pub same_entry : TableEntryOf → TableEntryOf → Bool
 same_entry a b =
     (flag_byte a.flag == flag_byte b.flag)
     && (same_key a.key b.key && ((a.index == b.index) && same_version a.version b.version))

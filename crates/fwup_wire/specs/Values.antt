@@ -7,17 +7,17 @@ use Rattle.fwup_wire.specs.declared.values.Key.{Key}
 use Rattle.fwup_wire.specs.declared.values.TransferFlag.{TransferFlag}
 
 -- a text with its type
-pub record TextOf : Type 0 where
+pub record TypedTextOf : Type 0 where
   pub text_type : ℕ
   pub bytes : List ℕ
 
 -- what an image calls itself
 pub record VersionOf : Type 0 where
   pub stamp : ℕ
-  pub text : TextOf
+  pub text : TypedTextOf
 
 -- a descriptor of a device
-pub record DescriptorOf : Type 0 where
+pub record DeviceDescriptorOf : Type 0 where
   pub kind : ℕ
   pub bytes : List ℕ
 
@@ -29,15 +29,15 @@ pub record ParametersOf : Type 0 where
   pub pending : VersionOf
 
 -- what RequestUpdate says
-pub record RequestOf : Type 0 where
+pub record UpdateRequestOf : Type 0 where
   pub transfer_size : ℕ
   pub components : ℕ
   pub outstanding : ℕ
   pub package_data_length : ℕ
-  pub image_set : TextOf
+  pub image_set : TypedTextOf
 
 -- what PassComponentTable says
-pub record EntryOf : Type 0 where
+pub record TableEntryOf : Type 0 where
   pub flag : TransferFlag
   pub key : Key
   pub index : ℕ
@@ -55,8 +55,8 @@ pub record OfferOf : Type 0 where
 pub data CommandOf : Type 0 where
   QueryDeviceIdentifiers : CommandOf
   GetFirmwareParameters : CommandOf
-  RequestUpdate : (request : RequestOf) → CommandOf
-  PassComponentTable : (entry : EntryOf) → CommandOf
+  RequestUpdate : (request : UpdateRequestOf) → CommandOf
+  PassComponentTable : (entry : TableEntryOf) → CommandOf
   UpdateComponent : (offer : OfferOf) → CommandOf
   RequestFirmwareData : (offset size : ℕ) → CommandOf
   TransferComplete : (result : ℕ) → CommandOf
@@ -70,7 +70,7 @@ pub data CommandOf : Type 0 where
 -- an answer: a refusal by its completion code, or what follows the code 0
 pub data AnswerOf : Type 0 where
   Refused : (code : ℕ) → AnswerOf
-  QueryDeviceIdentifiers : (descriptors : List DescriptorOf) → AnswerOf
+  QueryDeviceIdentifiers : (descriptors : List DeviceDescriptorOf) → AnswerOf
   GetFirmwareParameters : (components : List ParametersOf) → AnswerOf
   RequestUpdate : AnswerOf
   PassComponentTable : (response : TableResponse) → AnswerOf

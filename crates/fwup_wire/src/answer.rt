@@ -4,7 +4,7 @@ ghost use Rattle.std.specs.Prelude.{IsTrue, ◌↔◌, ◌≡◌};
 ghost use Rattle.fwup_wire.specs.Answers.{IsAnswerWritable, answer_code};
 ghost use Rattle.fwup_wire.specs.Lent.{answer_of};
 
-use crate::descriptors::Descriptors;
+use crate::descriptors::DeviceDescriptors;
 use crate::parameters::Parameters;
 use pldm_base::MAX_REPLY;
 use pldm_base::completion::SUCCESS;
@@ -67,7 +67,7 @@ pub enum Answer<'a> {
         code: u8,
     },
     /// The device's descriptors.
-    QueryDeviceIdentifiers(Descriptors<'a>),
+    QueryDeviceIdentifiers(DeviceDescriptors<'a>),
     /// The device's components. It can do nothing beyond this profile, and names no component image set.
     GetFirmwareParameters(Parameters<'a>),
     /// The update began. The device wants no package data and has no metadata.

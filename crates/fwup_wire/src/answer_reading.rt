@@ -3,14 +3,14 @@
 ghost use Rattle.std.specs.Prelude.{IfOk, IsOk, ◌≡◌, ℕ};
 ghost use Rattle.std.specs.Option.{option_map};
 ghost use Rattle.std.specs.Result.{result_map_both};
-ghost use Rattle.fwup_wire.specs.Answers.{IsAnswer, firmware_parameters_in, identifiers_in, activation_in, answer_in, answer_read, bare, offer_response_in, status_in, success_in, update_begun_in, update_cancelled_in};
+ghost use Rattle.fwup_wire.specs.Answers.{IsAnswer, firmware_parameters_in, identifiers_in, activation_in, answer_in, answer_read, fieldless_answer, offer_response_in, status_in, success_in, update_begun_in, update_cancelled_in};
 ghost use Rattle.fwup_wire.specs.Lent.{answer_of};
 ghost use Rattle.fwup_wire.specs.Values.{AnswerOf};
 
 use crate::answer::{Answer, Malformed, OfferResponse, Status, TableResponse};
 use crate::code::command;
 use crate::cursor::Cursor;
-use crate::descriptors::Descriptors;
+use crate::descriptors::DeviceDescriptors;
 use crate::parameters::Parameters;
 use pldm_base::completion::SUCCESS;
 
@@ -101,7 +101,7 @@ fn success(command: u8, fields: &[u8]) -> Option<Answer<'_>>
 
 /// An answer without fields.
 fn alone<'a>(fields: &[u8], answer: Answer<'a>) -> Option<Answer<'a>>
-    ensures { option_map answer_of result ≡ bare (answer_of answer.entry) fields.now }
+    ensures { option_map answer_of result ≡ fieldless_answer (answer_of answer.entry) fields.now }
 {
     if fields.is_empty() {
         Some(answer)
@@ -120,7 +120,7 @@ fn query_device_identifiers(fields: &[u8]) -> Option<Answer<'_>>
     if length as usize != bytes.len() {
         return None;
     }
-    let descriptors = Descriptors::read(count, bytes)?;
+    let descriptors = DeviceDescriptors::read(count, bytes)?;
     Some(Answer::QueryDeviceIdentifiers(descriptors))
 }
 

@@ -7,7 +7,7 @@ ghost use Rattle.fwup_wire.specs.Parameters.{all_parameters_bytes, parameters_in
 ghost use Rattle.fwup_wire.specs.Values.{AnswerOf};
 
 use crate::answer::Answer;
-use crate::descriptors::Descriptors;
+use crate::descriptors::DeviceDescriptors;
 use crate::parameters::Parameters;
 use crate::writer::{put_u16, put_u32};
 use pldm_base::Reply;
@@ -86,7 +86,7 @@ fn written(answer: &Answer<'_>) -> Reply
     out
 }
 
-fn query_device_identifiers(descriptors: &Descriptors<'_>) -> Reply
+fn query_device_identifiers(descriptors: &DeviceDescriptors<'_>) -> Reply
     requires { IsAnswerWritable (AnswerOf.QueryDeviceIdentifiers descriptors.now) }
     ensures bytes { result.items ≡ answer_bytes (AnswerOf.QueryDeviceIdentifiers descriptors.now) }
     ensures reads_back { answer_in 0x01 result.items ≡ Some (AnswerOf.QueryDeviceIdentifiers descriptors.now) }

@@ -6,7 +6,7 @@ ghost use Rattle.fwup_wire.specs.Commands.{IsWritable, command_code, is_asked_of
 ghost use Rattle.fwup_wire.specs.Same.{same_command};
 
 use crate::code::command;
-use crate::values::{Key, Text, TransferFlag, Version};
+use crate::values::{Key, TransferFlag, TypedText, Version};
 
 /// The most bytes of request data: what a message holds at the smallest transmission unit, so that a command goes over each
 /// network (DSP0236, section 8.3).
@@ -33,7 +33,7 @@ pub struct UpdateRequest<'a> {
     /// The bytes of package data that the device may ask for.
     pub package_data_length: u16,
     /// The version text of the whole component image set.
-    pub image_set: Text<'a>,
+    pub image_set: TypedText<'a>,
 }
 
 /// What PassComponentTable says of one component.

@@ -4,7 +4,7 @@ ghost use Rattle.std.specs.Prelude.{◌≡◌, IfOk, IsOk, ℕ};
 ghost use Rattle.std.specs.Option.{option_map};
 ghost use Rattle.std.specs.Result.{result_map_both};
 ghost use Rattle.fwup_wire.specs.Commands.{IsCommand, activation_read, command_read, data_request_in, entry_read, offer_in, report_in, request_in, result_in};
-ghost use Rattle.fwup_wire.specs.Lent.{command_of, offer_of, request_of};
+ghost use Rattle.fwup_wire.specs.Lent.{command_of, offer_of, update_request_of};
 ghost use Rattle.fwup_wire.specs.Values.{CommandOf};
 
 use crate::code::command;
@@ -66,7 +66,7 @@ fn alone<'a>(fields: &[u8], command: Command<'a>) -> Result<Command<'a>, u8>
 }
 
 fn request_update(fields: &[u8]) -> Option<UpdateRequest<'_>>
-    ensures { option_map request_of result ≡ request_in fields.now }
+    ensures { option_map update_request_of result ≡ request_in fields.now }
 {
     let mut cursor = Cursor::new(fields);
     let transfer_size = cursor.u32()?;

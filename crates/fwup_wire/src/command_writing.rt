@@ -1,8 +1,8 @@
 //! Commands, written.
 
 ghost use Rattle.std.specs.Prelude.{Ok, ◌+◌, ◌≡◌, ◌≤◌, length, ℕ};
-ghost use Rattle.fwup_wire.specs.Commands.{HasWidths, IsCommand, IsWritable, command_bytes, command_code, command_read};
-ghost use Rattle.fwup_wire.specs.Lent.{command_of, entry_of, offer_of, request_of};
+ghost use Rattle.fwup_wire.specs.Commands.{HasCommandWidths, IsCommand, IsWritable, command_bytes, command_code, command_read};
+ghost use Rattle.fwup_wire.specs.Lent.{command_of, table_entry_of, offer_of, update_request_of};
 ghost use Rattle.fwup_wire.specs.Values.{CommandOf};
 
 use crate::command::{Command, ComponentOffer, MAX_FIELDS, TableEntry, UpdateRequest};
@@ -47,8 +47,8 @@ pub fn write(command: &Command<'_>) -> Reply
 
 fn request_update(request: &UpdateRequest<'_>) -> Reply
     requires { 11 + length request.now.image_set.bytes.now ≤ MAX_FIELDS }
-    ensures bytes { result.items ≡ command_bytes (CommandOf.RequestUpdate (request_of request.now)) }
-    ensures widths { HasWidths (CommandOf.RequestUpdate (request_of request.now)) }
+    ensures bytes { result.items ≡ command_bytes (CommandOf.RequestUpdate (update_request_of request.now)) }
+    ensures widths { HasCommandWidths (CommandOf.RequestUpdate (update_request_of request.now)) }
 {
     let mut out = Reply::new();
     put_u32(&mut out, request.transfer_size);
@@ -61,8 +61,8 @@ fn request_update(request: &UpdateRequest<'_>) -> Reply
 
 fn pass_component_table(entry: &TableEntry<'_>) -> Reply
     requires { 12 + length entry.now.version.text.bytes.now ≤ MAX_FIELDS }
-    ensures bytes { result.items ≡ command_bytes (CommandOf.PassComponentTable (entry_of entry.now)) }
-    ensures widths { HasWidths (CommandOf.PassComponentTable (entry_of entry.now)) }
+    ensures bytes { result.items ≡ command_bytes (CommandOf.PassComponentTable (table_entry_of entry.now)) }
+    ensures widths { HasCommandWidths (CommandOf.PassComponentTable (table_entry_of entry.now)) }
 {
     let mut out = Reply::new();
     out.push(entry.flag.byte());
@@ -74,7 +74,7 @@ fn pass_component_table(entry: &TableEntry<'_>) -> Reply
 fn update_component(offer: &ComponentOffer<'_>) -> Reply
     requires { 19 + length offer.now.version.text.bytes.now ≤ MAX_FIELDS }
     ensures bytes { result.items ≡ command_bytes (CommandOf.UpdateComponent (offer_of offer.now)) }
-    ensures widths { HasWidths (CommandOf.UpdateComponent (offer_of offer.now)) }
+    ensures widths { HasCommandWidths (CommandOf.UpdateComponent (offer_of offer.now)) }
 {
     let mut out = Reply::new();
     put_component(&mut out, &offer.key, offer.index, offer.version.stamp);

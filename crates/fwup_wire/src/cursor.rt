@@ -5,9 +5,9 @@ ghost use Rattle.std.specs.Option.{option_map};
 ghost use Rattle.fwup_wire.specs.Descriptors.{descriptor_size, first_descriptor};
 ghost use Rattle.fwup_wire.specs.Fields.{first_byte, first_bytes, first_component, first_key, first_u16, first_u32, last_text};
 ghost use Rattle.fwup_wire.specs.Parameters.{first_parameters, first_text_head, has_methods, parameters_size};
-ghost use Rattle.fwup_wire.specs.Lent.{descriptor_of, parameters_of, text_of};
+ghost use Rattle.fwup_wire.specs.Lent.{device_descriptor_of, parameters_of, typed_text_of};
 
-use crate::values::{ComponentParameters, Descriptor, Key, Text, Version};
+use crate::values::{ComponentParameters, DeviceDescriptor, Key, TypedText, Version};
 use byteorder::{ByteOrder, LittleEndian};
 use std::marker::Model;
 
@@ -101,14 +101,14 @@ impl<'a> Cursor<'a> {
     }
 
     /// The next descriptor.
-    pub fn descriptor(&mut self) -> Option<Descriptor<'a>>
-        ensures value { option_map descriptor_of result ≡ first_descriptor self.old }
-        ensures rest { IfSome result (λ d. self.new ≡ drop (descriptor_size (descriptor_of d)) self.old) }
+    pub fn descriptor(&mut self) -> Option<DeviceDescriptor<'a>>
+        ensures value { option_map device_descriptor_of result ≡ first_descriptor self.old }
+        ensures rest { IfSome result (λ d. self.new ≡ drop (descriptor_size (device_descriptor_of d)) self.old) }
     {
         let kind = self.u16()?;
         let length = self.u16()?;
         let bytes = self.bytes(usize::from(length))?;
-        Some(Descriptor { kind, bytes })
+        Some(DeviceDescriptor { kind, bytes })
     }
 
     /// The parameters of the next component. A text's bytes stand behind all other fields.
@@ -129,14 +129,14 @@ impl<'a> Cursor<'a> {
             index,
             active: Version {
                 stamp: active_stamp,
-                text: Text {
+                text: TypedText {
                     text_type: active_type,
                     bytes: active_text,
                 },
             },
             pending: Version {
                 stamp: pending_stamp,
-                text: Text {
+                text: TypedText {
                     text_type: pending_type,
                     bytes: pending_text,
                 },
@@ -191,8 +191,8 @@ impl<'a> Cursor<'a> {
     }
 
     /// The text that takes all that is left: its type, its length and its bytes.
-    pub fn last_text(self) -> Option<Text<'a>>
-        ensures { option_map text_of result ≡ last_text self.entry }
+    pub fn last_text(self) -> Option<TypedText<'a>>
+        ensures { option_map typed_text_of result ≡ last_text self.entry }
     {
         let [text_type, length, bytes @ ..] = self.rest else {
             return None;
@@ -200,7 +200,7 @@ impl<'a> Cursor<'a> {
         if usize::from(*length) != bytes.len() {
             return None;
         }
-        Some(Text {
+        Some(TypedText {
             text_type: *text_type,
             bytes,
         })

@@ -6,10 +6,10 @@ ghost use Rattle.std.specs.Cmp.Rules.{comparing};
 ghost use Rattle.std.specs.Ordering.{eq_of_both, on};
 ghost use Rattle.std.specs.Prelude.{[], ◌+◌, ◌++◌, ◌==◌, ◌≡◌, ◌≤◌, ◌∷◌, length};
 ghost use Rattle.fwup_wire.specs.Descriptors.{HasDescriptorWidths, descriptor_bytes, descriptor_size, descriptors_bytes};
-ghost use Rattle.fwup_wire.specs.Lent.{descriptor_of};
+ghost use Rattle.fwup_wire.specs.Lent.{device_descriptor_of};
 
-use crate::descriptors::Descriptors;
-use crate::values::Descriptor;
+use crate::descriptors::DeviceDescriptors;
+use crate::values::DeviceDescriptor;
 use arrayvec::ArrayVec;
 use byteorder::{ByteOrder, LittleEndian};
 use std::marker::Model;
@@ -28,9 +28,9 @@ pub struct DescriptorList {
 impl Model for DescriptorList {
     ghost use Rattle.std.specs.Prelude.{List, [], length, unwrap_or, ◌*◌, ◌≤◌};
     ghost use Rattle.fwup_wire.specs.Descriptors.{HoldsDescriptors, descriptors_in};
-    ghost use Rattle.fwup_wire.specs.Values.{DescriptorOf};
+    ghost use Rattle.fwup_wire.specs.Values.{DeviceDescriptorOf};
 
-    ghost Value = { List DescriptorOf };
+    ghost Value = { List DeviceDescriptorOf };
 
     ghost view = { λ d. unwrap_or (descriptors_in d.count d.bytes.items) [] };
 
@@ -71,27 +71,27 @@ impl DescriptorList {
     }
 
     /// Appends a descriptor.
-    pub fn push(&mut self, descriptor: &Descriptor<'_>)
-        requires { length (descriptors_bytes self.old) + descriptor_size (descriptor_of descriptor.now) ≤ 246 }
-        ensures { self.new ≡ self.old ++ descriptor_of descriptor.now ∷ [] }
+    pub fn push(&mut self, descriptor: &DeviceDescriptor<'_>)
+        requires { length (descriptors_bytes self.old) + descriptor_size (device_descriptor_of descriptor.now) ≤ 246 }
+        ensures { self.new ≡ self.old ++ device_descriptor_of descriptor.now ∷ [] }
     {
         put_descriptor(&mut self.bytes, descriptor);
         self.count += 1;
     }
 
     /// The descriptors, lent.
-    pub fn lent(&self) -> Descriptors<'_>
+    pub fn lent(&self) -> DeviceDescriptors<'_>
         ensures { result ≡ self.now }
     {
-        Descriptors::known(self.count, self.bytes.as_slice())
+        DeviceDescriptors::known(self.count, self.bytes.as_slice())
     }
 }
 
 /// Appends a descriptor as it is sent: its type, its length and its data.
-fn put_descriptor(out: &mut ArrayVec<u8, MAX_DESCRIPTOR_BYTES>, descriptor: &Descriptor<'_>)
-    requires { length out.old.items + descriptor_size (descriptor_of descriptor.now) ≤ 246 }
-    ensures bytes { out.new.items ≡ out.old.items ++ descriptor_bytes (descriptor_of descriptor.now) }
-    ensures widths { HasDescriptorWidths (descriptor_of descriptor.now) }
+fn put_descriptor(out: &mut ArrayVec<u8, MAX_DESCRIPTOR_BYTES>, descriptor: &DeviceDescriptor<'_>)
+    requires { length out.old.items + descriptor_size (device_descriptor_of descriptor.now) ≤ 246 }
+    ensures bytes { out.new.items ≡ out.old.items ++ descriptor_bytes (device_descriptor_of descriptor.now) }
+    ensures widths { HasDescriptorWidths (device_descriptor_of descriptor.now) }
 {
     let mut head = [0; 4];
     LittleEndian::write_u16(&mut head, descriptor.kind);

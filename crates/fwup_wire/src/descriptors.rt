@@ -6,26 +6,26 @@ ghost use Rattle.std.specs.Cmp.Rules.{comparing};
 ghost use Rattle.std.specs.Iterator.{YieldsFirstBy, item_count};
 ghost use Rattle.std.specs.Ordering.{eq_of_both, on};
 ghost use Rattle.std.specs.Prelude.{IsTrue, Some, List, [], drop, length, unwrap_or, ◌==◌, ◌↔◌, ◌≡◌, ◌<◌, ◌≤◌, ℕ};
-ghost use Rattle.fwup_wire.specs.Lent.{descriptor_of};
+ghost use Rattle.fwup_wire.specs.Lent.{device_descriptor_of};
 ghost use Rattle.fwup_wire.specs.Descriptors.{AreDescriptors, descriptors_bytes, descriptors_in};
 
 use crate::cursor::Cursor;
-use crate::values::Descriptor;
+use crate::values::DeviceDescriptor;
 use std::marker::Model;
 
 /// Descriptors, lent from the message that they stand in. It is also an iterator over them.
 #[derive(Drop)]
-pub struct Descriptors<'a> {
+pub struct DeviceDescriptors<'a> {
     count: u8,
     bytes: &'a [u8],
 }
 
-impl<'a> Model for Descriptors<'a> {
+impl<'a> Model for DeviceDescriptors<'a> {
     ghost use Rattle.std.specs.Prelude.{List, [], unwrap_or};
     ghost use Rattle.fwup_wire.specs.Descriptors.{AreDescriptors, descriptors_in};
-    ghost use Rattle.fwup_wire.specs.Values.{DescriptorOf};
+    ghost use Rattle.fwup_wire.specs.Values.{DeviceDescriptorOf};
 
-    ghost Value = { List DescriptorOf };
+    ghost Value = { List DeviceDescriptorOf };
 
     ghost view = { λ d. unwrap_or (descriptors_in d.count d.bytes.now) [] };
 
@@ -33,21 +33,21 @@ impl<'a> Model for Descriptors<'a> {
 }
 
 /// Two lists are equal if they are as long and are sent as the same bytes.
-impl<'a> PartialEq for Descriptors<'a> {
+impl<'a> PartialEq for DeviceDescriptors<'a> {
     ghost eq = { eq_of_both (on length ◌==◌) (on descriptors_bytes (pointwise ◌==◌)) };
 
     ghost laws = { Prim.search (comparing, rules) };
 
-    fn eq(&self, other: &Descriptors<'a>) -> bool {
+    fn eq(&self, other: &DeviceDescriptors<'a>) -> bool {
         self.len() == other.len() && self.as_bytes() == other.as_bytes()
     }
 }
 
-impl<'a> Eq for Descriptors<'a> {
+impl<'a> Eq for DeviceDescriptors<'a> {
     ghost laws = { Prim.search (comparing, rules) };
 }
 
-impl<'a> Descriptors<'a> {
+impl<'a> DeviceDescriptors<'a> {
     /// So many descriptors, if the bytes are them and nothing else.
     #[tactic(auto, using(crate::proofs::DescriptorLaws::are_descriptors))]
     pub(crate) fn read(count: u8, bytes: &'a [u8]) -> Option<Self>
@@ -60,7 +60,7 @@ impl<'a> Descriptors<'a> {
         if !cursor.is_at_end() {
             return None;
         }
-        Some(Descriptors { count, bytes })
+        Some(DeviceDescriptors { count, bytes })
     }
 
     /// So many descriptors, which the bytes are known to be.
@@ -68,7 +68,7 @@ impl<'a> Descriptors<'a> {
         requires { AreDescriptors count bytes.now (unwrap_or (descriptors_in count bytes.now) []) }
         ensures { result ≡ unwrap_or (descriptors_in count bytes.now) [] }
     {
-        Descriptors { count, bytes }
+        DeviceDescriptors { count, bytes }
     }
 
     /// The descriptors one after the other, as they are sent.
@@ -102,30 +102,30 @@ impl<'a> Descriptors<'a> {
     }
 
     /// An iterator over the descriptors.
-    pub fn iter(&self) -> Descriptors<'a>
+    pub fn iter(&self) -> DeviceDescriptors<'a>
         ensures { result ≡ self.now }
     {
-        Descriptors {
+        DeviceDescriptors {
             count: self.count,
             bytes: self.bytes,
         }
     }
 }
 
-impl<'a> Iterator for Descriptors<'a> {
-    type Item = Descriptor<'a>;
+impl<'a> Iterator for DeviceDescriptors<'a> {
+    type Item = DeviceDescriptor<'a>;
 
-    ghost next_gives = { YieldsFirstBy descriptor_of (λ left. left) };
+    ghost next_gives = { YieldsFirstBy device_descriptor_of (λ left. left) };
 
     ghost remaining = { item_count (λ left. left) };
 
-    fn next(&mut self) -> Option<Descriptor<'a>> {
+    fn next(&mut self) -> Option<DeviceDescriptor<'a>> {
         if self.count == 0 {
             return None;
         }
         let mut cursor = Cursor::new(self.bytes);
         let descriptor = cursor.descriptor()?;
-        *self = Descriptors {
+        *self = DeviceDescriptors {
             count: self.count - 1,
             bytes: cursor.rest(),
         };

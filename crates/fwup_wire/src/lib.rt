@@ -26,7 +26,7 @@ pub use command::{Command, ComponentOffer, TableEntry, UpdateRequest, is_asked_o
 pub use command_reading::read;
 pub use command_writing::write;
 pub use descriptor_list::DescriptorList;
-pub use descriptors::Descriptors;
+pub use descriptors::DeviceDescriptors;
 pub use laws::{
     answers_read_back, command_codes, commands_read_back, completion_codes, response_codes,
     text_types,
@@ -34,4 +34,6 @@ pub use laws::{
 pub use parameter_list::ParameterList;
 pub use parameters::Parameters;
 pub use transfers::{MAX_TRANSFER, MIN_TRANSFER, transfer_size};
-pub use values::{ComponentParameters, Descriptor, Key, NO_STAMP, Text, TransferFlag, Version};
+pub use values::{
+    ComponentParameters, DeviceDescriptor, Key, NO_STAMP, TransferFlag, TypedText, Version,
+};

@@ -2,10 +2,10 @@
 
 ghost use Rattle.std.specs.Prelude.{[], ◌+◌, ◌++◌, ◌≡◌, ◌<◌, ◌≤◌, ◌∷◌, length};
 ghost use Rattle.fwup_wire.specs.Parameters.{HasParametersWidths, all_parameters_bytes, parameters_bytes, parameters_size, text_head_bytes};
-ghost use Rattle.fwup_wire.specs.Lent.{parameters_of, text_of};
+ghost use Rattle.fwup_wire.specs.Lent.{parameters_of, typed_text_of};
 
 use crate::parameters::Parameters;
-use crate::values::{ComponentParameters, Text};
+use crate::values::{ComponentParameters, TypedText};
 use crate::writer::{put_component, put_u32};
 use arrayvec::ArrayVec;
 use pldm_base::{MAX_REPLY, Reply};
@@ -106,10 +106,10 @@ fn written(parameters: &ComponentParameters<'_>) -> Reply
 }
 
 /// Appends the type and the length of a text whose bytes come later, and a release date that isn't set.
-fn put_text_head(out: &mut Reply, text: &Text<'_>)
+fn put_text_head(out: &mut Reply, text: &TypedText<'_>)
     requires room { length out.old.items + 10 ≤ MAX_REPLY }
     requires short { length text.now.bytes.now < 256 }
-    ensures { out.new.items ≡ out.old.items ++ text_head_bytes (text_of text.now) }
+    ensures { out.new.items ≡ out.old.items ++ text_head_bytes (typed_text_of text.now) }
 {
     out.push(text.text_type);
     out.push(text.bytes.len() as u8);

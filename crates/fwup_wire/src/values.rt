@@ -14,7 +14,7 @@ pub struct Key {
 
 /// A text with its type, which isn't checked.
 #[derive(Clone, Copy, PartialEq, Eq)]
-pub struct Text<'a> {
+pub struct TypedText<'a> {
     /// How the text is encoded, as `code::text_type`.
     pub text_type: u8,
     /// The text's bytes.
@@ -23,7 +23,7 @@ pub struct Text<'a> {
 
 /// One of the descriptors by which a package names the devices that it is for.
 #[derive(Clone, Copy, PartialEq, Eq)]
-pub struct Descriptor<'a> {
+pub struct DeviceDescriptor<'a> {
     /// What the descriptor tells, as a PCI vendor ID.
     pub kind: u16,
     /// The descriptor's data.
@@ -40,7 +40,7 @@ pub struct Version<'a> {
     /// The comparison stamp, by which a device tells older images from newer ones, or `NO_STAMP`.
     pub stamp: u32,
     /// The version text.
-    pub text: Text<'a>,
+    pub text: TypedText<'a>,
 }
 
 /// What a device tells of one of its components: which it is, and which images of it there are.

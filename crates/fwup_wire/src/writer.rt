@@ -4,9 +4,9 @@ ghost use Rattle.std.specs.Prelude.{◌+◌, ◌++◌, ◌<◌, ◌≡◌, ◌�
 ghost use Rattle.arrayvec.specs.ArrayVec.{array_vec_len};
 ghost use Rattle.byteorder.specs.Endian.{little_bytes};
 ghost use Rattle.fwup_wire.specs.Fields.{HasComponentWidths, component_bytes, text_bytes};
-ghost use Rattle.fwup_wire.specs.Lent.{text_of};
+ghost use Rattle.fwup_wire.specs.Lent.{typed_text_of};
 
-use crate::values::{Key, Text};
+use crate::values::{Key, TypedText};
 use byteorder::{ByteOrder, LittleEndian};
 use pldm_base::{MAX_REPLY, Reply};
 
@@ -44,10 +44,10 @@ pub fn put_component(out: &mut Reply, key: &Key, index: u8, stamp: u32)
 }
 
 /// Appends a text: its type, its length and its bytes.
-pub fn put_text(out: &mut Reply, text: &Text<'_>)
+pub fn put_text(out: &mut Reply, text: &TypedText<'_>)
     requires room { array_vec_len out.old + 2 + length text.now.bytes.now ≤ MAX_REPLY }
     requires short { length text.now.bytes.now < 256 }
-    ensures { out.new.items ≡ out.old.items ++ text_bytes (text_of text.now) }
+    ensures { out.new.items ≡ out.old.items ++ text_bytes (typed_text_of text.now) }
 {
     out.push(text.text_type);
     out.push(text.bytes.len() as u8);

@@ -15,12 +15,12 @@ use Rattle.pldm_base.specs.Header.{pldm_bytes, pldm_of}
 use Rattle.pldm_base.specs.declared.header.PldmFault.{PldmFault}
 use Rattle.pldm_base.specs.declared.header.PldmHead.{PldmHead}
 use Rattle.pldm_base.specs.declared.terminus.Role.TheVariants.{Device}
-use Rattle.fwupd_base.specs.declared.drops.DropCause.{DropCause}
-use Rattle.fwupd_base.specs.declared.drops.DropCause.TheVariants as drops
+use Rattle.fwupd_base.specs.declared.drops.LineDropCause.{LineDropCause}
+use Rattle.fwupd_base.specs.declared.drops.LineDropCause.TheVariants as drops
 use Rattle.fwupd_base.specs.Lines.{lines_of}
 
 -- the word that names a cause
-abbrev pub name_of : DropCause → List ℕ
+abbrev pub name_of : LineDropCause → List ℕ
 name_of drops.Hex = codes "Hex"
 name_of (drops.Wire faults.Short) = codes "Short"
 name_of (drops.Wire faults.Version) = codes "Version"
@@ -34,12 +34,12 @@ name_of drops.Kind = codes "Type"
 name_of drops.Message = codes "Message"
 
 -- What comes of a line: the packet that answers it, or why there is none, and the terminus identifier afterwards.
-pub record Outcome : Type 0 where
-  pub reply : Result (List ℕ) DropCause
+pub record LineOutcome : Type 0 where
+  pub reply : Result (List ℕ) LineDropCause
   pub tid : ℕ
 
-abbrev pub dropped : ℕ → DropCause → Outcome
-dropped tid cause = record { reply = Err cause; tid = tid }
+abbrev pub dropped_line : ℕ → LineDropCause → LineOutcome
+dropped_line tid cause = record { reply = Err cause; tid = tid }
 
 -- the head of an answer: the ends change places, and the sender doesn't own the tag
 abbrev pub answer_head : Endpoint → Head → Head
@@ -47,13 +47,13 @@ answer_head e h =
     record { dest = h.source; source = e.eid; som = true; eom = true; seq = 0; to = false; tag = h.tag }
 
 -- an answer, of one packet
-abbrev pub answered : Endpoint → Head → ℕ → List ℕ → Outcome
-answered e h tid message = record { reply = Ok (packet_bytes (answer_head e h) message); tid = tid }
+abbrev pub answered_line : Endpoint → Head → ℕ → List ℕ → LineOutcome
+answered_line e h tid message = record { reply = Ok (packet_bytes (answer_head e h) message); tid = tid }
 
 -- a control message gets what its table says
-abbrev pub control_reply : Endpoint → Head → ℕ → Option (List ℕ) → Outcome
-control_reply e h tid None = dropped tid drops.Message
-control_reply e h tid (Some message) = answered e h tid message
+abbrev pub control_reply : Endpoint → Head → ℕ → Option (List ℕ) → LineOutcome
+control_reply e h tid None = dropped_line tid drops.Message
+control_reply e h tid (Some message) = answered_line e h tid message
 
 -- The code and fields that answer a PLDM request: base commands by their table. Firmware updates wait for a device,
 -- which isn't there, and there is no other type.
@@ -64,76 +64,76 @@ completion_of tid m fields =
     else invalid_pldm_type ∷ []
 
 -- the identifier that a PLDM request leaves: only a base command can set it
-abbrev pub tid_left : ℕ → PldmHead → List ℕ → ℕ
-tid_left tid m fields = if m.pldm_type == 0 then tid_after tid m.command fields else tid
+abbrev pub tid_after_pldm : ℕ → PldmHead → List ℕ → ℕ
+tid_after_pldm tid m fields = if m.pldm_type == 0 then tid_after tid m.command fields else tid
 
 -- a PLDM answer's head: the request's, with Rq clear
-abbrev pub answering : PldmHead → PldmHead
-answering m = record m { rq = false }
+abbrev pub pldm_answer_head : PldmHead → PldmHead
+pldm_answer_head m = record m { rq = false }
 
 -- a PLDM message is answered where it is a request
-abbrev pub pldm_reply : Endpoint → Head → ℕ → Result (PldmHead × List ℕ) PldmFault → Outcome
-pldm_reply e h tid (Err fault) = dropped tid drops.Message
+abbrev pub pldm_reply : Endpoint → Head → ℕ → Result (PldmHead × List ℕ) PldmFault → LineOutcome
+pldm_reply e h tid (Err fault) = dropped_line tid drops.Message
 pldm_reply e h tid (Ok (m, fields)) =
-    if not m.rq then dropped tid drops.Message
-    else answered e h (tid_left tid m fields) (pldm_bytes (answering m) (completion_of tid m fields))
+    if not m.rq then dropped_line tid drops.Message
+    else answered_line e h (tid_after_pldm tid m fields) (pldm_bytes (pldm_answer_head m) (completion_of tid m fields))
 
 -- the answer to a message, by its first byte
-abbrev pub body_reply : Endpoint → Head → ℕ → List ℕ → Outcome
-body_reply e h tid [] = dropped tid drops.Kind
+abbrev pub body_reply : Endpoint → Head → ℕ → List ℕ → LineOutcome
+body_reply e h tid [] = dropped_line tid drops.Kind
 body_reply e h tid (kind ∷ rest) =
     if kind == 0 then control_reply e h tid (answer_of e (kind ∷ rest))
     else if kind == 1 then pldm_reply e h tid (pldm_of (kind ∷ rest))
-    else dropped tid drops.Kind
+    else dropped_line tid drops.Kind
 
 -- the answer to a packet: it is the endpoint's, a whole message and a request
-abbrev pub packet_reply : Endpoint → ℕ → Head → List ℕ → Outcome
+abbrev pub packet_reply : Endpoint → ℕ → Head → List ℕ → LineOutcome
 packet_reply e tid h body =
-    if not (h.dest == e.eid) then dropped tid drops.Destination
-    else if not (h.som && h.eom) then dropped tid drops.NotWhole
-    else if not (h.seq == 0) then dropped tid drops.StartNumber
-    else if not h.to then dropped tid drops.NotRequest
+    if not (h.dest == e.eid) then dropped_line tid drops.Destination
+    else if not (h.som && h.eom) then dropped_line tid drops.NotWhole
+    else if not (h.seq == 0) then dropped_line tid drops.StartNumber
+    else if not h.to then dropped_line tid drops.NotRequest
     else body_reply e h tid body
 
-abbrev pub wire_reply : Endpoint → ℕ → Result (Head × List ℕ) WireFault → Outcome
-wire_reply e tid (Err fault) = dropped tid (drops.Wire fault)
+abbrev pub wire_reply : Endpoint → ℕ → Result (Head × List ℕ) WireFault → LineOutcome
+wire_reply e tid (Err fault) = dropped_line tid (drops.Wire fault)
 wire_reply e tid (Ok packet) = packet_reply e tid packet.0 packet.1
 
-abbrev pub hex_reply : Endpoint → ℕ → Result (List ℕ) FromHexError → Outcome
-hex_reply e tid (Err _) = dropped tid drops.Hex
+abbrev pub hex_reply : Endpoint → ℕ → Result (List ℕ) FromHexError → LineOutcome
+hex_reply e tid (Err _) = dropped_line tid drops.Hex
 hex_reply e tid (Ok bytes) = wire_reply e tid (packet_of U64 bytes)
 
 -- what comes of a line of hexadecimal digits
-abbrev pub outcome_of : Endpoint → ℕ → List ℕ → Outcome
+abbrev pub outcome_of : Endpoint → ℕ → List ℕ → LineOutcome
 outcome_of e tid line = hex_reply e tid (decode_of line)
 
 -- what is printed for a reply: the packet in digits, or the cause why there is none
-abbrev pub reply_text : Result (List ℕ) DropCause → List ℕ
+abbrev pub reply_text : Result (List ℕ) LineDropCause → List ℕ
 reply_text (Err cause) = codes "drop " ++ name_of cause
 reply_text (Ok packet) = encode_upper packet
 
 -- a reply's line
-abbrev pub line_text_of : Result (List ℕ) DropCause → List ℕ
+abbrev pub line_text_of : Result (List ℕ) LineDropCause → List ℕ
 line_text_of reply = reply_text reply ++ 10 ∷ []
 
 -- what is printed for a line
-unfoldable pub printed : Endpoint → ℕ → List ℕ → List ℕ
-printed e tid line = line_text_of (outcome_of e tid line).reply
+unfoldable pub text_for_line : Endpoint → ℕ → List ℕ → List ℕ
+text_for_line e tid line = line_text_of (outcome_of e tid line).reply
 
 -- the terminus identifier that a line leaves
-unfoldable pub tid_left_by : Endpoint → ℕ → List ℕ → ℕ
-tid_left_by e tid line = (outcome_of e tid line).tid
+unfoldable pub tid_after_line : Endpoint → ℕ → List ℕ → ℕ
+tid_after_line e tid line = (outcome_of e tid line).tid
 
 -- what is printed for lines, in their order: each finds the identifier that the line before it left
 abbrev pub lines_text : Endpoint → ℕ → List (List ℕ) → List ℕ
 lines_text e tid [] = []
 lines_text e tid (line ∷ lines) =
-    printed e tid line ++ lines_text e (tid_left_by e tid line) lines
+    text_for_line e tid line ++ lines_text e (tid_after_line e tid line) lines
 
 -- the identifier that lines leave
 abbrev pub tid_along : Endpoint → ℕ → List (List ℕ) → ℕ
 tid_along e tid [] = tid
-tid_along e tid (line ∷ lines) = tid_along e (tid_left_by e tid line) lines
+tid_along e tid (line ∷ lines) = tid_along e (tid_after_line e tid line) lines
 
 -- what is printed for a text, by an endpoint whose terminus identifier isn't set
 abbrev pub answers_of : Endpoint → List ℕ → List ℕ

@@ -2,13 +2,13 @@
 use Rattle.std.specs.Prelude.{ℕ, ◌+◌, List, [], ◌∷◌, ◌++◌, codes, length}
 use Rattle.std.specs.List.{flat_map}
 use Rattle.fw_package.specs.Components.{PlaceOf}
-use Rattle.fw_package.specs.Outlines.{OutlineOf, outlined}
+use Rattle.fw_package.specs.Outlines.{OutlineOf, outline_of_package}
 use Rattle.fw_package.specs.Package.{DescriptorOf, PackageText, RecordOf}
-use Rattle.fw_text.specs.Printing.{data_text, in_eight, in_four, numbered, quoted}
+use Rattle.fw_text.specs.Printing.{data_text, in_eight, in_four, word_and_number, word_and_quoted}
 
 -- the numbers of the components that a record uses, from 1; none is a dash
 abbrev pub use_text : ℕ → List ℕ
-use_text n = numbered (codes " ") (n + 1)
+use_text n = word_and_number (codes " ") (n + 1)
 
 unfoldable pub uses_text : List ℕ → List ℕ
 uses_text [] = codes " -"
@@ -16,15 +16,15 @@ uses_text (n ∷ ns) = flat_map use_text (n ∷ ns)
 
 abbrev pub package_line : OutlineOf → List ℕ
 package_line o =
-    numbered (codes "package header ") o.header_size ++ numbered (codes " records ") (length o.records)
-    ++ numbered (codes " components ") (length o.places) ++ codes "\n"
+    word_and_number (codes "package header ") o.header_size ++ word_and_number (codes " records ") (length o.records)
+    ++ word_and_number (codes " components ") (length o.places) ++ codes "\n"
 
 unfoldable pub descriptor_line : DescriptorOf → List ℕ
 descriptor_line d = in_four (codes "descriptor ") d.kind ++ codes " " ++ data_text d.bytes ++ codes "\n"
 
 unfoldable pub record_line : ℕ → RecordOf → List ℕ
 record_line n r =
-    numbered (codes "record ") n ++ in_eight (codes " flags ") r.flags ++ quoted (codes " set ") r.set_text.bytes
+    word_and_number (codes "record ") n ++ in_eight (codes " flags ") r.flags ++ word_and_quoted (codes " set ") r.set_text.bytes
     ++ codes " uses" ++ uses_text r.uses ++ codes "\n"
 
 -- a record's line, and those of its descriptors
@@ -39,9 +39,9 @@ records_text n (r ∷ rs) = record_text n r ++ records_text (n + 1) rs
 -- a component's line, which names its image by length and place
 unfoldable pub component_line : ℕ → PlaceOf → List ℕ
 component_line n c =
-    numbered (codes "component ") n ++ numbered (codes " class ") c.classification ++ numbered (codes " ident ") c.identifier
-    ++ in_eight (codes " stamp ") c.stamp ++ in_four (codes " options ") c.options ++ numbered (codes " offset ") c.offset
-    ++ numbered (codes " size ") c.size ++ quoted (codes " version ") c.text.bytes ++ codes "\n"
+    word_and_number (codes "component ") n ++ word_and_number (codes " class ") c.classification ++ word_and_number (codes " ident ") c.identifier
+    ++ in_eight (codes " stamp ") c.stamp ++ in_four (codes " options ") c.options ++ word_and_number (codes " offset ") c.offset
+    ++ word_and_number (codes " size ") c.size ++ word_and_quoted (codes " version ") c.text.bytes ++ codes "\n"
 
 -- components from number n on
 abbrev pub components_text : ℕ → List PlaceOf → List ℕ
@@ -54,4 +54,4 @@ outline_text o = package_line o ++ records_text 1 o.records ++ components_text 1
 
 -- what is printed of a package
 abbrev pub inspect_of : PackageText → List ℕ
-inspect_of p = outline_text (outlined p)
+inspect_of p = outline_text (outline_of_package p)

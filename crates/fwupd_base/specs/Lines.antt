@@ -22,6 +22,6 @@ AreLines [] = Unit {0}
 AreLines (line ∷ lines) = IsOneLine line × AreLines lines
 
 -- these lines, each with its line feed
-abbrev pub ended : List (List ℕ) → List ℕ
-ended [] = []
-ended (line ∷ lines) = (line ++ 10 ∷ []) ++ ended lines
+abbrev pub lines_with_ends : List (List ℕ) → List ℕ
+lines_with_ends [] = []
+lines_with_ends (line ∷ lines) = (line ++ 10 ∷ []) ++ lines_with_ends lines

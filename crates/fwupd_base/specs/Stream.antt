@@ -2,22 +2,22 @@
 use Rattle.std.specs.Prelude.{ℕ, ◌≡◌, ◌≢◌, ◌≤◌, ◌<◌, ◌+◌, ◌*◌, ◌⊎◌, List, [], ◌∷◌, ◌++◌, length, take, Option}
 use Rattle.std.specs.Io.KnownBytes.{Appends, Consumes, IsAtEnd}
 use Rattle.mctp_ctl.specs.declared.answers.Endpoint.{Endpoint}
-use Rattle.fwupd_base.specs.Answers.{answers_of, lines_text, printed, tid_along}
-use Rattle.fwupd_base.specs.Lines.{ended, AreLines, IsOneLine}
+use Rattle.fwupd_base.specs.Answers.{answers_of, lines_text, text_for_line, tid_along}
+use Rattle.fwupd_base.specs.Lines.{lines_with_ends, AreLines, IsOneLine}
 use Rattle.fwupd_base.specs.declared.stream.AnswerFault.{AnswerFault}
 use Rattle.fwupd_base.specs.declared.stream.AnswerFault.TheVariants.{Read}
 
 -- Of a text each of these lines is answered, and this part of the next line follows them.
-pub record Stands (e : Endpoint) (tid : ℕ) (text : List ℕ) (before now : Option (List ℕ)) (part : List ℕ) : Type 0 where
+pub record HasAnsweredLines (e : Endpoint) (tid : ℕ) (text : List ℕ) (before now : Option (List ℕ)) (part : List ℕ) : Type 0 where
   pub lines : List (List ℕ)
   pub each : AreLines lines
   pub one : IsOneLine part
-  pub is : text ≡ ended lines ++ part
+  pub is : text ≡ lines_with_ends lines ++ part
   pub written : Appends before now (lines_text e 0 lines)
   pub terminus : tid ≡ tid_along e 0 lines
 
 -- The reader gave this text and is at its end, and the answers to it are written. A reader whose bytes aren't known gave some text.
-pub record Answered (e : Endpoint) (read_before read_now written_before written_now : Option (List ℕ)) : Type 0 where
+pub record AnswerOk (e : Endpoint) (read_before read_now written_before written_now : Option (List ℕ)) : Type 0 where
   pub text : List ℕ
   pub most : length text ≤ 16777216
   pub read : Consumes read_before read_now text
@@ -26,58 +26,58 @@ pub record Answered (e : Endpoint) (read_before read_now written_before written_
 
 -- A run stopped for this fault, which isn't the writer's. Of what it read each of these lines is answered, and all else is
 -- less than one line: a part without a line feed, and the byte past the limit where that one stopped the run.
-pub record Stopped (e : Endpoint) (fault : AnswerFault) (read_before read_now written_before written_now : Option (List ℕ)) : Type 0 where
+pub record AnswerErr (e : Endpoint) (fault : AnswerFault) (read_before read_now written_before written_now : Option (List ℕ)) : Type 0 where
   pub lines : List (List ℕ)
   pub each : AreLines lines
   pub part : List ℕ
   pub one : IsOneLine part
   pub past : List ℕ
-  pub within : length (ended lines ++ part) ≤ 16777216
-  pub limit : past ≢ [] → (fault ≡ Read) × (length past ≡ 1) × (length (ended lines ++ part) ≡ 16777216)
-  pub read : Consumes read_before read_now ((ended lines ++ part) ++ past)
+  pub within : length (lines_with_ends lines ++ part) ≤ 16777216
+  pub limit : past ≢ [] → (fault ≡ Read) × (length past ≡ 1) × (length (lines_with_ends lines ++ part) ≡ 16777216)
+  pub read : Consumes read_before read_now ((lines_with_ends lines ++ part) ++ past)
   pub written : Appends written_before written_now (lines_text e 0 lines)
 
 -- a beginning of this piece was written
-pub record Begins (before now : Option (List ℕ)) (piece : List ℕ) : Type 0 where
+pub record WritesBeginning (before now : Option (List ℕ)) (piece : List ℕ) : Type 0 where
   pub count : ℕ
   pub written : Appends before now (take count piece)
 
 -- a line ends here
-abbrev pub IsEnded : List ℕ → Type 0
-IsEnded [] = Unit {0}
-IsEnded (b ∷ _) = b ≡ 10
+abbrev pub IsAtLineEnd : List ℕ → Type 0
+IsAtLineEnd [] = Unit {0}
+IsAtLineEnd (b ∷ _) = b ≡ 10
 
 -- A write failed. Of a text each of these lines is answered, and a beginning of the answer to the next one is written.
-pub record BrokenOff (e : Endpoint) (text : List ℕ) (before now : Option (List ℕ)) : Type 0 where
+pub record BreaksOffAnswer (e : Endpoint) (text : List ℕ) (before now : Option (List ℕ)) : Type 0 where
   pub lines : List (List ℕ)
   pub each : AreLines lines
   pub line : List ℕ
   pub one : IsOneLine line
   pub rest : List ℕ
-  pub whole : IsEnded rest
-  pub is : text ≡ ended lines ++ (line ++ rest)
+  pub whole : IsAtLineEnd rest
+  pub is : text ≡ lines_with_ends lines ++ (line ++ rest)
   pub count : ℕ
-  pub written : Appends before now (lines_text e 0 lines ++ take count (printed e (tid_along e 0 lines) line))
+  pub written : Appends before now (lines_text e 0 lines ++ take count (text_for_line e (tid_along e 0 lines) line))
 
 -- A write failed, and this is so of the text that was read, but for the byte past the limit.
-pub record Broken (e : Endpoint) (read_before read_now written_before written_now : Option (List ℕ)) : Type 0 where
+pub record AnswerWriteErr (e : Endpoint) (read_before read_now written_before written_now : Option (List ℕ)) : Type 0 where
   pub text : List ℕ
   pub past : List ℕ
   pub within : length text ≤ 16777216
   pub most : length past ≤ 1
   pub read : Consumes read_before read_now (text ++ past)
-  pub off : BrokenOff e text written_before written_now
+  pub off : BreaksOffAnswer e text written_before written_now
 
 -- So many bytes were read. Of all but the one past the limit each whole line is answered, and this part follows them.
-pub record Reads (e : Endpoint) (tid count : ℕ) (read_before read_now written_before written_now : Option (List ℕ)) (part : List ℕ) : Type 0 where
+pub record ReadsPart (e : Endpoint) (tid count : ℕ) (read_before read_now written_before written_now : Option (List ℕ)) (part : List ℕ) : Type 0 where
   pub text : List ℕ
   pub past : List ℕ
   pub within : length text ≤ 16777216
   pub limit : past ≢ [] → (length past ≡ 1) × (length text ≡ 16777216)
   pub size : length text + length past ≡ count
   pub read : Consumes read_before read_now (text ++ past)
-  pub stands : Stands e tid text written_before written_now part
+  pub stands : HasAnsweredLines e tid text written_before written_now part
 
 -- There was no room for so many bytes more than the digits that are held, or none for the bytes that they spell together.
-abbrev pub LacksRoom : (digits most room spelled : ℕ) → Type 0
-LacksRoom digits most room spelled = (room < digits + most) ⊎ (2 * spelled < digits + most + 2)
+abbrev pub LacksDigitRoom : (digits most room spelled : ℕ) → Type 0
+LacksDigitRoom digits most room spelled = (room < digits + most) ⊎ (2 * spelled < digits + most + 2)

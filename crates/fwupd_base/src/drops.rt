@@ -7,7 +7,7 @@ use mctp_wire::WireFault;
 
 /// Why a line gets no answer: the first of these, in this order, that holds.
 #[derive(Clone, Copy, PartialEq, Eq)]
-pub enum DropCause {
+pub enum LineDropCause {
     /// The line isn't an even number of hexadecimal digits.
     Hex,
     /// The bytes are no packet.
@@ -26,24 +26,24 @@ pub enum DropCause {
     Message,
 }
 
-impl DropCause {
+impl LineDropCause {
     /// The word that names the cause in the program's output.
     pub fn name(self) -> &'static str
         ensures name { result.now ≡ name_of self }
         ensures short { length result.now ≤ 11 }
     {
         match self {
-            DropCause::Hex => "Hex",
-            DropCause::Wire(WireFault::Short) => "Short",
-            DropCause::Wire(WireFault::Version) => "Version",
-            DropCause::Wire(WireFault::Empty) => "Empty",
-            DropCause::Wire(WireFault::TooLong) => "TooLong",
-            DropCause::Destination => "Destination",
-            DropCause::NotWhole => "NotWhole",
-            DropCause::StartNumber => "StartNumber",
-            DropCause::NotRequest => "NotRequest",
-            DropCause::Kind => "Type",
-            DropCause::Message => "Message",
+            LineDropCause::Hex => "Hex",
+            LineDropCause::Wire(WireFault::Short) => "Short",
+            LineDropCause::Wire(WireFault::Version) => "Version",
+            LineDropCause::Wire(WireFault::Empty) => "Empty",
+            LineDropCause::Wire(WireFault::TooLong) => "TooLong",
+            LineDropCause::Destination => "Destination",
+            LineDropCause::NotWhole => "NotWhole",
+            LineDropCause::StartNumber => "StartNumber",
+            LineDropCause::NotRequest => "NotRequest",
+            LineDropCause::Kind => "Type",
+            LineDropCause::Message => "Message",
         }
     }
 }

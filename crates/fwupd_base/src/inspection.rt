@@ -3,7 +3,7 @@
 ghost use Rattle.std.specs.Prelude.{◌≡◌, ◌≢◌, ◌++◌, ◌+◌, IfErr, IfOk, IsOk, List, OnOk, length, ℕ};
 ghost use Rattle.std.specs.List.{flat_map};
 ghost use Rattle.std.specs.Result.{result_map_both};
-ghost use Rattle.fw_text.specs.Printing.{Adds};
+ghost use Rattle.fw_text.specs.Printing.{AppendsText};
 ghost use Rattle.fw_package.specs.Lent.{place_seen, record_seen};
 ghost use Rattle.fw_package.specs.Outlines.{IsBeginning};
 ghost use Rattle.fw_package.specs.Package.{descriptor_of};
@@ -11,15 +11,15 @@ ghost use Rattle.fw_package.specs.Reading.{package_of};
 ghost use Rattle.fwupd_base.specs.Inspection.{component_line, components_text, descriptor_line, inspect_of, outline_text, package_line, record_line, records_text, record_text, use_text, uses_text};
 
 use fw_package::{
-    BEGINNING_SIZE, Descriptor, Descriptors, Outline, PackageFault, Place, Places, Record, Records,
-    Uses,
+    BEGINNING_SIZE, ComponentPlaces, Descriptor, Descriptors, Outline, PackageFault, Place, Record,
+    Records, Uses,
 };
 use fw_text::{push_data, push_eight, push_four, push_number, push_quoted, push_words};
 use std::alloc::{AllocError, Global};
 
 /// Appends the package's line.
 fn push_package(alloc: Global, text: &mut Vec<u8>, contents: &Outline<'_>) -> Result<(), AllocError>
-    ensures { OnOk result (Adds text.old.items text.new.items (package_line contents.now)) }
+    ensures { OnOk result (AppendsText text.old.items text.new.items (package_line contents.now)) }
 {
     push_number(alloc, text, "package header ", contents.header_size())?;
     push_number(alloc, text, " records ", contents.record_count())?;
@@ -34,7 +34,7 @@ fn push_descriptor(
     text: &mut Vec<u8>,
     descriptor: Descriptor<'_>,
 ) -> Result<(), AllocError>
-    ensures { OnOk result (Adds text.old.items text.new.items (descriptor_line (descriptor_of descriptor.entry))) }
+    ensures { OnOk result (AppendsText text.old.items text.new.items (descriptor_line (descriptor_of descriptor.entry))) }
 {
     push_four(alloc, text, "descriptor ", descriptor.kind)?;
     push_words(text, " ")?;
@@ -46,7 +46,7 @@ fn push_descriptor(
 /// Appends the number of each component that a record uses.
 #[tactic(auto, using(fw_text::proofs::Chains::telling))]
 fn push_each_use(alloc: Global, text: &mut Vec<u8>, uses: Uses<'_>) -> Result<(), AllocError>
-    ensures { OnOk result (Adds text.old.items text.new.items (flat_map use_text uses.entry)) }
+    ensures { OnOk result (AppendsText text.old.items text.new.items (flat_map use_text uses.entry)) }
 {
     for component in uses {
         push_number(alloc, text, " ", usize::from(component) + 1)?;
@@ -57,7 +57,7 @@ fn push_each_use(alloc: Global, text: &mut Vec<u8>, uses: Uses<'_>) -> Result<()
 /// Appends the numbers of the components that a record uses, or a dash.
 #[tactic(auto, using(crate::proofs::Uses::uses_none, crate::proofs::Uses::uses_some))]
 fn push_uses(alloc: Global, text: &mut Vec<u8>, uses: Uses<'_>) -> Result<(), AllocError>
-    ensures { OnOk result (Adds text.old.items text.new.items (uses_text uses.entry)) }
+    ensures { OnOk result (AppendsText text.old.items text.new.items (uses_text uses.entry)) }
 {
     if uses.is_empty() {
         push_words(text, " -")?;
@@ -74,7 +74,7 @@ fn push_record_line(
     number: usize,
     contents: &Record<'_>,
 ) -> Result<(), AllocError>
-    ensures { OnOk result (Adds text.old.items text.new.items (record_line number (record_seen contents.now))) }
+    ensures { OnOk result (AppendsText text.old.items text.new.items (record_line number (record_seen contents.now))) }
 {
     push_number(alloc, text, "record ", number)?;
     push_eight(alloc, text, " flags ", contents.flags)?;
@@ -92,7 +92,7 @@ fn push_component(
     number: usize,
     contents: Place<'_>,
 ) -> Result<(), AllocError>
-    ensures { OnOk result (Adds text.old.items text.new.items (component_line number (place_seen contents.entry))) }
+    ensures { OnOk result (AppendsText text.old.items text.new.items (component_line number (place_seen contents.entry))) }
 {
     push_number(alloc, text, "component ", number)?;
     push_number(alloc, text, " class ", usize::from(contents.classification))?;
@@ -113,7 +113,7 @@ fn push_descriptors(
     text: &mut Vec<u8>,
     descriptors: Descriptors<'_>,
 ) -> Result<(), AllocError>
-    ensures { OnOk result (Adds text.old.items text.new.items (flat_map descriptor_line descriptors.entry)) }
+    ensures { OnOk result (AppendsText text.old.items text.new.items (flat_map descriptor_line descriptors.entry)) }
 {
     for descriptor in descriptors {
         push_descriptor(alloc, text, descriptor)?;
@@ -128,7 +128,7 @@ fn push_record(
     number: usize,
     contents: Record<'_>,
 ) -> Result<(), AllocError>
-    ensures { OnOk result (Adds text.old.items text.new.items (record_text number (record_seen contents.entry))) }
+    ensures { OnOk result (AppendsText text.old.items text.new.items (record_text number (record_seen contents.entry))) }
 {
     push_record_line(alloc, text, number, &contents)?;
     push_descriptors(alloc, text, contents.descriptors)?;
@@ -142,7 +142,7 @@ fn push_records(
     text: &mut Vec<u8>,
     mut records: Records<'_>,
 ) -> Result<(), AllocError>
-    ensures { OnOk result (Adds text.old.items text.new.items (records_text 1 records.entry)) }
+    ensures { OnOk result (AppendsText text.old.items text.new.items (records_text 1 records.entry)) }
 {
     for number in 0..records.len() {
         let Some(contents) = records.next() else {
@@ -158,9 +158,9 @@ fn push_records(
 fn push_components(
     alloc: Global,
     text: &mut Vec<u8>,
-    mut components: Places<'_>,
+    mut components: ComponentPlaces<'_>,
 ) -> Result<(), AllocError>
-    ensures { OnOk result (Adds text.old.items text.new.items (components_text 1 components.entry)) }
+    ensures { OnOk result (AppendsText text.old.items text.new.items (components_text 1 components.entry)) }
 {
     for number in 0..components.len() {
         let Some(contents) = components.next() else {

@@ -9,7 +9,7 @@ mod retries;
 mod stream;
 mod text;
 
-pub use drops::DropCause;
+pub use drops::LineDropCause;
 pub use forms::Form;
 pub use inspection::{InspectFault, beginning_of, inspect, inspect_beginning};
 pub use retries::{read_some, write_whole};

@@ -6,9 +6,9 @@ ghost use Rattle.mctp_wire.specs.Packet.{packet_of};
 ghost use Rattle.mctp_wire.specs.Units.{bytes_of};
 ghost use Rattle.pldm_base.specs.declared.header.PldmHead.{PldmHead};
 ghost use Rattle.pldm_base.specs.Header.{pldm_of};
-ghost use Rattle.fwupd_base.specs.Answers.{answered, body_reply, completion_of, packet_reply, pldm_reply, tid_left, wire_reply};
+ghost use Rattle.fwupd_base.specs.Answers.{answered_line, body_reply, completion_of, packet_reply, pldm_reply, tid_after_pldm, wire_reply};
 
-use crate::drops::DropCause;
+use crate::drops::LineDropCause;
 use mctp_ctl::{CONTROL, Endpoint};
 use mctp_wire::{Head, RawPacket, Unit};
 use pldm_base::{
@@ -33,11 +33,11 @@ impl Responder {
     ///
     /// # Errors
     /// A packet that gets no answer is dropped for the first cause that holds; the terminus keeps its identifier.
-    pub fn answer(&mut self, bytes: &[u8], packet: &mut RawPacket) -> Result<(), DropCause>
+    pub fn answer(&mut self, bytes: &[u8], packet: &mut RawPacket) -> Result<(), LineDropCause>
         ensures reply { result_map_both (λ _. packet.new.items) (λ e. e) result ≡ (wire_reply self.old.endpoint self.old.tid (packet_of UNIT bytes.now)).reply }
         ensures after { self.new ≡ record self.old { tid = (wire_reply self.old.endpoint self.old.tid (packet_of UNIT bytes.now)).tid } }
     {
-        let heard = mctp_wire::decode(UNIT, bytes).map_err(DropCause::Wire)?;
+        let heard = mctp_wire::decode(UNIT, bytes).map_err(LineDropCause::Wire)?;
         self.answer_packet(&heard.head, heard.body, packet)
     }
 
@@ -47,22 +47,22 @@ impl Responder {
         head: &Head,
         body: &[u8],
         packet: &mut RawPacket,
-    ) -> Result<(), DropCause>
+    ) -> Result<(), LineDropCause>
         requires { head.now.tag < 8 }
         ensures reply { result_map_both (λ _. packet.new.items) (λ e. e) result ≡ (packet_reply self.old.endpoint self.old.tid head.now body.now).reply }
         ensures after { self.new ≡ record self.old { tid = (packet_reply self.old.endpoint self.old.tid head.now body.now).tid } }
     {
         if head.dest != self.endpoint.eid {
-            return Err(DropCause::Destination);
+            return Err(LineDropCause::Destination);
         }
         if !(head.som && head.eom) {
-            return Err(DropCause::NotWhole);
+            return Err(LineDropCause::NotWhole);
         }
         if head.seq != 0 {
-            return Err(DropCause::StartNumber);
+            return Err(LineDropCause::StartNumber);
         }
         if !head.to {
-            return Err(DropCause::NotRequest);
+            return Err(LineDropCause::NotRequest);
         }
         self.answer_message(head, body, packet)
     }
@@ -73,7 +73,7 @@ impl Responder {
         head: &Head,
         message: &[u8],
         packet: &mut RawPacket,
-    ) -> Result<(), DropCause>
+    ) -> Result<(), LineDropCause>
         requires { head.now.tag < 8 }
         ensures reply { result_map_both (λ _. packet.new.items) (λ e. e) result ≡ (body_reply self.old.endpoint head.now self.old.tid message.now).reply }
         ensures after { self.new ≡ record self.old { tid = (body_reply self.old.endpoint head.now self.old.tid message.now).tid } }
@@ -84,10 +84,10 @@ impl Responder {
                     self.carry(head, answer.as_slice(), packet);
                     Ok(())
                 }
-                None => Err(DropCause::Message),
+                None => Err(LineDropCause::Message),
             },
             [MESSAGE_TYPE, ..] => self.answer_pldm(head, message, packet),
-            _ => Err(DropCause::Kind),
+            _ => Err(LineDropCause::Kind),
         }
     }
 
@@ -97,16 +97,16 @@ impl Responder {
         head: &Head,
         message: &[u8],
         packet: &mut RawPacket,
-    ) -> Result<(), DropCause>
+    ) -> Result<(), LineDropCause>
         requires { head.now.tag < 8 }
         ensures reply { result_map_both (λ _. packet.new.items) (λ e. e) result ≡ (pldm_reply self.old.endpoint head.now self.old.tid (pldm_of message.now)).reply }
         ensures after { self.new ≡ record self.old { tid = (pldm_reply self.old.endpoint head.now self.old.tid (pldm_of message.now)).tid } }
     {
         let Ok((request, fields)) = pldm_base::decode(message) else {
-            return Err(DropCause::Message);
+            return Err(LineDropCause::Message);
         };
         if !request.rq {
-            return Err(DropCause::Message);
+            return Err(LineDropCause::Message);
         }
         let completion = self.complete(&request, fields);
         let answering = PldmHead {
@@ -122,7 +122,7 @@ impl Responder {
     fn complete(&mut self, request: &PldmHead, fields: &[u8]) -> Reply
         ensures reply { result.items ≡ completion_of self.old.tid request.now fields.now }
         ensures one_packet { length result.items + HEADER_SIZE ≤ bytes_of UNIT }
-        ensures after { self.new ≡ record self.old { tid = tid_left self.old.tid request.now fields.now } }
+        ensures after { self.new ≡ record self.old { tid = tid_after_pldm self.old.tid request.now fields.now } }
     {
         match request.pldm_type {
             TYPE_BASE => answer_base(&mut self.tid, Role::Device, request.command, fields),
@@ -135,7 +135,7 @@ impl Responder {
     fn carry(&self, head: &Head, answer: &[u8], packet: &mut RawPacket)
         requires head { head.now.tag < 8 }
         requires answer { (1 ≤ length answer.now) × (length answer.now ≤ bytes_of UNIT) }
-        ensures { Ok packet.new.items ≡ (answered self.now.endpoint head.now self.now.tid answer.now).reply }
+        ensures { Ok packet.new.items ≡ (answered_line self.now.endpoint head.now self.now.tid answer.now).reply }
     {
         let head = Head {
             dest: head.source,

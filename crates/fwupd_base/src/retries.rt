@@ -3,7 +3,7 @@
 ghost use Rattle.std.specs.Prelude.{◌≡◌, ◌≢◌, ◌<◌, ◌≤◌, length, take, IfErr, IfOk, OnErr, OnOk};
 ghost use Rattle.std.specs.Io.KnownBytes.{Appends, Consumes, IsAtEnd, Keeps};
 ghost use Rattle.std.specs.IoError.{error_kind};
-ghost use Rattle.fwupd_base.specs.Stream.{Begins};
+ghost use Rattle.fwupd_base.specs.Stream.{WritesBeginning};
 
 use std::io::{self, ErrorKind, Read, Write};
 
@@ -40,7 +40,7 @@ pub fn read_some<R: Read>(reader: &mut R, buffer: &mut [u8], most: usize) -> io:
 /// written.
 pub fn write_whole<W: Write>(writer: &mut W, bytes: &[u8]) -> io::Result<()>
     ensures ok { OnOk result (Appends (W.contents writer.old) (W.contents writer.new) bytes.now) }
-    ensures begun { OnErr result (Begins (W.contents writer.old) (W.contents writer.new) bytes.now) }
+    ensures begun { OnErr result (WritesBeginning (W.contents writer.old) (W.contents writer.new) bytes.now) }
     ensures retried { IfErr result (λ e. error_kind e ≢ ErrorKind.Interrupted) }
 {
     let mut written = 0;

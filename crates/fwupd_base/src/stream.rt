@@ -2,8 +2,8 @@
 
 ghost use Rattle.std.specs.Prelude.{[], ◌≡◌, ◌≢◌, ◌≤◌, ◌+◌, ◌*◌, ◌++◌, List, ℕ, Option, length, vec_capacity, IfErr, OnErr, OnOk};
 ghost use Rattle.std.specs.Io.KnownBytes.{Appends, Keeps};
-ghost use Rattle.fwupd_base.specs.Answers.{answers_of, endpoint_of, printed, tid_left_by};
-ghost use Rattle.fwupd_base.specs.Stream.{Answered, Begins, Broken, BrokenOff, LacksRoom, Stands, Stopped};
+ghost use Rattle.fwupd_base.specs.Answers.{answers_of, endpoint_of, text_for_line, tid_after_line};
+ghost use Rattle.fwupd_base.specs.Stream.{AnswerOk, WritesBeginning, AnswerWriteErr, BreaksOffAnswer, LacksDigitRoom, HasAnsweredLines, AnswerErr};
 
 use crate::responder::Responder;
 use crate::retries::{read_some, write_whole};
@@ -44,9 +44,9 @@ fn write_answer<W: Write>(
     writer: &mut W,
 ) -> Result<(), AnswerFault>
     requires room { length digits.now ≤ 2 * vec_capacity bytes.old }
-    ensures ok { OnOk result (Appends (W.contents writer.old) (W.contents writer.new) (printed responder.old.endpoint responder.old.tid digits.now)) }
-    ensures after { responder.new ≡ record responder.old { tid = tid_left_by responder.old.endpoint responder.old.tid digits.now } }
-    ensures fault { IfErr result (λ e. (e ≡ AnswerFault.Write) × Begins (W.contents writer.old) (W.contents writer.new) (printed responder.old.endpoint responder.old.tid digits.now)) }
+    ensures ok { OnOk result (Appends (W.contents writer.old) (W.contents writer.new) (text_for_line responder.old.endpoint responder.old.tid digits.now)) }
+    ensures after { responder.new ≡ record responder.old { tid = tid_after_line responder.old.endpoint responder.old.tid digits.now } }
+    ensures fault { IfErr result (λ e. (e ≡ AnswerFault.Write) × WritesBeginning (W.contents writer.old) (W.contents writer.new) (text_for_line responder.old.endpoint responder.old.tid digits.now)) }
     ensures capacity { vec_capacity bytes.old ≤ vec_capacity bytes.new }
 {
     let mut line = LineText::new();
@@ -67,10 +67,10 @@ fn answer_ended<W: Write>(
 ) -> Result<(), AnswerFault>
     requires holds { length held.old.items + length digits.now ≤ vec_capacity held.old }
     requires decodes { length held.old.items + length digits.now ≤ 2 * vec_capacity bytes.old }
-    ensures ok { OnOk result (Appends (W.contents writer.old) (W.contents writer.new) (printed responder.old.endpoint responder.old.tid (held.old.items ++ digits.now))) }
+    ensures ok { OnOk result (Appends (W.contents writer.old) (W.contents writer.new) (text_for_line responder.old.endpoint responder.old.tid (held.old.items ++ digits.now))) }
     ensures none { OnOk result (held.new.items ≡ []) }
-    ensures after { responder.new ≡ record responder.old { tid = tid_left_by responder.old.endpoint responder.old.tid (held.old.items ++ digits.now) } }
-    ensures fault { IfErr result (λ e. (e ≡ AnswerFault.Write) × Begins (W.contents writer.old) (W.contents writer.new) (printed responder.old.endpoint responder.old.tid (held.old.items ++ digits.now))) }
+    ensures after { responder.new ≡ record responder.old { tid = tid_after_line responder.old.endpoint responder.old.tid (held.old.items ++ digits.now) } }
+    ensures fault { IfErr result (λ e. (e ≡ AnswerFault.Write) × WritesBeginning (W.contents writer.old) (W.contents writer.new) (text_for_line responder.old.endpoint responder.old.tid (held.old.items ++ digits.now))) }
     ensures held_room { vec_capacity held.old ≤ vec_capacity held.new }
     ensures room { vec_capacity bytes.old ≤ vec_capacity bytes.new }
 {
@@ -95,11 +95,11 @@ fn answer_piece<W: Write>(
     requires holds { length held.old.items + length piece.now ≤ vec_capacity held.old }
     requires decodes { length held.old.items + length piece.now ≤ 2 * vec_capacity bytes.old }
     ensures endpoint { responder.new.endpoint ≡ responder.old.endpoint }
-    ensures ok { (text : List ℕ) (before : Option (List ℕ)) → Stands responder.old.endpoint responder.old.tid text before (W.contents writer.old) held.old.items
-        → OnOk result (Stands responder.old.endpoint responder.new.tid (text ++ piece.now) before (W.contents writer.new) held.new.items) }
+    ensures ok { (text : List ℕ) (before : Option (List ℕ)) → HasAnsweredLines responder.old.endpoint responder.old.tid text before (W.contents writer.old) held.old.items
+        → OnOk result (HasAnsweredLines responder.old.endpoint responder.new.tid (text ++ piece.now) before (W.contents writer.new) held.new.items) }
     ensures fault { IfErr result (λ e. e ≡ AnswerFault.Write) }
-    ensures broken { (text : List ℕ) (before : Option (List ℕ)) → Stands responder.old.endpoint responder.old.tid text before (W.contents writer.old) held.old.items
-        → OnErr result (BrokenOff responder.old.endpoint (text ++ piece.now) before (W.contents writer.new)) }
+    ensures broken { (text : List ℕ) (before : Option (List ℕ)) → HasAnsweredLines responder.old.endpoint responder.old.tid text before (W.contents writer.old) held.old.items
+        → OnErr result (BreaksOffAnswer responder.old.endpoint (text ++ piece.now) before (W.contents writer.new)) }
 {
     let mut from = 0;
     while let Some(count) = memchr(b'\n', &piece[from..]) {
@@ -129,7 +129,7 @@ fn make_room(held: &mut Vec<u8>, bytes: &mut Vec<u8>, most: usize) -> Result<(),
     ensures holds { OnOk result (length held.new.items + most ≤ vec_capacity held.new) }
     ensures decodes { OnOk result (length held.new.items + most ≤ 2 * vec_capacity bytes.new) }
     ensures fault { IfErr result (λ e. e ≡ AnswerFault.Memory) }
-    ensures lacked { OnErr result (LacksRoom (length held.old.items) most (vec_capacity held.old) (vec_capacity bytes.old)) }
+    ensures lacked { OnErr result (LacksDigitRoom (length held.old.items) most (vec_capacity held.old) (vec_capacity bytes.old)) }
 {
     let Ok(()) = held.reserve(most) else {
         return Err(AnswerFault::Memory);
@@ -149,11 +149,11 @@ fn finish<W: Write>(
     writer: &mut W,
 ) -> Result<(), AnswerFault>
     requires decodes { length held.now ≤ 2 * vec_capacity bytes.old }
-    ensures ok { (text : List ℕ) (before : Option (List ℕ)) → Stands responder.old.endpoint responder.old.tid text before (W.contents writer.old) held.now
+    ensures ok { (text : List ℕ) (before : Option (List ℕ)) → HasAnsweredLines responder.old.endpoint responder.old.tid text before (W.contents writer.old) held.now
         → OnOk result (Appends before (W.contents writer.new) (answers_of responder.old.endpoint text)) }
     ensures fault { IfErr result (λ e. e ≡ AnswerFault.Write) }
-    ensures broken { (text : List ℕ) (before : Option (List ℕ)) → Stands responder.old.endpoint responder.old.tid text before (W.contents writer.old) held.now
-        → OnErr result (BrokenOff responder.old.endpoint text before (W.contents writer.new)) }
+    ensures broken { (text : List ℕ) (before : Option (List ℕ)) → HasAnsweredLines responder.old.endpoint responder.old.tid text before (W.contents writer.old) held.now
+        → OnErr result (BreaksOffAnswer responder.old.endpoint text before (W.contents writer.new)) }
 {
     if held.is_empty() {
         return Ok(());
@@ -183,11 +183,11 @@ pub fn answer_stream<R: Read, W: Write>(
     eid: u8,
     uuid: Uuid,
 ) -> Result<(), AnswerFault>
-    ensures ok { OnOk result (Answered (endpoint_of eid uuid) (R.remaining reader.old) (R.remaining reader.new) (W.contents writer.old) (W.contents writer.new)) }
+    ensures ok { OnOk result (AnswerOk (endpoint_of eid uuid) (R.remaining reader.old) (R.remaining reader.new) (W.contents writer.old) (W.contents writer.new)) }
     ensures stopped { IfErr result (λ e. e ≢ AnswerFault.Write →
-        Stopped (endpoint_of eid uuid) e (R.remaining reader.old) (R.remaining reader.new) (W.contents writer.old) (W.contents writer.new)) }
+        AnswerErr (endpoint_of eid uuid) e (R.remaining reader.old) (R.remaining reader.new) (W.contents writer.old) (W.contents writer.new)) }
     ensures broken { IfErr result (λ e. e ≡ AnswerFault.Write →
-        Broken (endpoint_of eid uuid) (R.remaining reader.old) (R.remaining reader.new) (W.contents writer.old) (W.contents writer.new)) }
+        AnswerWriteErr (endpoint_of eid uuid) (R.remaining reader.old) (R.remaining reader.new) (W.contents writer.old) (W.contents writer.new)) }
 {
     let mut responder = Responder {
         endpoint: Endpoint { eid, uuid },

@@ -3,9 +3,9 @@
 ghost use Rattle.std.specs.Prelude.{◌≡◌, ◌+◌, ◌*◌, ◌∷◌, [], ◌++◌, ◌≤◌, length, vec_capacity};
 ghost use Rattle.std.specs.Result.{result_map_both};
 ghost use Rattle.hex.specs.Hex.{decode_of, encode_upper};
-ghost use Rattle.fwupd_base.specs.Answers.{line_text_of, printed, tid_left_by};
+ghost use Rattle.fwupd_base.specs.Answers.{line_text_of, text_for_line, tid_after_line};
 
-use crate::drops::DropCause;
+use crate::drops::LineDropCause;
 use crate::responder::Responder;
 use arrayvec::ArrayVec;
 use hex::FromHexError;
@@ -61,7 +61,7 @@ fn push_digits(packet: &[u8], text: &mut LineText)
 }
 
 /// Makes the line that is printed for a reply: the packet in digits, or the cause why there is none.
-fn write_line(reply: Result<(), DropCause>, packet: &RawPacket, text: &mut LineText)
+fn write_line(reply: Result<(), LineDropCause>, packet: &RawPacket, text: &mut LineText)
     ensures { text.new.items ≡ line_text_of (result_map_both (λ _. packet.now.items) (λ e. e) reply) }
 {
     text.clear();
@@ -76,7 +76,7 @@ fn write_line(reply: Result<(), DropCause>, packet: &RawPacket, text: &mut LineT
 }
 
 /// Answers one line of digits: its text, which is put into the place of `text`. `bytes` is room that is used again for each line.
-#[tactic(auto, unfolding(crate::specs::Answers::printed, crate::specs::Answers::tid_left_by))]
+#[tactic(auto, unfolding(crate::specs::Answers::text_for_line, crate::specs::Answers::tid_after_line))]
 pub fn answer_line(
     responder: &mut Responder,
     digits: &[u8],
@@ -84,14 +84,14 @@ pub fn answer_line(
     text: &mut LineText,
 )
     requires room { length digits.now ≤ 2 * vec_capacity bytes.old }
-    ensures text { text.new.items ≡ printed responder.old.endpoint responder.old.tid digits.now }
-    ensures after { responder.new ≡ record responder.old { tid = tid_left_by responder.old.endpoint responder.old.tid digits.now } }
+    ensures text { text.new.items ≡ text_for_line responder.old.endpoint responder.old.tid digits.now }
+    ensures after { responder.new ≡ record responder.old { tid = tid_after_line responder.old.endpoint responder.old.tid digits.now } }
     ensures capacity { vec_capacity bytes.old ≤ vec_capacity bytes.new }
 {
     let mut packet = RawPacket::new();
     let reply = match decode_digits(digits, bytes) {
         Ok(()) => responder.answer(bytes.as_slice(), &mut packet),
-        Err(_) => Err(DropCause::Hex),
+        Err(_) => Err(LineDropCause::Hex),
     };
     write_line(reply, &packet, text);
 }

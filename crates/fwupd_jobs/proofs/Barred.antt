@@ -1,7 +1,7 @@
 -- What would be written over is told of more files too.
 use Rattle.std.proofs.Common.{ℕ, Bool, List, ◌∷◌, Option, None, Some, inl, inr}
 use Rattle.fwupd_watch.specs.Apart.{IsBarred, IsOverRead, IsOverUsed}
-use Rattle.fwupd_watch.specs.Running.{ShowOf, WatchOf}
+use Rattle.fwupd_watch.specs.Running.{ShowOf, ObserverOf}
 use Rattle.fwupd_watch.specs.Files.{FileOf}
 use Rattle.fwupd_watch.specs.declared.faults.RunFault.{RunFault}
 use Rattle.fwupd_watch.specs.declared.faults.RunFault.TheVariants as faults
@@ -20,7 +20,7 @@ over_read files show q paths faults.Record (inl h) = inl (over_used files show.r
 over_read files show q paths faults.Record (inr h) = inr h
 over_read files show q paths told h = h
 
-pub barred_more : (files : List ℕ → FileOf) (refuses : List ℕ → Bool) (show : ShowOf) (q : List ℕ) (paths : List (List ℕ)) (told : RunFault) (watched : WatchOf) → IsBarred files refuses show paths told watched
+pub barred_more : (files : List ℕ → FileOf) (refuses : List ℕ → Bool) (show : ShowOf) (q : List ℕ) (paths : List (List ℕ)) (told : RunFault) (watched : ObserverOf) → IsBarred files refuses show paths told watched
     → IsBarred files refuses show (q ∷ paths) told watched
 barred_more files refuses show q paths told watched (inl h) = inl (over_read files show q paths told h)
 barred_more files refuses show q paths told watched (inr h) = inr h

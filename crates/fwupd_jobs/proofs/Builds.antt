@@ -11,7 +11,7 @@ use Rattle.fw_script.specs.PackageSpecs.{PackageSpecOf, SpecComponentOf, package
 use Rattle.fw_script.specs.declared.package_spec.SpecComponent.{SpecComponent}
 use Rattle.fwupd_jobs.specs.Built.{AreImages, Builds, ImageFails, ImagesFail, IsBuilt, IsImage, asked_by, components_by}
 use Rattle.fwupd_watch.specs.Files.{FileOf}
-use Rattle.fwupd_watch.specs.Places.{IsPut}
+use Rattle.fwupd_watch.specs.Places.{IsOnDisk}
 use Rattle.fwupd_jobs.specs.Setups.{Says}
 use Rattle.fwupd_watch.specs.declared.faults.RunFault.{RunFault}
 use Rattle.fwupd_watch.specs.declared.faults.RunFault.TheVariants as faults
@@ -110,18 +110,18 @@ built files path spec images header known begun w held says are is of begins wri
     (subst (λ o. Appends o w (header ++ concat images)) (begins yes) written) (put yes)
 
 -- what a file at its place holds, and what it holds after a loss of power
-put_held : (w held lasting : Option (List ℕ)) → IsPut w held lasting → IfSome w (λ b. held ≡ Some b)
+put_held : (w held lasting : Option (List ℕ)) → IsOnDisk w held lasting → IfSome w (λ b. held ≡ Some b)
 put_held None held lasting p = tt
 put_held (Some x) held lasting p = p.0
 
-put_lasting : (w held lasting : Option (List ℕ)) → IsPut w held lasting → IfSome w (λ b. lasting ≡ Some b)
+put_lasting : (w held lasting : Option (List ℕ)) → IsOnDisk w held lasting → IfSome w (λ b. lasting ≡ Some b)
 put_lasting None held lasting p = tt
 put_lasting (Some x) held lasting p = p.1
 
 pub built_on : {A : Type 0} (files : List ℕ → FileOf) (path : List ℕ) (spec : PackageSpecOf) (images : List (List ℕ)) (header : List ℕ) (known still : Bool)
     (begun w held lasting : Option (List ℕ)) (end : Result A RunFault)
     → Says package_spec_of (files path) spec → AreImages files spec.components images → header ≡ header_bytes (asked_by spec images) → IsHeaderOf (asked_by spec images) header
-    → (known ≡ true → begun ≡ Some []) → still ≡ known → Appends begun w (header ++ concat images) → OnOk end (still ≡ true → IsPut w held lasting) → OnOk end (Builds files path known held)
+    → (known ≡ true → begun ≡ Some []) → still ≡ known → Appends begun w (header ++ concat images) → OnOk end (still ≡ true → IsOnDisk w held lasting) → OnOk end (Builds files path known held)
 built_on files path spec images header known still begun w held lasting (Ok a) says are is of begins same written put =
     built files path spec images header known begun w held says are is of begins written (λ yes. put_held w held lasting (put (same ∙ yes)))
 built_on files path spec images header known still begun w held lasting (Err fault) says are is of begins same written put = tt
@@ -129,7 +129,7 @@ built_on files path spec images header known still begun w held lasting (Err fau
 pub built_lasting : {A : Type 0} (files : List ℕ → FileOf) (path : List ℕ) (spec : PackageSpecOf) (images : List (List ℕ)) (header : List ℕ) (known still : Bool)
     (begun w held lasting : Option (List ℕ)) (end : Result A RunFault)
     → Says package_spec_of (files path) spec → AreImages files spec.components images → header ≡ header_bytes (asked_by spec images) → IsHeaderOf (asked_by spec images) header
-    → (known ≡ true → begun ≡ Some []) → still ≡ known → Appends begun w (header ++ concat images) → OnOk end (still ≡ true → IsPut w held lasting) → OnOk end (Builds files path known lasting)
+    → (known ≡ true → begun ≡ Some []) → still ≡ known → Appends begun w (header ++ concat images) → OnOk end (still ≡ true → IsOnDisk w held lasting) → OnOk end (Builds files path known lasting)
 built_lasting files path spec images header known still begun w held lasting (Ok a) says are is of begins same written put =
     built files path spec images header known begun w lasting says are is of begins written (λ yes. put_lasting w held lasting (put (same ∙ yes)))
 built_lasting files path spec images header known still begun w held lasting (Err fault) says are is of begins same written put = tt

@@ -4,10 +4,10 @@ use Rattle.std.specs.Result.{result_map_both}
 use Rattle.fw_package.specs.Package.{PackageText}
 use Rattle.fw_package.specs.Reading.{package_of}
 use Rattle.fw_package.specs.declared.fault.PackageFault.{PackageFault}
-use Rattle.fwupd_jobs.specs.Inspected.{BreaksInspection, Inspects, told_as}
+use Rattle.fwupd_jobs.specs.Inspected.{BreaksInspection, Inspects, run_fault_of_inspection}
 use Rattle.fw_json.specs.Forms.{inspection_in}
 use Rattle.fwupd_base.specs.declared.forms.Form.{Form}
-use Rattle.fwupd_watch.specs.Outputs.{FailsToPrint, OutputOf, Prints}
+use Rattle.fwupd_watch.specs.Outputs.{FailsToWriteOutput, OutputOf, WritesOutput}
 use Rattle.fwupd_watch.specs.Files.{FileOf, MayHold}
 use Rattle.fwupd_jobs.specs.Setups.{IsNone, PackageFails}
 use Rattle.fwupd_watch.specs.declared.faults.RunFault.{RunFault}
@@ -20,7 +20,7 @@ refused : (r : Result PackageText PackageFault) (f : PackageFault) → result_ma
 refused (Ok p) f e = absurd cc
 refused (Err g) f e = ap Err (let same : Err (inspected.Package g) ≡ Err (inspected.Package f) = e in cc)
 
-pub inspection_fails : (files : List ℕ → FileOf) (path bytes : List ℕ) (fault : InspectFault) (told : RunFault) → MayHold (files path) bytes → told ≡ told_as fault
+pub inspection_fails : (files : List ℕ → FileOf) (path bytes : List ℕ) (fault : InspectFault) (told : RunFault) → MayHold (files path) bytes → told ≡ run_fault_of_inspection fault
     → (fault ≢ inspected.Memory → result_map_both (λ p. p) inspected.Package (package_of bytes) ≡ Err fault) → (told ≡ faults.Memory) ⊎ PackageFails files path told
 inspection_fails files path bytes inspected.Memory told held e first = inl e
 inspection_fails files path bytes (inspected.Package f) told held e first =
@@ -31,14 +31,14 @@ read : (form : Form) (r : Result PackageText PackageFault) (text : List ℕ) →
 read form (Ok p) text e = (p, refl, (let same : Ok (inspection_in form p) ≡ Ok text = e in cc))
 read form (Err f) text e = absurd cc
 
-pub inspects : (file : FileOf) (form : Form) (bytes text : List ℕ) (before now : OutputOf) → MayHold file bytes → result_map_both (inspection_in form) (λ e. e) (package_of bytes) ≡ Ok text → Prints before now text
+pub inspects : (file : FileOf) (form : Form) (bytes text : List ℕ) (before now : OutputOf) → MayHold file bytes → result_map_both (inspection_in form) (λ e. e) (package_of bytes) ≡ Ok text → WritesOutput before now text
     → Inspects file form before now
 inspects file form bytes text before now held is written =
     let found = read form (package_of bytes) text is in
-    record { contents = found.0; is = record { bytes = bytes; held = held; is = found.1 }; written = subst (Prints before now) found.2 written }
+    record { contents = found.0; is = record { bytes = bytes; held = held; is = found.1 }; written = subst (WritesOutput before now) found.2 written }
 
-pub breaks : (file : FileOf) (form : Form) (bytes text : List ℕ) (told : RunFault) (before now : OutputOf) → told ≡ faults.Output → MayHold file bytes → result_map_both (inspection_in form) (λ e. e) (package_of bytes) ≡ Ok text → FailsToPrint before now text
+pub breaks : (file : FileOf) (form : Form) (bytes text : List ℕ) (told : RunFault) (before now : OutputOf) → told ≡ faults.Output → MayHold file bytes → result_map_both (inspection_in form) (λ e. e) (package_of bytes) ≡ Ok text → FailsToWriteOutput before now text
     → BreaksInspection file form told before now
 breaks file form bytes text told before now e held is begun =
     let found = read form (package_of bytes) text is in
-    record { is = e; contents = found.0; read = record { bytes = bytes; held = held; is = found.1 }; begun = subst (FailsToPrint before now) found.2 begun }
+    record { is = e; contents = found.0; read = record { bytes = bytes; held = held; is = found.1 }; begun = subst (FailsToWriteOutput before now) found.2 begun }

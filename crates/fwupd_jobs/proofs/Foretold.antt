@@ -10,7 +10,7 @@ use Rattle.fw_script.specs.declared.config.DeviceConfig.{DeviceConfig}
 use Rattle.ua_core.specs.Lent.{package_at}
 use Rattle.fw_json.specs.Forms.{plan_in}
 use Rattle.fwupd_base.specs.declared.forms.Form.{Form}
-use Rattle.fwupd_watch.specs.Outputs.{FailsToPrint, OutputOf}
+use Rattle.fwupd_watch.specs.Outputs.{FailsToWriteOutput, OutputOf}
 use Rattle.fwupd_jobs.specs.Planned.{Forecasts, PlanEnds}
 use Rattle.fwupd_jobs.specs.Setups.{ArePacked, Says}
 use Rattle.fwupd_watch.specs.Files.{FileOf}
@@ -58,5 +58,5 @@ package_there files number count names contents slice ps lent packed same read a
 
 -- It isn't written whole.
 pub plan_breaks : (files : List ℕ → FileOf) (path : List ℕ) (number : ℕ) (form : Form) (text : List ℕ) (told : RunFault) (before now : OutputOf) → told ≡ faults.Output → Forecasts files path number form text
-    → FailsToPrint before now text → PlanEnds files path number form told before now
+    → FailsToWriteOutput before now text → PlanEnds files path number form told before now
 plan_breaks files path number form text told before now is forecasts begun = inl (record { is = is; text = text; forecasts = forecasts; begun = begun })

@@ -5,13 +5,13 @@ use Rattle.std.specs.List.{AllByRecursion}
 use Rattle.std.proofs.Math.Seq.{take-length}
 use Rattle.std.proofs.lemmas.Option.{slice_get-get_or, slice_get-map}
 use Rattle.fw_edge.specs.Ledgers.{OneFailed}
-use Rattle.fw_edge.specs.Links.{Rises}
+use Rattle.fw_edge.specs.Links.{CountsOne}
 use Rattle.fw_node.specs.Nodes.{DeviceNodeOf}
 use Rattle.fw_steps.specs.Worlds.{SiteOf, WorldOf}
 use Rattle.mctp_wire.specs.declared.unit.Unit.{«Unit»}
-use Rattle.fwupd_jobs.specs.Updated.{AreLinked, IsLost, IsUnlinked, NamesLost, TellsLost}
+use Rattle.fwupd_jobs.specs.Updated.{HaveLinks, IsLost, IsUnlinked, NamesLost, TellsLost}
 use Rattle.fwupd_watch.proofs.Started.{node_there, take_next}
-use Rattle.fwupd_watch.specs.Running.{IsCaused, IsUnwritten, WatchOf}
+use Rattle.fwupd_watch.specs.Running.{IsCaused, HasObserverFault, ObserverOf}
 use Rattle.fwupd_watch.specs.declared.faults.RunFault.{RunFault}
 use Rattle.fwupd_watch.specs.declared.faults.RunFault.TheVariants as told
 
@@ -25,8 +25,8 @@ unlinked_at w lacks place device n fault at is (inr h) =
     inr (record { place = place; site = there.0; at = there.1; is = h.0 ∙ ap (λ d. told.Socket d) own; lacking = subst (λ d. lacks d ≡ true) own h.1 })
 
 -- a link more, that of the device at its place
-linked_append : {L : Type 0} (IsTo : «Unit» → ℕ → L → Type 0) (xs : List SiteOf) (links : List L) (x : SiteOf) (link : L) → IsTo x.node.half.unit x.node.endpoint.eid link → AreLinked IsTo xs links
-    → AreLinked IsTo (xs ++ x ∷ []) (links ++ link ∷ [])
+linked_append : {L : Type 0} (IsTo : «Unit» → ℕ → L → Type 0) (xs : List SiteOf) (links : List L) (x : SiteOf) (link : L) → IsTo x.node.half.unit x.node.endpoint.eid link → HaveLinks IsTo xs links
+    → HaveLinks IsTo (xs ++ x ∷ []) (links ++ link ∷ [])
 linked_append IsTo [] [] x link own h = (own, tt)
 linked_append IsTo [] (l ∷ links) x link own h = absurd h
 linked_append IsTo (y ∷ xs) [] x link own h = absurd h
@@ -34,18 +34,18 @@ linked_append IsTo (y ∷ xs) (l ∷ links) x link own h = (h.0, linked_append I
 
 pub linked_next : {L : Type 0} (IsTo : «Unit» → ℕ → L → Type 0) (sites : List SiteOf) (links longer : List L) (link : L) (place device : ℕ) (unit : «Unit») (n : DeviceNodeOf)
     → option_map (λ x. x.node) (slice_get sites place) ≡ Some n → unit ≡ n.half.unit → device ≡ n.endpoint.eid → IsTo unit device link → longer ≡ links ++ link ∷ []
-    → AreLinked IsTo (take place sites) links → AreLinked IsTo (take (place + 1) sites) longer
+    → HaveLinks IsTo (take place sites) links → HaveLinks IsTo (take (place + 1) sites) longer
 linked_next IsTo sites links longer link place device unit n at is_unit is own all h =
     let there = node_there (slice_get sites place) n at in
     let its : IsTo there.0.node.half.unit there.0.node.endpoint.eid link =
     subst (λ m. IsTo m.half.unit m.endpoint.eid link) (sym there.2) (subst (λ d. IsTo n.half.unit d link) is (subst (λ u. IsTo u device link) is_unit own)) in
     let next : suc place ≡ place + 1 = omega arith in
-    subst (λ ls. AreLinked IsTo (take (place + 1) sites) ls) (sym all)
-    (subst (λ k. AreLinked IsTo (take k sites) (links ++ link ∷ [])) next
-    (subst (λ xs. AreLinked IsTo xs (links ++ link ∷ [])) (sym (take_next sites place there.0 there.1)) (linked_append IsTo (take place sites) links there.0 link its h)))
+    subst (λ ls. HaveLinks IsTo (take (place + 1) sites) ls) (sym all)
+    (subst (λ k. HaveLinks IsTo (take k sites) (links ++ link ∷ [])) next
+    (subst (λ xs. HaveLinks IsTo xs (links ++ link ∷ [])) (sym (take_next sites place there.0 there.1)) (linked_append IsTo (take place sites) links there.0 link its h)))
 
-pub linked_all : {L : Type 0} (IsTo : «Unit» → ℕ → L → Type 0) (sites : List SiteOf) (links : List L) (place : ℕ) → place ≡ length sites → AreLinked IsTo (take place sites) links → AreLinked IsTo sites links
-linked_all IsTo sites links place all h = subst (λ xs. AreLinked IsTo xs links) (ap (λ n. take n sites) all ∙ take-length sites) h
+pub linked_all : {L : Type 0} (IsTo : «Unit» → ℕ → L → Type 0) (sites : List SiteOf) (links : List L) (place : ℕ) → place ≡ length sites → HaveLinks IsTo (take place sites) links → HaveLinks IsTo sites links
+linked_all IsTo sites links place all h = subst (λ xs. HaveLinks IsTo xs links) (ap (λ n. take n sites) all ∙ take-length sites) h
 
 some_failures : (count : ℕ) → 0 < count → (n : ℕ) × (count ≡ suc n)
 some_failures zero more = absurd (omega arith)
@@ -71,7 +71,7 @@ lost_at w failures links link place device count n lt is told more at named none
     }
 
 -- where no link has failed, none did just now
-rises_some : (o n : ℕ) → Rises o n → n ≡ 0 → ⊥
+rises_some : (o n : ℕ) → CountsOne o n → n ≡ 0 → ⊥
 rises_some o n (inl more) none = absurd (omega (arith, none, more))
 rises_some o n (inr last) none = absurd (let own = last.0 in let same = last.1 in omega (arith, none, own, same))
 
@@ -113,6 +113,6 @@ lost_told failures w olds news lost devices failed told = elim (told devices) [
 ]
 
 -- what it was told changes nothing of why a run doesn't go on
-pub caused_still : (number : ℕ) (w v : WorldOf) (fault : RunFault) (before now : WatchOf) → now.fault ≡ before.fault → now.has_ended ≡ before.has_ended → IsCaused number w v fault before → IsCaused number w v fault now
+pub caused_still : (number : ℕ) (w v : WorldOf) (fault : RunFault) (before now : ObserverOf) → now.fault ≡ before.fault → now.has_ended ≡ before.has_ended → IsCaused number w v fault before → IsCaused number w v fault now
 caused_still number w v fault before now same ended h =
-    record { broken = h.broken; stopped = h.stopped; unwritten = subst (IsUnwritten fault) (sym same) h.unwritten; let_end = ended ∙ h.let_end }
+    record { broken = h.broken; stopped = h.stopped; unwritten = subst (HasObserverFault fault) (sym same) h.unwritten; let_end = ended ∙ h.let_end }

@@ -16,12 +16,12 @@ use Rattle.fw_script.specs.declared.faults.ScriptFault.{ScriptFault}
 use Rattle.fw_steps.specs.Headline.{new_world}
 use Rattle.fw_steps.specs.Worlds.{WorldOf}
 use Rattle.fw_setup.specs.Nodes.{nodes_made}
-use Rattle.fw_setup.specs.Stocks.{AreStocked, IsUnopened, StoresOf}
+use Rattle.fw_setup.specs.Stocks.{HaveStoredImages, IsUnopened, StoresOf}
 use Rattle.fw_setup.specs.declared.stores.Unopened.{Unopened}
 use Rattle.fwupd_watch.specs.Apart.{IsApart, IsBarred}
-use Rattle.fwupd_jobs.specs.Updated.{IsNamed, IsWatched, LacksTrace}
-use Rattle.fwupd_watch.specs.Running.{ShowOf, WatchOf}
-use Rattle.fwupd_jobs.specs.Setups.{AreDevices, ArePackages, ArePacked, IsPacked, IsSetup, IsUnreadable, IsUnsaid, NumberedSetupFails, PackageFails, PackagesFail, Says, SourceOf, StoresFail, TellsUnopened, TextFails, TextFault, misread_by, misread_told, unread_told}
+use Rattle.fwupd_jobs.specs.Updated.{IsNumberedSetup, IsObservedSetup, LacksTrace}
+use Rattle.fwupd_watch.specs.Running.{ShowOf, ObserverOf}
+use Rattle.fwupd_jobs.specs.Setups.{AreDevices, ArePackages, ArePacked, IsPacked, IsSetup, IsUnreadable, HasNoText, NumberedSetupFails, PackageFails, PackagesFail, Says, SourceOf, StoresFail, TellsUnopened, TextFails, TextFault, misread_by, run_fault_of_misread, run_fault_of_unread}
 use Rattle.fwupd_watch.specs.Files.{FileOf, MayHold}
 use Rattle.fwupd_watch.specs.declared.faults.RunFault.{RunFault}
 use Rattle.fwupd_watch.specs.declared.faults.RunFault.TheVariants as faults
@@ -30,7 +30,7 @@ use Rattle.fwupd_watch.specs.declared.files.FileFault.TheVariants as unread
 
 -- the fault that is told of a text is its first
 pub unsaid_so : {A : Type 0} (read : List ℕ → Result A ScriptFault) (path text : List ℕ) (file : FileOf) (fault : ScriptFault) (told : RunFault)
-    → TextFault path fault told → MayHold file text → (fault.cause ≢ causes.Memory → read text ≡ Err fault) → IsUnsaid read path file told
+    → TextFault path fault told → MayHold file text → (fault.cause ≢ causes.Memory → read text ≡ Err fault) → HasNoText read path file told
 unsaid_so read path text file fault (faults.Answer f) h held is = absurd h
 unsaid_so read path text file fault (faults.Unreadable name) h held is = absurd h
 unsaid_so read path text file fault (faults.Package f) h held is = absurd h
@@ -52,7 +52,7 @@ unsaid_so read path text file fault faults.Output h held is = absurd h
 unsaid_so read path text file fault faults.Memory h held is = absurd h
 
 -- a file's fault is told by its name
-pub told_unread : {E : Type 0} (path : List ℕ) (name : Result (String Global) E) (fault : FileFault) (told : RunFault) → IfOk name (λ t. string_bytes t ≡ path) → told ≡ unread_told name fault
+pub told_unread : {E : Type 0} (path : List ℕ) (name : Result (String Global) E) (fault : FileFault) (told : RunFault) → IfOk name (λ t. string_bytes t ≡ path) → told ≡ run_fault_of_unread name fault
     → (told ≡ faults.Memory) ⊎ ((fault ≡ unread.Unreadable) × IsUnreadable path told)
 told_unread path (Ok name) unread.Unreadable told is e = inr (refl, subst (IsUnreadable path) (sym e) is)
 told_unread path (Ok name) unread.Memory told is e = inl e
@@ -73,7 +73,7 @@ told_named E path name causes.Limit fault told named is e = inr (subst (TextFaul
 told_named E path name causes.Missing fault told named is e = inr (subst (TextFault path fault) (sym e) (named, refl, λ memory. absurd (cc)))
 told_named E path name causes.Memory fault told named is e = inl e
 
-pub told_misread : (E : Type 0) (path : List ℕ) (name : Result (String Global) E) (fault : ScriptFault) (told : RunFault) → IfOk name (λ t. string_bytes t ≡ path) → told ≡ misread_told name fault
+pub told_misread : (E : Type 0) (path : List ℕ) (name : Result (String Global) E) (fault : ScriptFault) (told : RunFault) → IfOk name (λ t. string_bytes t ≡ path) → told ≡ run_fault_of_misread name fault
     → (told ≡ faults.Memory) ⊎ TextFault path fault told
 told_misread E path (Ok name) fault told named e = told_named E path name fault.cause fault told named refl e
 told_misread E path (Err x) fault told named e = inl e
@@ -241,7 +241,7 @@ pub none_stocked : (stores : List ℕ → StoresOf) (root : Option (List ℕ)) (
 none_stocked stores root devices e = subst (λ r. AreDevices (option_map stores r) devices devices) (sym e) refl
 
 -- and with one they are those that its stores make of them
-pub some_stocked : (stores : List ℕ → StoresOf) (root : Option (List ℕ)) (folder : List ℕ) (configured devices : List DeviceConfigOf) → root ≡ Some folder → AreStocked (stores folder) configured devices
+pub some_stocked : (stores : List ℕ → StoresOf) (root : Option (List ℕ)) (folder : List ℕ) (configured devices : List DeviceConfigOf) → root ≡ Some folder → HaveStoredImages (stores folder) configured devices
     → AreDevices (option_map stores root) configured devices
 some_stocked stores root folder configured devices e h = subst (λ r. AreDevices (option_map stores r) configured devices) (sym e) h
 
@@ -268,7 +268,7 @@ as_named config = length-map config.packages.items (λ p. string_bytes p) ∙ sy
 
 -- The world of a configuration that names these packages, one of which has this number.
 pub record NamedWith (files : List ℕ → FileOf) (source : SourceOf) (number : ℕ) (w : WorldOf) (names : List (List ℕ)) : Type 0 where
-  pub named : IsNamed files source number w
+  pub named : IsNumberedSetup files source number w
   pub is : named.setup.config.packages ≡ names
 
 named_up : (files : List ℕ → FileOf) (source : SourceOf) (number : ℕ) (config : Config) (w : WorldOf) (s : IsSetup files source w) → s.config ≡ config_seen config → 1 ≤ number → number ≤ config.packages.len
@@ -293,21 +293,21 @@ unfolding set_up
 named_with files source number config ps packs devices w says are stocked lent is counted there =
     named_up files source number config w (set_up files source config ps packs devices w says are stocked lent is) refl counted there
 
-same_paths : (files : List ℕ → FileOf) (source : SourceOf) (number : ℕ) (w : WorldOf) (named : IsNamed files source number w) (path : List ℕ) (names : List (List ℕ)) → source.path ≡ path
+same_paths : (files : List ℕ → FileOf) (source : SourceOf) (number : ℕ) (w : WorldOf) (named : IsNumberedSetup files source number w) (path : List ℕ) (names : List (List ℕ)) → source.path ≡ path
     → named.setup.config.packages ≡ names → source.path ∷ named.setup.config.packages ≡ path ∷ names
 same_paths files source number w named path names e same = ap (λ p. p ∷ named.setup.config.packages) e ∙ ap (λ ns. path ∷ ns) same
 
 -- where the packets are written over none of them
-pub watched_by : (files : List ℕ → FileOf) (source : SourceOf) (number : ℕ) (show : ShowOf) (w : WorldOf) (named : IsNamed files source number w) (path : List ℕ) (names : List (List ℕ))
-    → source.path ≡ path → named.setup.config.packages ≡ names → IsApart files show (path ∷ names) → IsWatched files source number show w
+pub watched_by : (files : List ℕ → FileOf) (source : SourceOf) (number : ℕ) (show : ShowOf) (w : WorldOf) (named : IsNumberedSetup files source number w) (path : List ℕ) (names : List (List ℕ))
+    → source.path ≡ path → named.setup.config.packages ≡ names → IsApart files show (path ∷ names) → IsObservedSetup files source number show w
 watched_by files source number show w named path names e same apart = record {
   named = named;
   apart = subst (IsApart files show) (sym (same_paths files source number w named path names e same)) apart;
 }
 
 -- where what looks on doesn't begin
-pub barred_by : (files : List ℕ → FileOf) (source : SourceOf) (number : ℕ) (show : ShowOf) (refuses : List ℕ → Bool) (told : RunFault) (watched : WatchOf) (w : WorldOf)
-    (named : IsNamed files source number w) (path : List ℕ) (names : List (List ℕ)) → source.path ≡ path → named.setup.config.packages ≡ names
+pub barred_by : (files : List ℕ → FileOf) (source : SourceOf) (number : ℕ) (show : ShowOf) (refuses : List ℕ → Bool) (told : RunFault) (watched : ObserverOf) (w : WorldOf)
+    (named : IsNumberedSetup files source number w) (path : List ℕ) (names : List (List ℕ)) → source.path ≡ path → named.setup.config.packages ≡ names
     → (told ≡ faults.Memory) ⊎ IsBarred files refuses show (path ∷ names) told watched → (told ≡ faults.Memory) ⊎ LacksTrace files source number show refuses told watched
 barred_by files source number show refuses told watched w named path names e same (inl memory) = inl memory
 barred_by files source number show refuses told watched w named path names e same (inr h) = inr (record {

@@ -4,21 +4,21 @@ use Rattle.std.proofs.Math.Seq.{drop-cons}
 use Rattle.std.proofs.lemmas.List.{length-drop, take_all, take_more}
 use Rattle.std.proofs.lemmas.Option.{slice_get_read}
 use Rattle.fw_edge.proofs.Going.{run_append}
-use Rattle.fw_edge.specs.Links.{Rises}
-use Rattle.fw_steps.specs.Headline.{Leads, Run}
+use Rattle.fw_edge.specs.Links.{CountsOne}
+use Rattle.fw_steps.specs.Headline.{StepsTo, Run}
 use Rattle.fw_steps.specs.Worlds.{WorldOf}
-use Rattle.fw_steps.specs.Replays.{Refuses}
+use Rattle.fw_steps.specs.Replays.{RefusesStep}
 use Rattle.fw_steps.specs.declared.step.Step.{Step}
 use Rattle.fw_steps.specs.declared.step.StepFault.{StepFault}
 use Rattle.std.specs.List.{slice_get}
 
 -- a count that rises from one that isn't its last value
-pub rises_to : (old new i : ℕ) → old ≡ i → i < 2 ^ 64 - 1 → Rises old new → new ≡ i + 1
+pub rises_to : (old new i : ℕ) → old ≡ i → i < 2 ^ 64 - 1 → CountsOne old new → new ≡ i + 1
 rises_to old new i is few (inl more) = more ∙ ap (λ n. n + 1) is
 rises_to old new i is few (inr last) = absurd (let top : old ≡ 2 ^ 64 - 1 = last.0 in omega arith)
 
 -- one step more
-pub step_taken : (w v u : WorldOf) (ss : List Step) (i : ℕ) (s : Step) → i < length ss → Run w (take i ss) v → Leads v (get_or ss i s) u → Run w (take (i + 1) ss) u
+pub step_taken : (w v u : WorldOf) (ss : List Step) (i : ℕ) (s : Step) → i < length ss → Run w (take i ss) v → StepsTo v (get_or ss i s) u → Run w (take (i + 1) ss) u
 step_taken w v u ss i s lt h k = subst (λ xs. Run w xs u) (sym (take_more ss i s lt)) (run_append w v u (take i ss) (get_or ss i s ∷ []) h (u, k, refl))
 
 -- the first of those that are left
@@ -35,14 +35,14 @@ next_step all i s rest h =
     record { within = within; here = cc; left = cc }
 
 -- one step more of those that are left
-pub stepped_on : (w v u : WorldOf) (all : List Step) (i : ℕ) (s : Step) (rest : List Step) → Run w (take i all) v → drop i all ≡ s ∷ rest → Leads v s u → Run w (take (i + 1) all) u
+pub stepped_on : (w v u : WorldOf) (all : List Step) (i : ℕ) (s : Step) (rest : List Step) → Run w (take i all) v → drop i all ≡ s ∷ rest → StepsTo v s u → Run w (take (i + 1) all) u
 stepped_on w v u all i s rest run h leads =
     let next = next_step all i s rest h in
-    step_taken w v u all i s next.within run (subst (λ x. Leads v x u) next.here leads)
+    step_taken w v u all i s next.within run (subst (λ x. StepsTo v x u) next.here leads)
 
 -- the first of those that are left isn't taken
-pub stopped_at : (w v : WorldOf) (all : List Step) (i : ℕ) (s : Step) (rest : List Step) (fault : StepFault) → Run w (take i all) v → drop i all ≡ s ∷ rest → Refuses v s fault
-    → (i < length all) × Run w (take i all) v × IfSome (slice_get all i) (λ s. Refuses v s fault)
+pub stopped_at : (w v : WorldOf) (all : List Step) (i : ℕ) (s : Step) (rest : List Step) (fault : StepFault) → Run w (take i all) v → drop i all ≡ s ∷ rest → RefusesStep v s fault
+    → (i < length all) × Run w (take i all) v × IfSome (slice_get all i) (λ s. RefusesStep v s fault)
 stopped_at w v all i s rest fault run h refused =
     let next = next_step all i s rest h in
     let found : slice_get all i ≡ Some s = slice_get_read all (length all) i s refl next.within next.here in

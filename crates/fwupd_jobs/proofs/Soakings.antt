@@ -8,15 +8,15 @@ use Rattle.fw_script.specs.Configs.{config_of}
 use Rattle.fw_script.specs.Seen.{config_seen, device_of}
 use Rattle.fw_script.specs.declared.config.Config.{Config}
 use Rattle.fw_script.specs.declared.config.DeviceConfig.{DeviceConfig}
-use Rattle.fw_soak.specs.Summaries.{IsSoaked}
+use Rattle.fw_soak.specs.Summaries.{SoakOk}
 use Rattle.fw_soak.specs.SummaryTexts.{summary_text}
 use Rattle.fw_soak.specs.declared.summary.Summary.{Summary}
 use Rattle.fw_steps.specs.declared.step.Step.{Step}
 use Rattle.fwupd_words.specs.declared.asked.SoakOrder.{SoakOrder}
-use Rattle.fwupd_watch.specs.Outputs.{FailsToPrint, OutputOf, Prints}
+use Rattle.fwupd_watch.specs.Outputs.{FailsToWriteOutput, OutputOf, WritesOutput}
 use Rattle.fwupd_jobs.specs.Setups.{ArePacked, Says}
 use Rattle.fwupd_watch.specs.Files.{FileOf, IsApartFrom}
-use Rattle.fwupd_jobs.specs.Soaked.{IsJudged, SoakEnds, Soaks, SoaksClean, setup_said}
+use Rattle.fwupd_jobs.specs.Soaked.{ReportsViolation, SoakEnds, Soaks, SoaksClean, setup_of_config}
 use Rattle.fwupd_watch.specs.declared.faults.RunFault.{RunFault}
 use Rattle.fwupd_watch.specs.declared.faults.RunFault.TheVariants as faults
 use Rattle.fwupd_jobs.proofs.Packed.{packages_so, through}
@@ -26,7 +26,7 @@ pub soaks_so : (files : List ℕ → FileOf) (path : List ℕ) (config : Config)
     (devices : List DeviceConfig) (file : Option (List ℕ)) (runs : ℕ) (sum : Summary) (kept : Option (List Step)) → Says config_of (files path) (config_seen config) → names ≡ config.packages.items
     → ArePacked files (map (λ p. string_bytes p) names) (map (λ f. f.items) contents) → IfSome file (λ p. AllByRecursion (IsApartFrom files p) (path ∷ map (λ s. string_bytes s) config.packages.items)) → slice ≡ contents → map (λ p. Ok p) ps ≡ map (λ f. package_of f.items) slice
     → packs ≡ ps → devices ≡ config.devices.items
-    → IsSoaked (record { agent = config.agent; unit = config.unit; devices = map device_of devices; packages = packs }) runs sum kept → Soaks files path file runs sum kept
+    → SoakOk (record { agent = config.agent; unit = config.unit; devices = map device_of devices; packages = packs }) runs sum kept → Soaks files path file runs sum kept
 soaks_so files path config names contents slice ps packs devices file runs sum kept says named packed apart same read lent all soaked = record {
   config = config_seen config;
   packages = ps;
@@ -37,8 +37,8 @@ soaks_so files path config names contents slice ps packs devices file runs sum k
       (read ∙ ap (map (λ f. package_of f.items)) same ∙ through contents);
   apart = apart;
   soaked =
-      subst (λ qs. IsSoaked (setup_said (config_seen config) qs) runs sum kept) lent
-      (subst (λ ds. IsSoaked (record { agent = config.agent; unit = config.unit; devices = map device_of ds; packages = packs }) runs sum kept) all soaked);
+      subst (λ qs. SoakOk (setup_of_config (config_seen config) qs) runs sum kept) lent
+      (subst (λ ds. SoakOk (record { agent = config.agent; unit = config.unit; devices = map device_of ds; packages = packs }) runs sum kept) all soaked);
 }
 
 -- what is made of nothing alone is nothing
@@ -48,7 +48,7 @@ unmapped f (Some x) e = absurd (cc)
 
 -- none went wrong
 pub ends_clean : (files : List ℕ → FileOf) (path : List ℕ) (order : SoakOrder) (file : Option (List ℕ)) (sum : Summary) (kept : Option (List Step)) (before now : OutputOf) → kept ≡ None
-    → Soaks files path file order.runs sum kept → sum.violations ≡ 0 → Prints before now (summary_text sum) → SoaksClean files path order file before now
+    → Soaks files path file order.runs sum kept → sum.violations ≡ 0 → WritesOutput before now (summary_text sum) → SoaksClean files path order file before now
 ends_clean files path order file sum kept before now e h none written = record {
   sum = sum;
   soaks = subst (Soaks files path file order.runs sum) e h;
@@ -58,7 +58,7 @@ ends_clean files path order file sum kept before now e h none written = record {
 
 -- one did
 pub ends_wrong : (files : List ℕ → FileOf) (path : List ℕ) (order : SoakOrder) (file : Option (List ℕ)) (told : RunFault) (is_known : Bool) (held : List ℕ → Option (List ℕ)) (sum : Summary)
-    (kept : Option (List Step)) (before now : OutputOf) → IsJudged kept file told is_known held → Soaks files path file order.runs sum kept → Prints before now (summary_text sum)
+    (kept : Option (List Step)) (before now : OutputOf) → ReportsViolation kept file told is_known held → Soaks files path file order.runs sum kept → WritesOutput before now (summary_text sum)
     → SoakEnds files path order file told is_known held before now
 ends_wrong files path order file told is_known held sum None before now judged h written = absurd judged
 ends_wrong files path order file told is_known held sum (Some steps) before now judged h written =
@@ -66,7 +66,7 @@ ends_wrong files path order file told is_known held sum (Some steps) before now 
 
 -- what is said isn't written whole
 pub ends_broken : (files : List ℕ → FileOf) (path : List ℕ) (order : SoakOrder) (file : Option (List ℕ)) (told : RunFault) (is_known : Bool) (held : List ℕ → Option (List ℕ)) (sum : Summary)
-    (kept : Option (List Step)) (before now : OutputOf) → told ≡ faults.Output → Soaks files path file order.runs sum kept → FailsToPrint before now (summary_text sum)
+    (kept : Option (List Step)) (before now : OutputOf) → told ≡ faults.Output → Soaks files path file order.runs sum kept → FailsToWriteOutput before now (summary_text sum)
     → SoakEnds files path order file told is_known held before now
 ends_broken files path order file told is_known held sum kept before now is h begun =
     inr (inl (record { is = is; sum = sum; kept = kept; soaks = h; begun = begun }))

@@ -9,15 +9,15 @@ use Rattle.fw_steps.specs.Headline.{IsOpeningWorld, IsSafeWorld, PacketsAreSafe}
 use Rattle.fw_steps.specs.Worlds.{WorldOf}
 use Rattle.fw_steps.specs.declared.step.Step.{Step}
 use Rattle.fw_steps.specs.declared.step.StepFault.{StepFault}
-use Rattle.fwupd_jobs.specs.Replayed.{IsReplayed, IsReport, Leaves, ReplayEnds, Reports, ReportsReplay}
-use Rattle.fwupd_watch.specs.Histories.{AreKeptUpStill}
-use Rattle.fwupd_watch.specs.Outputs.{FailsToPrint, OutputOf, Prints}
+use Rattle.fwupd_jobs.specs.Replayed.{IsReplayed, IsReport, LeavesWorld, ReplayEnds, Reports, ReportsReplay}
+use Rattle.fwupd_watch.specs.Histories.{MayHaveHistoryLines}
+use Rattle.fwupd_watch.specs.Outputs.{FailsToWriteOutput, OutputOf, WritesOutput}
 use Rattle.fwupd_jobs.specs.Promises.{IsSafeSince}
-use Rattle.fwupd_watch.specs.Recordings.{IsRecorded}
-use Rattle.fwupd_watch.specs.declared.running.WatchFault.{WatchFault}
-use Rattle.fwupd_jobs.specs.Updated.{DrivingEnds, IsUnlinked, IsWatched, LacksLink, LacksTrace, NamesLost, UpdateEnds}
+use Rattle.fwupd_watch.specs.Recordings.{HasRecordedSteps}
+use Rattle.fwupd_watch.specs.declared.running.ObserverFault.{ObserverFault}
+use Rattle.fwupd_jobs.specs.Updated.{DrivingEnds, IsUnlinked, IsObservedSetup, LacksLink, LacksTrace, NamesLost, UpdateEnds}
 use Rattle.fwupd_watch.specs.Apart.{IsApart, IsBarred}
-use Rattle.fwupd_watch.specs.Running.{IsBroken, ShowOf, StepsLead, StepsSeen, WatchOf, shown_of, starts_of, told_by}
+use Rattle.fwupd_watch.specs.Running.{IsBrokenRun, ShowOf, RunsSteps, RunsStepsSeen, ObserverOf, shown_of, starts_of, run_fault_of_observer}
 use Rattle.fwupd_watch.specs.Files.{FileOf}
 use Rattle.fwupd_jobs.specs.Setups.{IsSetup, LacksPackage, NumberedSetupFails, Says, SourceOf, StoresFail, TellsStore, TextFails}
 use Rattle.fw_edge.specs.declared.driving.EdgeFault.TheVariants as edges
@@ -25,17 +25,17 @@ use Rattle.fwupd_watch.specs.declared.faults.RunFault.{RunFault}
 use Rattle.fwupd_watch.specs.declared.faults.RunFault.TheVariants as faults
 
 -- the world that steps lead to is safe
-pub safe_reached : (number : ℕ) (w v : WorldOf) → PacketsAreSafe → IsOpeningWorld w → StepsLead number w v → IsSafeSince w v
+pub safe_reached : (number : ℕ) (w v : WorldOf) → PacketsAreSafe → IsOpeningWorld w → RunsSteps number w v → IsSafeSince w v
 safe_reached number w v law opens h = record { begins = opens; safe = law w v (starts_of number (take h.started w.sites) ++ h.steps) opens h.run }
 
 -- and so is the one that a replay leaves
-safe_left : (w v : WorldOf) (steps : List Step) (fault : Option (ℕ × StepFault)) → PacketsAreSafe → IsOpeningWorld w → Leaves w steps fault v → IsSafeWorld w v
+safe_left : (w v : WorldOf) (steps : List Step) (fault : Option (ℕ × StepFault)) → PacketsAreSafe → IsOpeningWorld w → LeavesWorld w steps fault v → IsSafeWorld w v
 safe_left w v steps None law opens h = law w v steps opens h
 safe_left w v steps (Some f) law opens h = law w v (take f.0 steps) opens h.1
 
 -- what a replay leaves, and what is promised of it
 pub replayed_by : (w x v : WorldOf) (steps : List Step) (fault : Option (ℕ × StepFault)) (form : Form) (text : List ℕ) → x ≡ w → IsOpeningWorld x → PacketsAreSafe
-    → Leaves x steps fault v → text ≡ report_in form v → IsReplayed w steps fault form text
+    → LeavesWorld x steps fault v → text ≡ report_in form v → IsReplayed w steps fault form text
 replayed_by w x v steps fault form text is opens law left report =
     subst (λ z. IsReplayed z steps fault form text) is (record {
       world = v;
@@ -45,13 +45,13 @@ replayed_by w x v steps fault form text is opens law left report =
     })
 
 -- what looks on doesn't begin
-pub unbegun : (files : List ℕ → FileOf) (source : SourceOf) (number : ℕ) (show : ShowOf) (refuses : List ℕ → Bool) (lacks : ℕ → Bool) (told : RunFault) (watched : WatchOf) (before : OutputOf)
+pub unbegun : (files : List ℕ → FileOf) (source : SourceOf) (number : ℕ) (show : ShowOf) (refuses : List ℕ → Bool) (lacks : ℕ → Bool) (told : RunFault) (watched : ObserverOf) (before : OutputOf)
     → (told ≡ faults.Memory) ⊎ LacksTrace files source number show refuses told watched → UpdateEnds files source number show refuses lacks told watched before before
 unbegun files source number show refuses lacks told watched before (inl e) = inr (inr (record { kept = refl; cause = inl e }))
 unbegun files source number show refuses lacks told watched before (inr h) = inr (inr (record { kept = refl; cause = inr (inr (inr (inr (inl h)))) }))
 
 -- no link is opened
-unopened : (files : List ℕ → FileOf) (source : SourceOf) (number : ℕ) (show : ShowOf) (refuses : List ℕ → Bool) (lacks : ℕ → Bool) (w : WorldOf) (told : RunFault) (watched : WatchOf) → IsWatched files source number show w
+unopened : (files : List ℕ → FileOf) (source : SourceOf) (number : ℕ) (show : ShowOf) (refuses : List ℕ → Bool) (lacks : ℕ → Bool) (w : WorldOf) (told : RunFault) (watched : ObserverOf) → IsObservedSetup files source number show w
     → (told ≡ faults.Memory) ⊎ IsUnlinked w lacks told
     → (told ≡ faults.Memory)
     ⊎ (NumberedSetupFails files source.path number told
@@ -60,9 +60,9 @@ unopened files source number show refuses lacks w told watched begins (inl e) = 
 unopened files source number show refuses lacks w told watched begins (inr u) = inr (inr (inr (inr (inr (record { world = w; begins = begins; unlinked = u })))))
 
 -- a run over links that doesn't end well
-pub update_ends : (files : List ℕ → FileOf) (source : SourceOf) (number : ℕ) (show : ShowOf) (refuses : List ℕ → Bool) (lacks : ℕ → Bool) (w v : WorldOf) (told : RunFault) (watched : WatchOf) (before now : OutputOf)
-    → IsWatched files source number show w → watched.shows ≡ shown_of show → StepsLead number w v → IsSafeSince w v → StepsSeen number w v watched.seen → (told ≡ faults.Edge edges.Frame → NamesLost v watched.lost)
-    → (IsBroken told → watched.fault ≡ None → IfSome watched.recording (IsRecorded w v)) → (IsBroken told → AreKeptUpStill watched.history v.history) → DrivingEnds number show.form lacks w v told watched before now
+pub update_ends : (files : List ℕ → FileOf) (source : SourceOf) (number : ℕ) (show : ShowOf) (refuses : List ℕ → Bool) (lacks : ℕ → Bool) (w v : WorldOf) (told : RunFault) (watched : ObserverOf) (before now : OutputOf)
+    → IsObservedSetup files source number show w → watched.shows ≡ shown_of show → RunsSteps number w v → IsSafeSince w v → RunsStepsSeen number w v watched.seen → (told ≡ faults.Edge edges.Frame → NamesLost v watched.lost)
+    → (IsBrokenRun told → watched.fault ≡ None → IfSome watched.recording (HasRecordedSteps w v)) → (IsBrokenRun told → MayHaveHistoryLines watched.history v.history) → DrivingEnds number show.form lacks w v told watched before now
     → UpdateEnds files source number show refuses lacks told watched before now
 update_ends files source number show refuses lacks w v told watched before now begins shown reached promised sees lost recorded kept (inl h) =
     inl (record { world = w; begins = begins; shown = shown; left = v; reached = reached; promised = promised; caused = h.0; sees = sees; lost = lost; recorded = recorded h.0.broken; kept_up = kept h.0.broken; written = h.1 })
@@ -72,25 +72,25 @@ update_ends files source number show refuses lacks w v told watched before now b
     inr (inr (record { kept = h.1; cause = unopened files source number show refuses lacks w told watched begins h.0 }))
 
 -- the store of a device isn't opened
-pub stores_end : (files : List ℕ → FileOf) (source : SourceOf) (number : ℕ) (show : ShowOf) (refuses : List ℕ → Bool) (lacks : ℕ → Bool) (told : RunFault) (watched : WatchOf) (before : OutputOf)
+pub stores_end : (files : List ℕ → FileOf) (source : SourceOf) (number : ℕ) (show : ShowOf) (refuses : List ℕ → Bool) (lacks : ℕ → Bool) (told : RunFault) (watched : ObserverOf) (before : OutputOf)
     → (told ≡ faults.Memory) ⊎ StoresFail files source told → UpdateEnds files source number show refuses lacks told watched before before
 stores_end files source number show refuses lacks told watched before (inl e) = inr (inr (record { kept = refl; cause = inl e }))
 stores_end files source number show refuses lacks told watched before (inr h) = inr (inr (record { kept = refl; cause = inr (inr (inr (inl h))) }))
 
-pub stores_end_replay : (files : List ℕ → FileOf) (config : SourceOf) (schedule : List ℕ) (show : ShowOf) (refuses : List ℕ → Bool) (told : RunFault) (watched : WatchOf) (before : OutputOf)
+pub stores_end_replay : (files : List ℕ → FileOf) (config : SourceOf) (schedule : List ℕ) (show : ShowOf) (refuses : List ℕ → Bool) (told : RunFault) (watched : ObserverOf) (before : OutputOf)
     → (told ≡ faults.Memory) ⊎ StoresFail files config told → ReplayEnds files config schedule show refuses told watched before before
 stores_end_replay files config schedule show refuses told watched before (inl e) = inr (inr (inl (record { kept = refl; cause = inl e })))
 stores_end_replay files config schedule show refuses told watched before (inr h) = inr (inr (inl (record { kept = refl; cause = inr (inr (inl h)) })))
 
 -- what comes later is told of no store
-pub barred_of_none : (files : List ℕ → FileOf) (refuses : List ℕ → Bool) (show : ShowOf) (paths : List (List ℕ)) (told : RunFault) (watched : WatchOf)
+pub barred_of_none : (files : List ℕ → FileOf) (refuses : List ℕ → Bool) (show : ShowOf) (paths : List (List ℕ)) (told : RunFault) (watched : ObserverOf)
     → (told ≡ faults.Memory) ⊎ IsBarred files refuses show paths told watched → TellsStore told → ⊥
 barred_of_none files refuses show paths (faults.Store device why) watched (inl e) tells = subst TellsStore e tells
 barred_of_none files refuses show paths (faults.Store device why) watched (inr (inl h)) tells = h
 barred_of_none files refuses show paths (faults.Store device why) watched (inr (inr h)) tells = h.1
 barred_of_none files refuses show paths told watched h tells = tells
 
-broken_of_none : (told : RunFault) → IsBroken told → TellsStore told → ⊥
+broken_of_none : (told : RunFault) → IsBrokenRun told → TellsStore told → ⊥
 broken_of_none (faults.Store device why) broken tells = broken
 broken_of_none told broken tells = tells
 
@@ -98,34 +98,34 @@ nothing_of_none : (w : WorldOf) (lacks : ℕ → Bool) (told : RunFault) → (to
 nothing_of_none w lacks told (inl e) tells = subst TellsStore e tells
 nothing_of_none w lacks told (inr u) tells = subst TellsStore u.is tells
 
-pub driven_of_none : (number : ℕ) (form : Form) (lacks : ℕ → Bool) (w v : WorldOf) (told : RunFault) (watched : WatchOf) (before now : OutputOf) → DrivingEnds number form lacks w v told watched before now
+pub driven_of_none : (number : ℕ) (form : Form) (lacks : ℕ → Bool) (w v : WorldOf) (told : RunFault) (watched : ObserverOf) (before now : OutputOf) → DrivingEnds number form lacks w v told watched before now
     → TellsStore told → ⊥
 driven_of_none number form lacks w v told watched before now (inl h) tells = broken_of_none told h.0.broken tells
 driven_of_none number form lacks w v told watched before now (inr (inl h)) tells = subst TellsStore h.0 tells
 driven_of_none number form lacks w v told watched before now (inr (inr h)) tells = nothing_of_none w lacks told h.0 tells
 
 -- a replay whose schedule isn't read
-pub schedule_ends : (files : List ℕ → FileOf) (config : SourceOf) (schedule : List ℕ) (show : ShowOf) (refuses : List ℕ → Bool) (w : WorldOf) (told : RunFault) (watched : WatchOf) (before : OutputOf) → IsSetup files config w
+pub schedule_ends : (files : List ℕ → FileOf) (config : SourceOf) (schedule : List ℕ) (show : ShowOf) (refuses : List ℕ → Bool) (w : WorldOf) (told : RunFault) (watched : ObserverOf) (before : OutputOf) → IsSetup files config w
     → (told ≡ faults.Memory) ⊎ TextFails script_of files schedule told → ReplayEnds files config schedule show refuses told watched before before
 schedule_ends files config schedule show refuses w told watched before setup (inl e) = inr (inr (inl (record { kept = refl; cause = inl e })))
 schedule_ends files config schedule show refuses w told watched before setup (inr f) =
     inr (inr (inl (record { kept = refl; cause = inr (inr (inr (record { world = w; setup = setup; fails = f }))) })))
 
 -- a replay that what looks on doesn't let begin
-pub unkept_ends : (files : List ℕ → FileOf) (config : SourceOf) (schedule : List ℕ) (show : ShowOf) (refuses : List ℕ → Bool) (told : RunFault) (watched : WatchOf) (before : OutputOf) (c : ConfigOf) (paths : List (List ℕ))
+pub unkept_ends : (files : List ℕ → FileOf) (config : SourceOf) (schedule : List ℕ) (show : ShowOf) (refuses : List ℕ → Bool) (told : RunFault) (watched : ObserverOf) (before : OutputOf) (c : ConfigOf) (paths : List (List ℕ))
     → Says config_of (files config.path) c → paths ≡ c.packages → (told ≡ faults.Memory) ⊎ IsBarred files refuses show (schedule ∷ config.path ∷ paths) told watched → ReplayEnds files config schedule show refuses told watched before before
 unkept_ends files config schedule show refuses told watched before c paths says same (inl e) = inr (inr (inl (record { kept = refl; cause = inl e })))
 unkept_ends files config schedule show refuses told watched before c paths says same (inr b) =
     inr (inr (inr (inr (record { kept = refl; says = c; is = says; barred = subst (λ ps. IsBarred files refuses show (schedule ∷ config.path ∷ ps) told watched) same b }))))
 
 -- a replay whose report is written, and what looked on had a fault
-pub unseen_ends : (files : List ℕ → FileOf) (config : SourceOf) (schedule : List ℕ) (show : ShowOf) (refuses : List ℕ → Bool) (fault : WatchFault) (told : RunFault) (watched : WatchOf) (before now : OutputOf)
-    → Reports files config schedule show.form None before now → told ≡ told_by fault → watched.fault ≡ Some fault → watched.has_ended ≡ true → ReplayEnds files config schedule show refuses told watched before now
+pub unseen_ends : (files : List ℕ → FileOf) (config : SourceOf) (schedule : List ℕ) (show : ShowOf) (refuses : List ℕ → Bool) (fault : ObserverFault) (told : RunFault) (watched : ObserverOf) (before now : OutputOf)
+    → Reports files config schedule show.form None before now → told ≡ run_fault_of_observer fault → watched.fault ≡ Some fault → watched.has_ended ≡ true → ReplayEnds files config schedule show refuses told watched before now
 unseen_ends files config schedule show refuses fault told watched before now reports is had ended =
     inr (inr (inr (inl (record { reports = reports; fault = fault; is = is; had = had; let_end = ended }))))
 
 -- and it had none
-pub seen_ends : (files : List ℕ → FileOf) (config : SourceOf) (schedule : List ℕ) (show : ShowOf) (watched : WatchOf) (before now : OutputOf) (c : ConfigOf) (paths : List (List ℕ))
+pub seen_ends : (files : List ℕ → FileOf) (config : SourceOf) (schedule : List ℕ) (show : ShowOf) (watched : ObserverOf) (before now : OutputOf) (c : ConfigOf) (paths : List (List ℕ))
     → Says config_of (files config.path) c → paths ≡ c.packages → IsApart files show (schedule ∷ config.path ∷ paths) → watched.shows ≡ shown_of show → watched.fault ≡ None → watched.has_ended ≡ true
     → Reports files config schedule show.form None before now → ReportsReplay files config schedule show watched before now
 seen_ends files config schedule show watched before now c paths says same apart shown seen ended reports = record {
@@ -143,8 +143,8 @@ report_there files config schedule form w steps slice fault text setup says same
     record { world = w; setup = setup; steps = steps; says = says; replayed = subst (λ ss. IsReplayed w ss fault form text) same h }
 
 -- it isn't written whole
-pub breaks_off : (files : List ℕ → FileOf) (config : SourceOf) (schedule : List ℕ) (show : ShowOf) (refuses : List ℕ → Bool) (fault : Option (ℕ × StepFault)) (text : List ℕ) (watched : WatchOf) (before now : OutputOf)
-    → IsReport files config schedule show.form fault text → FailsToPrint before now text → ReplayEnds files config schedule show refuses faults.Output watched before now
+pub breaks_off : (files : List ℕ → FileOf) (config : SourceOf) (schedule : List ℕ) (show : ShowOf) (refuses : List ℕ → Bool) (fault : Option (ℕ × StepFault)) (text : List ℕ) (watched : ObserverOf) (before now : OutputOf)
+    → IsReport files config schedule show.form fault text → FailsToWriteOutput before now text → ReplayEnds files config schedule show refuses faults.Output watched before now
 breaks_off files config schedule show refuses fault text watched before now report begun =
     inr (inl (record { is = refl; fault = fault; text = text; report = report; begun = begun }))
 
@@ -153,8 +153,8 @@ pub place_within : (w : WorldOf) (steps : List Step) (fault : Option (ℕ × Ste
     → place < length steps
 place_within w steps fault form text place why h e = (subst (λ f. IsReplayed w steps f form text) e h).left.0
 
-pub step_ends : (files : List ℕ → FileOf) (config : SourceOf) (schedule : List ℕ) (show : ShowOf) (refuses : List ℕ → Bool) (fault : Option (ℕ × StepFault)) (text : List ℕ) (place number : ℕ) (why : StepFault) (watched : WatchOf) (before now : OutputOf)
-    → IsReport files config schedule show.form fault text → fault ≡ Some (place, why) → number ≡ place + 1 → Prints before now text
+pub step_ends : (files : List ℕ → FileOf) (config : SourceOf) (schedule : List ℕ) (show : ShowOf) (refuses : List ℕ → Bool) (fault : Option (ℕ × StepFault)) (text : List ℕ) (place number : ℕ) (why : StepFault) (watched : ObserverOf) (before now : OutputOf)
+    → IsReport files config schedule show.form fault text → fault ≡ Some (place, why) → number ≡ place + 1 → WritesOutput before now text
     → ReplayEnds files config schedule show refuses (faults.Step number why) watched before now
 step_ends files config schedule show refuses fault text place number why watched before now report e is written = inl (record {
   place = place;
@@ -165,6 +165,6 @@ step_ends files config schedule show refuses fault text place number why watched
 
 -- all are
 pub replay_reports : (files : List ℕ → FileOf) (config : SourceOf) (schedule : List ℕ) (form : Form) (fault : Option (ℕ × StepFault)) (text : List ℕ) (before now : OutputOf)
-    → IsReport files config schedule form fault text → fault ≡ None → Prints before now text → Reports files config schedule form None before now
+    → IsReport files config schedule form fault text → fault ≡ None → WritesOutput before now text → Reports files config schedule form None before now
 replay_reports files config schedule form fault text before now report e written =
     record { text = text; report = subst (λ f. IsReport files config schedule form f text) e report; written = written }

@@ -1,7 +1,7 @@
 -- The package that the text in a file asks for, and what is written of it.
 use Rattle.std.specs.Prelude.{ℕ, ◌≡◌, ◌++◌, ◌⊎◌, List, [], ◌∷◌, Option, None, Some, Ok, Bool, true, IfSome, IsSomeAnd, length, map, string_bytes}
 use Rattle.std.specs.List.{concat}
-use Rattle.fw_package.specs.Asked.{AskedComponentOf, AskedOf, AskedRecordOf, asked, refusal_of}
+use Rattle.fw_package.specs.Asked.{AskedComponentOf, AskedPackageOf, AskedRecordOf, package_for, refusal_of}
 use Rattle.fw_package.specs.Grammar.{IsPackage}
 use Rattle.fw_package.specs.Reading.{package_of}
 use Rattle.fw_package.specs.Writing.{header_bytes}
@@ -36,7 +36,7 @@ abbrev pub components_by : List SpecComponentOf → List (List ℕ) → List Ask
 components_by (c ∷ cs) (image ∷ images) = component_by c image ∷ components_by cs images
 components_by cs images = []
 
-abbrev pub asked_by : PackageSpecOf → List (List ℕ) → AskedOf
+abbrev pub asked_by : PackageSpecOf → List (List ℕ) → AskedPackageOf
 asked_by spec images =
     record {
       release = spec.release;
@@ -62,8 +62,8 @@ pub record IsBuilt (files : List ℕ → FileOf) (path bytes : List ℕ) : Type 
   pub says : Says package_spec_of (files path) spec
   pub are : AreImages files spec.components images
   pub written : bytes ≡ header_bytes (asked_by spec images) ++ concat images
-  pub is : IsPackage bytes (asked (asked_by spec images) images)
-  pub reads : package_of bytes ≡ Ok (asked (asked_by spec images) images)
+  pub is : IsPackage bytes (package_for (asked_by spec images) images)
+  pub reads : package_of bytes ≡ Ok (package_for (asked_by spec images) images)
 
 -- An image's file isn't read: the first of these.
 abbrev pub ImageFails : (files : List ℕ → FileOf) → Option (List ℕ) → RunFault → Type 0
@@ -84,17 +84,17 @@ abbrev pub cause_of : AskedFault → ScriptCause
 cause_of refusals.Uses = causes.Range
 cause_of refusals.Limit = causes.Limit
 
-abbrev pub refusal_told : PackageSpecOf → AskedFault → ScriptFault
-refusal_told spec refusal = record { line = spec.next_line; cause = cause_of refusal }
+abbrev pub script_fault_of_refusal : PackageSpecOf → AskedFault → ScriptFault
+script_fault_of_refusal spec refusal = record { line = spec.next_line; cause = cause_of refusal }
 
-pub record IsRefusal (spec : PackageSpecOf) (images : List (List ℕ)) (told : ScriptFault) : Type 0 where
+pub record IsBuildRefusal (spec : PackageSpecOf) (images : List (List ℕ)) (told : ScriptFault) : Type 0 where
   pub refusal : AskedFault
   pub is : refusal_of (asked_by spec images) ≡ Some refusal
-  pub told_so : told ≡ refusal_told spec refusal
+  pub told_so : told ≡ script_fault_of_refusal spec refusal
 
-abbrev pub IsRefused : (path : List ℕ) → PackageSpecOf → List (List ℕ) → RunFault → Type 0
-IsRefused path spec images (faults.Text name told) = (string_bytes name ≡ path) × IsRefusal spec images told
-IsRefused path spec images told = ⊥
+abbrev pub IsBuildFault : (path : List ℕ) → PackageSpecOf → List (List ℕ) → RunFault → Type 0
+IsBuildFault path spec images (faults.Text name told) = (string_bytes name ≡ path) × IsBuildRefusal spec images told
+IsBuildFault path spec images told = ⊥
 
 -- why nothing is built of the text in a file
 pub record SpecFails (files : List ℕ → FileOf) (path : List ℕ) (told : RunFault) : Type 0 where
@@ -107,7 +107,7 @@ pub record PackageRefused (files : List ℕ → FileOf) (path : List ℕ) (told 
   pub images : List (List ℕ)
   pub says : Says package_spec_of (files path) spec
   pub are : AreImages files spec.components images
-  pub refused : IsRefused path spec images told
+  pub refused : IsBuildFault path spec images told
 
 abbrev pub BuildEnds : (files : List ℕ → FileOf) → (path : List ℕ) → RunFault → Type 0
 BuildEnds files path told =

@@ -3,7 +3,7 @@ use Rattle.std.specs.Prelude.{ℕ, ◌≡◌, ◌⊎◌, List}
 use Rattle.fw_package.specs.Package.{PackageText}
 use Rattle.fw_json.specs.Forms.{inspection_in}
 use Rattle.fwupd_base.specs.declared.forms.Form.{Form}
-use Rattle.fwupd_watch.specs.Outputs.{FailsToPrint, OutputOf, Prints}
+use Rattle.fwupd_watch.specs.Outputs.{FailsToWriteOutput, OutputOf, WritesOutput}
 use Rattle.fwupd_watch.specs.Files.{FileOf}
 use Rattle.fwupd_jobs.specs.Setups.{IsPackageFile, PackageFails}
 use Rattle.fwupd_watch.specs.declared.faults.RunFault.{RunFault}
@@ -12,22 +12,22 @@ use Rattle.fwupd_base.specs.declared.inspection.InspectFault.{InspectFault}
 use Rattle.fwupd_base.specs.declared.inspection.InspectFault.TheVariants as inspected
 
 -- how it is told that a package isn't inspected
-abbrev pub told_as : InspectFault → RunFault
-told_as (inspected.Package fault) = faults.Package fault
-told_as inspected.Memory = faults.Memory
+abbrev pub run_fault_of_inspection : InspectFault → RunFault
+run_fault_of_inspection (inspected.Package fault) = faults.Package fault
+run_fault_of_inspection inspected.Memory = faults.Memory
 
 -- Its text is.
 pub record Inspects (file : FileOf) (form : Form) (before now : OutputOf) : Type 0 where
   pub contents : PackageText
   pub is : IsPackageFile file contents
-  pub written : Prints before now (inspection_in form contents)
+  pub written : WritesOutput before now (inspection_in form contents)
 
 -- A beginning of it is.
 pub record BreaksInspection (file : FileOf) (form : Form) (told : RunFault) (before now : OutputOf) : Type 0 where
   pub is : told ≡ faults.Output
   pub contents : PackageText
   pub read : IsPackageFile file contents
-  pub begun : FailsToPrint before now (inspection_in form contents)
+  pub begun : FailsToWriteOutput before now (inspection_in form contents)
 
 -- How an inspection ends that doesn't end well: else nothing is written, and memory was refused, or the file isn't read or holds no package.
 abbrev pub InspectEnds : (files : List ℕ → FileOf) (path : List ℕ) (form : Form) → RunFault → (before now : OutputOf) → Type 0

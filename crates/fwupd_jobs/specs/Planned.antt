@@ -5,7 +5,7 @@ use Rattle.fw_script.specs.Configs.{ConfigOf, config_of}
 use Rattle.ua_core.specs.Lent.{package_at}
 use Rattle.fw_json.specs.Forms.{plan_in}
 use Rattle.fwupd_base.specs.declared.forms.Form.{Form}
-use Rattle.fwupd_watch.specs.Outputs.{FailsToPrint, OutputOf, Prints}
+use Rattle.fwupd_watch.specs.Outputs.{FailsToWriteOutput, OutputOf, WritesOutput}
 use Rattle.fwupd_jobs.specs.Setups.{ArePackages, LacksPackage, NumberedSetupFails, Says}
 use Rattle.fwupd_watch.specs.Files.{FileOf}
 use Rattle.fwupd_watch.specs.declared.faults.RunFault.{RunFault}
@@ -25,14 +25,14 @@ pub record Forecasts (files : List ℕ → FileOf) (path : List ℕ) (number : �
 pub record Plans (files : List ℕ → FileOf) (path : List ℕ) (number : ℕ) (form : Form) (before now : OutputOf) : Type 0 where
   pub text : List ℕ
   pub forecasts : Forecasts files path number form text
-  pub written : Prints before now text
+  pub written : WritesOutput before now text
 
 -- A beginning of it is.
 pub record BreaksPlan (files : List ℕ → FileOf) (path : List ℕ) (number : ℕ) (form : Form) (told : RunFault) (before now : OutputOf) : Type 0 where
   pub is : told ≡ faults.Output
   pub text : List ℕ
   pub forecasts : Forecasts files path number form text
-  pub begun : FailsToPrint before now text
+  pub begun : FailsToWriteOutput before now text
 
 -- How a forecast ends that doesn't end well: else nothing is written, and memory was refused, or there is no such package.
 abbrev pub PlanEnds : (files : List ℕ → FileOf) (path : List ℕ) (number : ℕ) (form : Form) (told : RunFault) (before now : OutputOf) → Type 0

@@ -7,7 +7,7 @@ use Rattle.fw_script.specs.Schedules.{script_of}
 use Rattle.fw_steps.specs.Headline.{Run}
 use Rattle.fw_steps.specs.Worlds.{WorldOf}
 use Rattle.fw_steps.specs.declared.step.Step.{Step}
-use Rattle.fwupd_watch.specs.Recordings.{IsRecorded, RecordingOf}
+use Rattle.fwupd_watch.specs.Recordings.{HasRecordedSteps, RecordingOf}
 
 -- no call of a bank failed in a run
 abbrev pub AllWork : (w : WorldOf) (ss : List Step) (v : WorldOf) → Run w ss v → Type 0
@@ -17,5 +17,5 @@ AllWork w (s ∷ ss) v h = (h.1.works ≡ true) × AllWork h.0 ss v h.2
 -- Where no call of a bank failed in two runs of the same steps from one world, they lead to the same. So the report of the replay of a
 -- recorded run is that of the run.
 abbrev pub RecordsReplay : Type 0
-RecordsReplay = (w v u : WorldOf) (r : RecordingOf) (form : Form) (h : IsRecorded w v r) (steps : List Step) → script_of (schedule_text h.steps) ≡ Ok steps → (k : Run w steps u)
+RecordsReplay = (w v u : WorldOf) (r : RecordingOf) (form : Form) (h : HasRecordedSteps w v r) (steps : List Step) → script_of (schedule_text h.steps) ≡ Ok steps → (k : Run w steps u)
     → AllWork w h.steps v h.run → AllWork w steps u k → report_in form u ≡ report_in form v

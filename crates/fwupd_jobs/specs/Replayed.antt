@@ -5,24 +5,24 @@ use Rattle.fw_script.specs.Schedules.{script_of}
 use Rattle.fw_json.specs.Forms.{report_in}
 use Rattle.fwupd_base.specs.declared.forms.Form.{Form}
 use Rattle.fw_steps.specs.Headline.{Run}
-use Rattle.fw_steps.specs.Replays.{Refuses}
+use Rattle.fw_steps.specs.Replays.{RefusesStep}
 use Rattle.fw_steps.specs.Worlds.{WorldOf}
 use Rattle.fw_steps.specs.declared.step.Step.{Step}
 use Rattle.fw_steps.specs.declared.step.StepFault.{StepFault}
-use Rattle.fwupd_watch.specs.Outputs.{FailsToPrint, OutputOf, Prints}
+use Rattle.fwupd_watch.specs.Outputs.{FailsToWriteOutput, OutputOf, WritesOutput}
 use Rattle.fwupd_jobs.specs.Promises.{IsSafeSince}
 use Rattle.fwupd_watch.specs.Apart.{IsApart, IsBarred}
-use Rattle.fwupd_watch.specs.Running.{ShowOf, WatchOf, shown_of, told_by}
+use Rattle.fwupd_watch.specs.Running.{ShowOf, ObserverOf, shown_of, run_fault_of_observer}
 use Rattle.fwupd_watch.specs.Files.{FileOf}
 use Rattle.fwupd_jobs.specs.Setups.{IsSetup, Says, SetupFails, SourceOf, StoresFail, TextFails}
-use Rattle.fwupd_watch.specs.declared.running.WatchFault.{WatchFault}
+use Rattle.fwupd_watch.specs.declared.running.ObserverFault.{ObserverFault}
 use Rattle.fwupd_watch.specs.declared.faults.RunFault.{RunFault}
 use Rattle.fwupd_watch.specs.declared.faults.RunFault.TheVariants as faults
 
 -- all steps are taken; or those before the one that isn't, for this reason
-abbrev pub Leaves : WorldOf → List Step → Option (ℕ × StepFault) → WorldOf → Type 0
-Leaves w steps None v = Run w steps v
-Leaves w steps (Some f) v = (f.0 < length steps) × Run w (take f.0 steps) v × IfSome (slice_get steps f.0) (λ s. Refuses v s f.1)
+abbrev pub LeavesWorld : WorldOf → List Step → Option (ℕ × StepFault) → WorldOf → Type 0
+LeavesWorld w steps None v = Run w steps v
+LeavesWorld w steps (Some f) v = (f.0 < length steps) × Run w (take f.0 steps) v × IfSome (slice_get steps f.0) (λ s. RefusesStep v s f.1)
 
 -- how many were taken
 abbrev pub taken_of : List Step → Option (ℕ × StepFault) → ℕ
@@ -32,7 +32,7 @@ taken_of steps (Some f) = f.0
 -- the report is of the world that is left, which is safe
 pub record IsReplayed (w : WorldOf) (steps : List Step) (fault : Option (ℕ × StepFault)) (form : Form) (text : List ℕ) : Type 0 where
   pub world : WorldOf
-  pub left : Leaves w steps fault world
+  pub left : LeavesWorld w steps fault world
   pub promised : IsSafeSince w world
   pub report : text ≡ report_in form world
 
@@ -48,7 +48,7 @@ pub record IsReport (files : List ℕ → FileOf) (config : SourceOf) (schedule 
 pub record Reports (files : List ℕ → FileOf) (config : SourceOf) (schedule : List ℕ) (form : Form) (fault : Option (ℕ × StepFault)) (before now : OutputOf) : Type 0 where
   pub text : List ℕ
   pub report : IsReport files config schedule form fault text
-  pub written : Prints before now text
+  pub written : WritesOutput before now text
 
 -- It is, and a step, numbered from 1, isn't taken.
 pub record ReportsStep (files : List ℕ → FileOf) (config : SourceOf) (schedule : List ℕ) (form : Form) (told : RunFault) (before now : OutputOf) : Type 0 where
@@ -63,7 +63,7 @@ pub record BreaksOff (files : List ℕ → FileOf) (config : SourceOf) (schedule
   pub fault : Option (ℕ × StepFault)
   pub text : List ℕ
   pub report : IsReport files config schedule form fault text
-  pub begun : FailsToPrint before now text
+  pub begun : FailsToWriteOutput before now text
 
 -- the world is there, and the schedule isn't
 pub record ScheduleFails (files : List ℕ → FileOf) (config : SourceOf) (schedule : List ℕ) (told : RunFault) : Type 0 where
@@ -78,7 +78,7 @@ pub record IsReplayApart (files : List ℕ → FileOf) (config : SourceOf) (sche
   pub apart : IsApart files show (schedule ∷ config.path ∷ says.packages)
 
 -- The report is written, and what looks on showed what it is to show, had no fault, and was let end.
-pub record ReportsReplay (files : List ℕ → FileOf) (config : SourceOf) (schedule : List ℕ) (show : ShowOf) (watched : WatchOf) (before now : OutputOf) : Type 0 where
+pub record ReportsReplay (files : List ℕ → FileOf) (config : SourceOf) (schedule : List ℕ) (show : ShowOf) (watched : ObserverOf) (before now : OutputOf) : Type 0 where
   pub reports : Reports files config schedule show.form None before now
   pub apart : IsReplayApart files config schedule show
   pub shown : watched.shows ≡ shown_of show
@@ -86,15 +86,15 @@ pub record ReportsReplay (files : List ℕ → FileOf) (config : SourceOf) (sche
   pub let_end : watched.has_ended ≡ true
 
 -- The report is written of all steps, and what looks on had a fault, which is told.
-pub record ReportsUnseen (files : List ℕ → FileOf) (config : SourceOf) (schedule : List ℕ) (show : ShowOf) (told : RunFault) (watched : WatchOf) (before now : OutputOf) : Type 0 where
+pub record ReportsUnseen (files : List ℕ → FileOf) (config : SourceOf) (schedule : List ℕ) (show : ShowOf) (told : RunFault) (watched : ObserverOf) (before now : OutputOf) : Type 0 where
   pub reports : Reports files config schedule show.form None before now
-  pub fault : WatchFault
-  pub is : told ≡ told_by fault
+  pub fault : ObserverFault
+  pub is : told ≡ run_fault_of_observer fault
   pub had : watched.fault ≡ Some fault
   pub let_end : watched.has_ended ≡ true
 
 -- Nothing is replayed: a file that was read would be written over, or the file to be written is refused.
-pub record LacksKept (files : List ℕ → FileOf) (config : SourceOf) (schedule : List ℕ) (show : ShowOf) (refuses : List ℕ → Bool) (told : RunFault) (watched : WatchOf) (before now : OutputOf) : Type 0 where
+pub record LacksKept (files : List ℕ → FileOf) (config : SourceOf) (schedule : List ℕ) (show : ShowOf) (refuses : List ℕ → Bool) (told : RunFault) (watched : ObserverOf) (before now : OutputOf) : Type 0 where
   pub kept : now ≡ before
   pub says : ConfigOf
   pub is : Says config_of (files config.path) says
@@ -106,7 +106,7 @@ pub record StopsBefore (files : List ℕ → FileOf) (config : SourceOf) (schedu
   pub cause : (told ≡ faults.Memory) ⊎ (SetupFails files config.path told ⊎ (StoresFail files config told ⊎ ScheduleFails files config schedule told))
 
 -- How a replay ends that doesn't end well.
-abbrev pub ReplayEnds : (files : List ℕ → FileOf) (config : SourceOf) (schedule : List ℕ) (show : ShowOf) (refuses : List ℕ → Bool) (told : RunFault) (watched : WatchOf) (before now : OutputOf) → Type 0
+abbrev pub ReplayEnds : (files : List ℕ → FileOf) (config : SourceOf) (schedule : List ℕ) (show : ShowOf) (refuses : List ℕ → Bool) (told : RunFault) (watched : ObserverOf) (before now : OutputOf) → Type 0
 ReplayEnds files config schedule show refuses told watched before now =
     ReportsStep files config schedule show.form told before now
     ⊎ (BreaksOff files config schedule show.form told before now

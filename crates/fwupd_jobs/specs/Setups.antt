@@ -11,7 +11,7 @@ use Rattle.fw_script.specs.declared.faults.ScriptFault.{ScriptFault}
 use Rattle.fw_steps.specs.Headline.{new_world}
 use Rattle.fw_steps.specs.Worlds.{WorldOf}
 use Rattle.fw_setup.specs.Nodes.{nodes_made}
-use Rattle.fw_setup.specs.Stocks.{AreStocked, IsUnopened, StoresOf}
+use Rattle.fw_setup.specs.Stocks.{HaveStoredImages, IsUnopened, StoresOf}
 use Rattle.fwupd_watch.specs.Files.{FileOf, MayHold}
 use Rattle.fwupd_watch.specs.declared.faults.RunFault.{RunFault}
 use Rattle.fwupd_watch.specs.declared.faults.RunFault.TheVariants as faults
@@ -63,9 +63,9 @@ abbrev pub IsUnread : (path : List ℕ) → (file : FileOf) → RunFault → Typ
 IsUnread path file fault = IsUnreadable path fault × (file.may_fail ≡ true)
 
 -- what is told of a file of this name that isn't read, for this reason; without memory for its name, that
-abbrev pub unread_told : {E : Type 0} → Result (String Global) E → FileFault → RunFault
-unread_told (Ok name) reasons.Unreadable = faults.Unreadable name
-unread_told name fault = faults.Memory
+abbrev pub run_fault_of_unread : {E : Type 0} → Result (String Global) E → FileFault → RunFault
+run_fault_of_unread (Ok name) reasons.Unreadable = faults.Unreadable name
+run_fault_of_unread name fault = faults.Memory
 
 -- and of a text that is none of its format
 abbrev pub misread_by : {E : Type 0} → Result (String Global) E → ScriptCause → ScriptFault → RunFault
@@ -73,8 +73,8 @@ misread_by (Err e) cause fault = faults.Memory
 misread_by (Ok name) causes.Memory fault = faults.Memory
 misread_by (Ok name) cause fault = faults.Text name fault
 
-abbrev pub misread_told : {E : Type 0} → Result (String Global) E → ScriptFault → RunFault
-misread_told name fault = misread_by name fault.cause fault
+abbrev pub run_fault_of_misread : {E : Type 0} → Result (String Global) E → ScriptFault → RunFault
+run_fault_of_misread name fault = misread_by name fault.cause fault
 
 -- the text in it has this fault
 abbrev pub TextFault : (path : List ℕ) → ScriptFault → RunFault → Type 0
@@ -82,9 +82,9 @@ TextFault path fault (faults.Text name told) = (string_bytes name ≡ path) × (
 TextFault path fault other = ⊥
 
 -- the text in the file of this path is none
-abbrev pub IsUnsaid : {A : Type 0} → (List ℕ → Result A ScriptFault) → (path : List ℕ) → (file : FileOf) → RunFault → Type 0
-IsUnsaid read path file (faults.Text name fault) = (string_bytes name ≡ path) × IsFaulty read file fault
-IsUnsaid read path file fault = ⊥
+abbrev pub HasNoText : {A : Type 0} → (List ℕ → Result A ScriptFault) → (path : List ℕ) → (file : FileOf) → RunFault → Type 0
+HasNoText read path file (faults.Text name fault) = (string_bytes name ≡ path) × IsFaulty read file fault
+HasNoText read path file fault = ⊥
 
 -- the file holds no package
 abbrev pub IsNone : (file : FileOf) → RunFault → Type 0
@@ -93,7 +93,7 @@ IsNone file fault = ⊥
 
 -- why a text isn't read from the file of a path
 abbrev pub TextFails : {A : Type 0} → (List ℕ → Result A ScriptFault) → (files : List ℕ → FileOf) → (path : List ℕ) → RunFault → Type 0
-TextFails read files path fault = IsUnread path (files path) fault ⊎ IsUnsaid read path (files path) fault
+TextFails read files path fault = IsUnread path (files path) fault ⊎ HasNoText read path (files path) fault
 
 -- and why no package is
 abbrev pub PackageFails : (files : List ℕ → FileOf) → (path : List ℕ) → RunFault → Type 0
@@ -131,7 +131,7 @@ source_of stores root path = record { path = path; stores = option_map stores ro
 -- the devices of a configuration, with what their stores keep, where they have some
 abbrev pub AreDevices : Option StoresOf → (configured devices : List DeviceConfigOf) → Type 0
 AreDevices None configured devices = devices ≡ configured
-AreDevices (Some s) configured devices = AreStocked s configured devices
+AreDevices (Some s) configured devices = HaveStoredImages s configured devices
 
 -- a configuration's file, its packages, what the stores of its devices keep, and the world that they are of before its first step
 pub record IsSetup (files : List ℕ → FileOf) (source : SourceOf) (w : WorldOf) : Type 0 where

@@ -6,19 +6,19 @@ use Rattle.fw_script.specs.Configs.{ConfigOf, config_of}
 use Rattle.fw_script.specs.ScheduleTexts.{schedule_text}
 use Rattle.fw_steps.specs.declared.step.Step.{Step}
 use Rattle.fw_soak.specs.Courses.{SetupOf}
-use Rattle.fw_soak.specs.Summaries.{IsSoaked}
+use Rattle.fw_soak.specs.Summaries.{SoakOk}
 use Rattle.fw_soak.specs.SummaryTexts.{summary_text}
 use Rattle.fw_soak.specs.declared.summary.Summary.{Summary}
 use Rattle.fwupd_words.specs.declared.asked.SoakOrder.{SoakOrder}
-use Rattle.fwupd_watch.specs.Outputs.{FailsToPrint, OutputOf, Prints}
+use Rattle.fwupd_watch.specs.Outputs.{FailsToWriteOutput, OutputOf, WritesOutput}
 use Rattle.fwupd_jobs.specs.Setups.{ArePackages, LacksPackage, NumberedSetupFails, Says}
 use Rattle.fwupd_watch.specs.Files.{FileOf, IsApartFrom, IsOverOne}
 use Rattle.fwupd_watch.specs.declared.faults.RunFault.{RunFault}
 use Rattle.fwupd_watch.specs.declared.faults.RunFault.TheVariants as faults
 
 -- what runs begin with that a configuration says, with these packages
-abbrev pub setup_said : ConfigOf → List PackageText → SetupOf
-setup_said c packages = record { agent = c.agent; unit = c.unit; devices = c.devices; packages = packages }
+abbrev pub setup_of_config : ConfigOf → List PackageText → SetupOf
+setup_of_config c packages = record { agent = c.agent; unit = c.unit; devices = c.devices; packages = packages }
 
 -- So many runs were made of the configuration in a file with its packages: this is said of them, and the steps of the first that went
 -- wrong are these. The file in which they are to be kept, if one is, is none of those that were read.
@@ -28,20 +28,20 @@ pub record Soaks (files : List ℕ → FileOf) (path : List ℕ) (file : Option 
   pub says : Says config_of (files path) config
   pub are : ArePackages files config.packages packages
   pub apart : IfSome file (λ p. AllByRecursion (IsApartFrom files p) (path ∷ config.packages))
-  pub soaked : IsSoaked (setup_said config packages) runs sum kept
+  pub soaked : SoakOk (setup_of_config config packages) runs sum kept
 
 -- None went wrong, and that is written.
 pub record SoaksClean (files : List ℕ → FileOf) (path : List ℕ) (order : SoakOrder) (file : Option (List ℕ)) (before now : OutputOf) : Type 0 where
   pub sum : Summary
   pub soaks : Soaks files path file order.runs sum None
   pub none : sum.violations ≡ 0
-  pub written : Prints before now (summary_text sum)
+  pub written : WritesOutput before now (summary_text sum)
 
 -- What is told where the steps of a run are kept that went wrong, and a file is asked for or isn't: that it did, and then the file
 -- holds their schedule; or that they aren't recorded, or that memory was refused.
-abbrev pub IsJudged : Option (List Step) → (file : Option (List ℕ)) → RunFault → (is_known : Bool) → (held : List ℕ → Option (List ℕ)) → Type 0
-IsJudged None file told is_known held = ⊥
-IsJudged (Some steps) file told is_known held =
+abbrev pub ReportsViolation : Option (List Step) → (file : Option (List ℕ)) → RunFault → (is_known : Bool) → (held : List ℕ → Option (List ℕ)) → Type 0
+ReportsViolation None file told is_known held = ⊥
+ReportsViolation (Some steps) file told is_known held =
     ((told ≡ faults.Violation) ⊎ (IsSome file × ((told ≡ faults.Record) ⊎ (told ≡ faults.Memory))))
     × (told ≡ faults.Violation → is_known ≡ true → IfSome file (λ p. held p ≡ Some (schedule_text steps)))
 
@@ -51,8 +51,8 @@ pub record SoaksWrong (files : List ℕ → FileOf) (path : List ℕ) (order : S
   pub sum : Summary
   pub steps : List Step
   pub soaks : Soaks files path file order.runs sum (Some steps)
-  pub written : Prints before now (summary_text sum)
-  pub judged : IsJudged (Some steps) file told is_known held
+  pub written : WritesOutput before now (summary_text sum)
+  pub judged : ReportsViolation (Some steps) file told is_known held
 
 -- What is said of the runs isn't written whole.
 pub record BreaksSoak (files : List ℕ → FileOf) (path : List ℕ) (order : SoakOrder) (file : Option (List ℕ)) (told : RunFault) (before now : OutputOf) : Type 0 where
@@ -60,7 +60,7 @@ pub record BreaksSoak (files : List ℕ → FileOf) (path : List ℕ) (order : S
   pub sum : Summary
   pub kept : Option (List Step)
   pub soaks : Soaks files path file order.runs sum kept
-  pub begun : FailsToPrint before now (summary_text sum)
+  pub begun : FailsToWriteOutput before now (summary_text sum)
 
 -- The steps would be written over a file that is read.
 pub record WouldWriteOver (files : List ℕ → FileOf) (path : List ℕ) (file : Option (List ℕ)) (told : RunFault) : Type 0 where

@@ -9,13 +9,13 @@ use Rattle.fw_steps.specs.Worlds.{SiteOf, WorldOf}
 use Rattle.mctp_wire.specs.declared.unit.Unit.{«Unit»}
 use Rattle.rand_pcg.specs.Lcg.{Lcg, increment_of, started}
 use Rattle.rand_pcg.specs.Pcg.{multiplier_64}
-use Rattle.fwupd_watch.specs.Histories.{AreKeptUp, AreKeptUpStill}
-use Rattle.fwupd_watch.specs.Outputs.{FailsToPrint, OutputOf, Prints}
+use Rattle.fwupd_watch.specs.Histories.{HasHistoryLinesIfAny, MayHaveHistoryLines}
+use Rattle.fwupd_watch.specs.Outputs.{FailsToWriteOutput, OutputOf, WritesOutput}
 use Rattle.fwupd_jobs.specs.Promises.{IsSafeSince}
-use Rattle.fwupd_watch.specs.Recordings.{IsRecorded}
+use Rattle.fwupd_watch.specs.Recordings.{HasRecordedSteps}
 use Rattle.fwupd_jobs.specs.Sessions.{undone_in}
 use Rattle.fwupd_watch.specs.Files.{FileOf}
-use Rattle.fwupd_watch.specs.Running.{IsCaused, IsUpdated, ShowOf, StepsLead, StepsSeen, Updates, WatchOf, shown_of}
+use Rattle.fwupd_watch.specs.Running.{IsCaused, UpdateOk, ShowOf, RunsSteps, RunsStepsSeen, UpdatesDevices, ObserverOf, shown_of}
 use Rattle.fwupd_watch.specs.Apart.{IsApart, IsBarred}
 use Rattle.fwupd_jobs.specs.Setups.{IsSetup, LacksPackage, NumberedSetupFails, SourceOf, StoresFail}
 use Rattle.fwupd_watch.specs.declared.faults.RunFault.{RunFault}
@@ -23,14 +23,14 @@ use Rattle.fwupd_watch.specs.declared.faults.RunFault.TheVariants as faults
 use Rattle.fwupd_jobs.specs.declared.sessions.Undone.{Undone}
 
 -- A link to a device is as rough as asked for, by chances of its own: a stream of its own among those of the seed.
-abbrev pub IsRough : Roughness → (device : ℕ) → Roughness → Lcg → Type 0
-IsRough asked device roughness generator = (roughness ≡ asked) × (generator ≡ started 64 multiplier_64 asked.seed (increment_of 64 device))
+abbrev pub IsRoughLink : Roughness → (device : ℕ) → Roughness → Lcg → Type 0
+IsRoughLink asked device roughness generator = (roughness ≡ asked) × (generator ≡ started 64 multiplier_64 asked.seed (increment_of 64 device))
 
 -- Each of these links is that of the device at its place, in a network with its transmission unit.
-abbrev pub AreLinked : {L : Type 0} → («Unit» → (device : ℕ) → L → Type 0) → List SiteOf → List L → Type 0
-AreLinked IsTo [] [] = Prim.Unit {0}
-AreLinked IsTo (x ∷ xs) (link ∷ links) = IsTo x.node.half.unit x.node.endpoint.eid link × AreLinked IsTo xs links
-AreLinked IsTo xs links = ⊥
+abbrev pub HaveLinks : {L : Type 0} → («Unit» → (device : ℕ) → L → Type 0) → List SiteOf → List L → Type 0
+HaveLinks IsTo [] [] = Prim.Unit {0}
+HaveLinks IsTo (x ∷ xs) (link ∷ links) = IsTo x.node.half.unit x.node.endpoint.eid link × HaveLinks IsTo xs links
+HaveLinks IsTo xs links = ⊥
 
 -- No link to this device of a world is opened, and it may be lacking.
 pub record IsUnlinked (w : WorldOf) (lacks : ℕ → Bool) (told : RunFault) : Type 0 where
@@ -65,81 +65,81 @@ pub record NamesLost (w : WorldOf) (lost : Option ℕ) : Type 0 where
 
 -- Where the links of a world are driven and the run doesn't end well: the report of the world that was reached is written, or a
 -- beginning of it, or nothing.
-abbrev pub DrivingEnds : (number : ℕ) (form : Form) (lacks : ℕ → Bool) (w v : WorldOf) → RunFault → WatchOf → (before now : OutputOf) → Type 0
+abbrev pub DrivingEnds : (number : ℕ) (form : Form) (lacks : ℕ → Bool) (w v : WorldOf) → RunFault → ObserverOf → (before now : OutputOf) → Type 0
 DrivingEnds number form lacks w v told watched before now =
-    (IsCaused number w v told watched × Prints before now (report_in form v))
-    ⊎ (((told ≡ faults.Output) × FailsToPrint before now (report_in form v)) ⊎ (((told ≡ faults.Memory) ⊎ IsUnlinked w lacks told) × (now ≡ before)))
+    (IsCaused number w v told watched × WritesOutput before now (report_in form v))
+    ⊎ (((told ≡ faults.Output) × FailsToWriteOutput before now (report_in form v)) ⊎ (((told ≡ faults.Memory) ⊎ IsUnlinked w lacks told) × (now ≡ before)))
 
 -- The world of a configuration that names a package of this number, from 1 on.
-pub record IsNamed (files : List ℕ → FileOf) (config : SourceOf) (number : ℕ) (w : WorldOf) : Type 0 where
+pub record IsNumberedSetup (files : List ℕ → FileOf) (config : SourceOf) (number : ℕ) (w : WorldOf) : Type 0 where
   pub setup : IsSetup files config w
   pub counted : 1 ≤ number
   pub there : number ≤ length w.packages
 
 -- The world of a configuration over none of whose files anything is written.
-pub record IsWatched (files : List ℕ → FileOf) (config : SourceOf) (number : ℕ) (show : ShowOf) (w : WorldOf) : Type 0 where
-  pub named : IsNamed files config number w
+pub record IsObservedSetup (files : List ℕ → FileOf) (config : SourceOf) (number : ℕ) (show : ShowOf) (w : WorldOf) : Type 0 where
+  pub named : IsNumberedSetup files config number w
   pub apart : IsApart files show (config.path ∷ named.setup.config.packages)
 
 -- The report is written of what an update leaves of the world that a configuration's file is of, and what looks on showed what it
 -- is to show, saw each turn, had no fault, was told of no link, and was let end. This session of that world is the first that isn't
 -- Done, or none is.
-pub record ReportsUpdate (files : List ℕ → FileOf) (config : SourceOf) (number : ℕ) (show : ShowOf) (watched : WatchOf) (before now : OutputOf) (undone : Option Undone) : Type 0 where
+pub record ReportsUpdate (files : List ℕ → FileOf) (config : SourceOf) (number : ℕ) (show : ShowOf) (watched : ObserverOf) (before now : OutputOf) (undone : Option Undone) : Type 0 where
   pub world : WorldOf
-  pub begins : IsWatched files config number show world
+  pub begins : IsObservedSetup files config number show world
   pub shown : watched.shows ≡ shown_of show
   pub left : WorldOf
-  pub updated : IsUpdated number world left
+  pub updated : UpdateOk number world left
   pub promised : IsSafeSince world left
   pub seen : watched.fault ≡ None
-  pub turns : Updates number world left watched.seen
+  pub turns : UpdatesDevices number world left watched.seen
   pub none_lost : watched.lost ≡ None
   pub let_end : watched.has_ended ≡ true
   pub undone_is : undone ≡ undone_in left
-  pub recorded : IfSome watched.recording (IsRecorded world left)
-  pub kept_up : AreKeptUp watched.history left.history
-  pub written : Prints before now (report_in show.form left)
+  pub recorded : IfSome watched.recording (HasRecordedSteps world left)
+  pub kept_up : HasHistoryLinesIfAny watched.history left.history
+  pub written : WritesOutput before now (report_in show.form left)
 
 -- It is written of what was reached; where a link failed, what looks on was told whose, and where it had no fault of its own, the steps
 -- that led there are recorded.
-pub record ReportsReached (files : List ℕ → FileOf) (config : SourceOf) (number : ℕ) (show : ShowOf) (told : RunFault) (watched : WatchOf) (before now : OutputOf) : Type 0 where
+pub record ReportsReached (files : List ℕ → FileOf) (config : SourceOf) (number : ℕ) (show : ShowOf) (told : RunFault) (watched : ObserverOf) (before now : OutputOf) : Type 0 where
   pub world : WorldOf
-  pub begins : IsWatched files config number show world
+  pub begins : IsObservedSetup files config number show world
   pub shown : watched.shows ≡ shown_of show
   pub left : WorldOf
-  pub reached : StepsLead number world left
+  pub reached : RunsSteps number world left
   pub promised : IsSafeSince world left
   pub caused : IsCaused number world left told watched
-  pub sees : StepsSeen number world left watched.seen
+  pub sees : RunsStepsSeen number world left watched.seen
   pub lost : told ≡ faults.Edge edges.Frame → NamesLost left watched.lost
-  pub recorded : watched.fault ≡ None → IfSome watched.recording (IsRecorded world left)
-  pub kept_up : AreKeptUpStill watched.history left.history
-  pub written : Prints before now (report_in show.form left)
+  pub recorded : watched.fault ≡ None → IfSome watched.recording (HasRecordedSteps world left)
+  pub kept_up : MayHaveHistoryLines watched.history left.history
+  pub written : WritesOutput before now (report_in show.form left)
 
 -- A beginning of it is.
 pub record BreaksReport (files : List ℕ → FileOf) (config : SourceOf) (number : ℕ) (show : ShowOf) (told : RunFault) (before now : OutputOf) : Type 0 where
   pub is : told ≡ faults.Output
   pub world : WorldOf
-  pub begins : IsWatched files config number show world
+  pub begins : IsObservedSetup files config number show world
   pub left : WorldOf
-  pub reached : StepsLead number world left
+  pub reached : RunsSteps number world left
   pub promised : IsSafeSince world left
-  pub begun : FailsToPrint before now (report_in show.form left)
+  pub begun : FailsToWriteOutput before now (report_in show.form left)
 
 -- Before a link is opened, what looks on doesn't begin.
-pub record LacksTrace (files : List ℕ → FileOf) (config : SourceOf) (number : ℕ) (show : ShowOf) (refuses : List ℕ → Bool) (told : RunFault) (watched : WatchOf) : Type 0 where
+pub record LacksTrace (files : List ℕ → FileOf) (config : SourceOf) (number : ℕ) (show : ShowOf) (refuses : List ℕ → Bool) (told : RunFault) (watched : ObserverOf) : Type 0 where
   pub world : WorldOf
-  pub named : IsNamed files config number world
+  pub named : IsNumberedSetup files config number world
   pub barred : IsBarred files refuses show (config.path ∷ named.setup.config.packages) told watched
 
 -- No link to a device of the configuration is opened.
 pub record LacksLink (files : List ℕ → FileOf) (config : SourceOf) (number : ℕ) (show : ShowOf) (lacks : ℕ → Bool) (told : RunFault) : Type 0 where
   pub world : WorldOf
-  pub begins : IsWatched files config number show world
+  pub begins : IsObservedSetup files config number show world
   pub unlinked : IsUnlinked world lacks told
 
 -- Nothing is written: memory was refused, or there is no world, no package, no store, no trace or no link.
-pub record ReportsNothing (files : List ℕ → FileOf) (config : SourceOf) (number : ℕ) (show : ShowOf) (refuses : List ℕ → Bool) (lacks : ℕ → Bool) (told : RunFault) (watched : WatchOf) (before now : OutputOf) : Type 0 where
+pub record ReportsNothing (files : List ℕ → FileOf) (config : SourceOf) (number : ℕ) (show : ShowOf) (refuses : List ℕ → Bool) (lacks : ℕ → Bool) (told : RunFault) (watched : ObserverOf) (before now : OutputOf) : Type 0 where
   pub kept : now ≡ before
   pub cause :
       (told ≡ faults.Memory)
@@ -147,7 +147,7 @@ pub record ReportsNothing (files : List ℕ → FileOf) (config : SourceOf) (num
       ⊎ (((told ≡ faults.NoPackage) × LacksPackage files config.path number) ⊎ (StoresFail files config told ⊎ (LacksTrace files config number show refuses told watched ⊎ LacksLink files config number show lacks told))))
 
 -- How an update ends that doesn't end well.
-abbrev pub UpdateEnds : (files : List ℕ → FileOf) (config : SourceOf) (number : ℕ) (show : ShowOf) (refuses : List ℕ → Bool) (lacks : ℕ → Bool) (told : RunFault) (watched : WatchOf) (before now : OutputOf) → Type 0
+abbrev pub UpdateEnds : (files : List ℕ → FileOf) (config : SourceOf) (number : ℕ) (show : ShowOf) (refuses : List ℕ → Bool) (lacks : ℕ → Bool) (told : RunFault) (watched : ObserverOf) (before now : OutputOf) → Type 0
 UpdateEnds files config number show refuses lacks told watched before now =
     ReportsReached files config number show told watched before now
     ⊎ (BreaksReport files config number show told before now ⊎ ReportsNothing files config number show refuses lacks told watched before now)

@@ -3,11 +3,11 @@
 ghost use Rattle.std.specs.Prelude.{◌≡◌, ◌⊎◌, ◌++◌, IfErr, IfOk, OnErr, OnOk, false, map, option_map, slice_get, true};
 ghost use Rattle.std.specs.Io.KnownBytes.{Appends};
 ghost use Rattle.std.specs.List.{concat};
-ghost use Rattle.fw_package.specs.Asked.{asked_component_of, asked_of, asked_record_of};
+ghost use Rattle.fw_package.specs.Asked.{asked_component_of, asked_package_of, asked_record_of};
 ghost use Rattle.fw_package.specs.Package.{descriptor_of};
 ghost use Rattle.fw_package.specs.Writing.{IsHeaderOf, header_bytes};
 ghost use Rattle.fw_script.specs.PackageSpecs.{package_spec_of, spec_component_of, spec_descriptor_of, spec_record_of, spec_seen};
-ghost use Rattle.fwupd_jobs.specs.Built.{AreImages, BuildEnds, Builds, BuildsApart, ImageFails, ImagesFail, IsApartFromImages, IsImage, IsOverImage, IsRefused, asked_by, component_by, components_by, record_by, refusal_told};
+ghost use Rattle.fwupd_jobs.specs.Built.{AreImages, BuildEnds, Builds, BuildsApart, ImageFails, ImagesFail, IsApartFromImages, IsImage, IsOverImage, IsBuildFault, asked_by, component_by, components_by, record_by, script_fault_of_refusal};
 ghost use Rattle.fwupd_jobs.specs.Setups.{Says, TextFails, TextFault};
 
 use crate::setups::{read_fault, text_fault};
@@ -17,7 +17,7 @@ use fw_script::{
     read_package_spec,
 };
 use fwupd_base::write_whole;
-use fwupd_watch::{Files, Places, RunFault, is_same_file};
+use fwupd_watch::{Files, OutputPlaces, RunFault, is_same_file};
 use std::alloc::Global;
 use std::io::Write;
 
@@ -204,7 +204,7 @@ fn lent_components<'a>(
 
 /// What is told of a package that can't be written, at the line after its text's last.
 fn refused(alloc: Global, path: &str, spec: &PackageSpec, refusal: AskedFault) -> RunFault
-    ensures { (result ≡ RunFault.Memory) ⊎ TextFault path.now (refusal_told (spec_seen spec.now) refusal) result }
+    ensures { (result ≡ RunFault.Memory) ⊎ TextFault path.now (script_fault_of_refusal (spec_seen spec.now) refusal) result }
 {
     let cause = match refusal {
         AskedFault::Uses => ScriptCause::Range,
@@ -220,7 +220,7 @@ fn asked_package<'a, 'r: 'a, 's: 'r>(
     records: &'r [AskedRecord<'r>],
     components: &'a [AskedComponent<'s>],
 ) -> AskedPackage<'a>
-    ensures { asked_of result ≡ record { release = spec.now.release; version = spec.now.version.items; records = map asked_record_of records.now; components = map asked_component_of components.now } }
+    ensures { asked_package_of result ≡ record { release = spec.now.release; version = spec.now.version.items; records = map asked_record_of records.now; components = map asked_component_of components.now } }
 {
     AskedPackage {
         release: spec.release,
@@ -240,7 +240,7 @@ fn header_of(
 ) -> Result<(), RunFault>
     ensures bytes { OnOk result (header.new.items ≡ header_bytes (asked_by (spec_seen spec.now) (map (λ i. i.items) images.now))) }
     ensures header { OnOk result (IsHeaderOf (asked_by (spec_seen spec.now) (map (λ i. i.items) images.now)) header.new.items) }
-    ensures fault { IfErr result (λ e. (e ≡ RunFault.Memory) ⊎ IsRefused path.now (spec_seen spec.now) (map (λ i. i.items) images.now) e) }
+    ensures fault { IfErr result (λ e. (e ≡ RunFault.Memory) ⊎ IsBuildFault path.now (spec_seen spec.now) (map (λ i. i.items) images.now) e) }
 {
     let descriptors = match all_descriptors(alloc, spec.records.as_slice()) {
         Ok(descriptors) => descriptors,
@@ -305,7 +305,7 @@ fn is_over_image<F: Files>(files: &F, path: &str, components: &[SpecComponent]) 
 /// Why the text isn't read, or the first image's file that isn't; `Text` with `Limit`, at the line after the last, where the header
 /// has more than 65,535 bytes or the file more than 4,294,967,295; `Output` where the file is the text's or an image's, or isn't
 /// written; `Memory`.
-pub fn build_file<F: Files, W: Write + Drop, P: Places<W>>(
+pub fn build_file<F: Files, W: Write + Drop, P: OutputPlaces<W>>(
     alloc: Global,
     files: &F,
     path: &str,

@@ -3,7 +3,7 @@
 ghost use Rattle.std.specs.Prelude.{◌≡◌, ◌⊎◌, IfErr, OnOk, option_map};
 ghost use Rattle.fw_setup.specs.Stocks.{stores_in};
 ghost use Rattle.fwupd_jobs.specs.Checked.{CheckedEnds, ReportsChecked};
-ghost use Rattle.fwupd_watch.specs.Running.{IsUnwritten, show_of};
+ghost use Rattle.fwupd_watch.specs.Running.{HasObserverFault, show_of};
 ghost use Rattle.fwupd_jobs.specs.Setups.{TellsStore, source_of};
 
 use crate::sessions::undone_fault;
@@ -11,7 +11,7 @@ use crate::updating::{Wires, update_files};
 use fw_edge::Link;
 use fw_setup::Stores;
 use fw_store::Folder;
-use fwupd_watch::{Files, Output, RunFault, Watch};
+use fwupd_watch::{Files, Observer, Output, RunFault};
 use fwupd_words::{Order, Show};
 use std::alloc::Global;
 use std::io::Write;
@@ -29,7 +29,7 @@ pub fn update_checked<
     T: Stores<D>,
     L: Link + Drop,
     S: Wires<L>,
-    V: Watch,
+    V: Observer,
     W: Write + Drop,
 >(
     alloc: Global,
@@ -46,7 +46,7 @@ pub fn update_checked<
 ) -> Result<(), RunFault>
     ensures ok { OnOk result (ReportsChecked (F.holds files.now) (source_of (stores_in (T.is_known stores.now) (T.files stores.now)) (option_map (λ p. p.now) store.entry) config.now) order (show_of show.entry) (V.watched watch.new) output.old output.new) }
     ensures fault { IfErr result (λ e. CheckedEnds (F.holds files.now) (source_of (stores_in (T.is_known stores.now) (T.files stores.now)) (option_map (λ p. p.now) store.entry) config.now) order (show_of show.entry) (V.refuses watch.old) (S.lacks wires.old folder.now) e (V.watched watch.new) output.old output.new) }
-    ensures untouched { IfErr result (λ e. (watch.new ≡ watch.old) ⊎ IsUnwritten e (V.watched watch.new).fault) }
+    ensures untouched { IfErr result (λ e. (watch.new ≡ watch.old) ⊎ HasObserverFault e (V.watched watch.new).fault) }
     ensures unopened { IfErr result (λ e. TellsStore e → (watch.new ≡ watch.old) × (wires.new ≡ wires.old)) }
 {
     let undone = match update_files(

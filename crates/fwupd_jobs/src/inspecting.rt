@@ -1,7 +1,7 @@
 //! Inspecting the package in a file, of which its header is read and no more.
 
 ghost use Rattle.std.specs.Prelude.{◌≡◌, IfErr, OnOk};
-ghost use Rattle.fwupd_jobs.specs.Inspected.{InspectEnds, Inspects, told_as};
+ghost use Rattle.fwupd_jobs.specs.Inspected.{InspectEnds, Inspects, run_fault_of_inspection};
 
 use crate::setups::read_fault;
 use fw_json::inspect_beginning_in;
@@ -12,7 +12,7 @@ use std::io::Write;
 
 /// Why a package couldn't be inspected.
 pub fn inspection_fault(fault: InspectFault) -> RunFault
-    ensures { result ≡ told_as fault }
+    ensures { result ≡ run_fault_of_inspection fault }
 {
     match fault {
         InspectFault::Memory => RunFault::Memory,

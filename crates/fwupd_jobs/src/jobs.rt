@@ -3,7 +3,7 @@
 ghost use Rattle.std.specs.Prelude.{◌≡◌, ◌⊎◌, IfErr, OnOk};
 ghost use Rattle.fw_setup.specs.Stocks.{stores_in};
 ghost use Rattle.fwupd_jobs.specs.Jobs.{IsDone, JobEnds};
-ghost use Rattle.fwupd_watch.specs.Running.{IsUnwritten};
+ghost use Rattle.fwupd_watch.specs.Running.{HasObserverFault};
 
 use crate::building::build_file;
 use crate::checking::update_checked;
@@ -15,9 +15,9 @@ use crate::telling::sel_file;
 use crate::updating::Wires;
 use fw_edge::Link;
 use fw_setup::Stores;
-use fw_soak::Onlooker;
+use fw_soak::SoakObserver;
 use fw_store::Folder;
-use fwupd_watch::{Files, Output, Places, RunFault, Watch};
+use fwupd_watch::{Files, Observer, Output, OutputPlaces, RunFault};
 use fwupd_words::Job;
 use std::alloc::Global;
 use std::io::{Read, Write};
@@ -33,10 +33,10 @@ pub fn perform_job<
     R: Read,
     L: Link + Drop,
     S: Wires<L>,
-    V: Watch,
-    O: Onlooker,
+    V: Observer,
+    O: SoakObserver,
     B: Write + Drop,
-    P: Places<B>,
+    P: OutputPlaces<B>,
     W: Write + Drop,
 >(
     alloc: Global,
@@ -52,7 +52,7 @@ pub fn perform_job<
 ) -> Result<(), RunFault>
     ensures ok { OnOk result (IsDone job.now (F.holds files.now) (stores_in (T.is_known stores.now) (T.files stores.now)) (R.remaining reader.old) (R.remaining reader.new) (V.watched watch.new) (P.is_known places.old) (P.held places.new) output.old output.new) }
     ensures fault { IfErr result (λ e. JobEnds job.now (F.holds files.now) (stores_in (T.is_known stores.now) (T.files stores.now)) (V.refuses watch.old) (S.lacks wires.old) (R.remaining reader.old) (R.remaining reader.new) e (V.watched watch.new) (P.is_known places.old) (P.held places.new) output.old output.new) }
-    ensures untouched { IfErr result (λ e. (watch.new ≡ watch.old) ⊎ IsUnwritten e (V.watched watch.new).fault) }
+    ensures untouched { IfErr result (λ e. (watch.new ≡ watch.old) ⊎ HasObserverFault e (V.watched watch.new).fault) }
 {
     match job {
         Job::Answer(endpoint) => output.answer(alloc, reader, endpoint),

@@ -16,9 +16,11 @@ use crate::updating::Wires;
 use crate::words::words;
 use fw_edge::Link;
 use fw_setup::{Stores, SystemStores};
-use fw_soak::Onlooker;
+use fw_soak::SoakObserver;
 use fw_store::Folder;
-use fwupd_watch::{Files, Onlookers, Output, Places, RunFault, SystemFiles, Watch, system_places};
+use fwupd_watch::{
+    Files, Observer, Observers, Output, OutputPlaces, RunFault, SystemFiles, system_places,
+};
 use fwupd_words::{Job, parse};
 use std::io::{self, ErrorKind, Read, Write};
 use std::process::ExitCode;
@@ -43,10 +45,10 @@ fn status<
     R: Read,
     L: Link + Drop,
     S: Wires<L>,
-    V: Watch,
-    O: Onlooker,
+    V: Observer,
+    O: SoakObserver,
     B: Write + Drop,
-    P: Places<B>,
+    P: OutputPlaces<B>,
     W: Write + Drop,
 >(
     rt: &HostRuntime,
@@ -99,7 +101,7 @@ fn run<W: Write + Drop>(rt: &HostRuntime, job: &Job<'_>, output: &mut Output<W>)
     let files = SystemFiles::new(rt);
     let mut reader = rt.reader();
     let mut sockets = Sockets::new(rt);
-    let mut onlookers = Onlookers::new(rt);
+    let mut onlookers = Observers::new(rt);
     let mut progress = SoakProgress::new(rt, runs_of(job));
     let status = status(
         rt,

@@ -1,18 +1,18 @@
 //! Replaying a schedule on the nodes of a configuration.
 
 ghost use Rattle.std.specs.Prelude.{◌≡◌, ◌<◌, ◌≤◌, ◌-◌, ◌^◌, ◌⊎◌, ◌∷◌, IfErr, IfOk, IfSome, None, OnErr, OnOk, Some, is_some, length, map, option_map, slice_get, string_bytes, take, true};
-ghost use Rattle.fw_edge.specs.Links.{Rises};
-ghost use Rattle.fw_script.specs.ScheduleLines.{all_steps, step_said};
+ghost use Rattle.fw_edge.specs.Links.{CountsOne};
+ghost use Rattle.fw_script.specs.ScheduleLines.{all_steps, step_of_next};
 ghost use Rattle.fw_script.specs.Seen.{device_of};
 ghost use Rattle.fw_script.specs.Whole.{AreWhole};
-ghost use Rattle.fw_steps.specs.Headline.{Leads, Run, new_world};
-ghost use Rattle.fw_steps.specs.Replays.{Refuses};
+ghost use Rattle.fw_steps.specs.Headline.{StepsTo, Run, new_world};
+ghost use Rattle.fw_steps.specs.Replays.{RefusesStep};
 ghost use Rattle.fw_steps.specs.Worlds.{full_tick};
 ghost use Rattle.fw_setup.specs.Nodes.{nodes_made};
 ghost use Rattle.fw_setup.specs.Stocks.{stores_in};
 ghost use Rattle.fwupd_jobs.specs.Replayed.{IsReplayed, ReplayEnds, ReportsReplay, taken_of};
 ghost use Rattle.fwupd_watch.specs.Apart.{IsApart, IsBarred};
-ghost use Rattle.fwupd_watch.specs.Running.{IsUnwritten, show_of, shown_of};
+ghost use Rattle.fwupd_watch.specs.Running.{HasObserverFault, show_of, shown_of};
 ghost use Rattle.fwupd_jobs.specs.Setups.{source_of};
 
 use crate::setups::{configuration, package_files, packages_in, read_kept, schedule};
@@ -25,7 +25,7 @@ use fw_store::Folder;
 use fw_world::{Missed, Step, StepFault, World, packets_are_safe};
 use fwupd_base::Form;
 use fwupd_watch::{
-    Files, Output, RunFault, Watch, WatchFault, begin_apart, is_one_path, watch_fault,
+    Files, Observer, ObserverFault, Output, RunFault, begin_apart, is_one_path, observer_fault,
 };
 use fwupd_words::Show;
 use mctp_ctl::Endpoint;
@@ -36,19 +36,19 @@ use std::io::Write;
 /// What a replay leaves: the report of the world, the number of the step that isn't taken, from 0 on, and why, and how what looked
 /// on ended.
 #[derive(Drop)]
-pub struct Outcome {
+pub struct ReplayOutcome {
     /// The report.
     pub report: Vec<u8>,
     /// The step that isn't taken, if there is one.
     pub fault: Option<(usize, StepFault)>,
     /// Whether what looked on had a fault.
-    pub watched: Result<(), WatchFault>,
+    pub watched: Result<(), ObserverFault>,
 }
 
 /// The step that comes next: one that a line says, or this tick that all nodes count.
 fn lent<'s>(next: NextStep<'s>, tick: &'s Step) -> &'s Step
     requires { tick.now ≡ full_tick }
-    ensures { result.now ≡ step_said next.entry }
+    ensures { result.now ≡ step_of_next next.entry }
 {
     match next {
         NextStep::Said(step) => step,
@@ -60,17 +60,17 @@ fn lent<'s>(next: NextStep<'s>, tick: &'s Step) -> &'s Step
 ///
 /// # Errors
 /// Why the step isn't taken. Nothing has changed then.
-fn take_seen<B: Bank + Drop, V: Watch>(
+fn take_observed<B: Bank + Drop, V: Observer>(
     world: &mut World<'_, B>,
     step: &Step,
     is_traced: bool,
     watch: &mut V,
 ) -> Result<(), StepFault>
-    ensures taken { OnOk result (Leads world.old step.now world.new) }
-    ensures refused { IfErr result (λ e. Refuses world.old step.now e) }
+    ensures taken { OnOk result (StepsTo world.old step.now world.new) }
+    ensures refused { IfErr result (λ e. RefusesStep world.old step.now e) }
     ensures kept { OnErr result (world.new ≡ world.old) }
     ensures same { (V.watched watch.new).shows ≡ (V.watched watch.old).shows }
-    ensures seen { OnOk result (is_traced ≡ true → Rises (V.watched watch.old).seen (V.watched watch.new).seen) }
+    ensures seen { OnOk result (is_traced ≡ true → CountsOne (V.watched watch.old).seen (V.watched watch.new).seen) }
     ensures unseen { OnErr result ((V.watched watch.new).seen ≡ (V.watched watch.old).seen) }
 {
     match world.step(step) {
@@ -88,7 +88,7 @@ fn take_seen<B: Bank + Drop, V: Watch>(
 ///
 /// # Errors
 /// The number of the step that isn't taken, counted from 0, and why.
-fn replay_lines<B: Bank + Drop, V: Watch>(
+fn replay_lines<B: Bank + Drop, V: Observer>(
     world: &mut World<'_, B>,
     lines: &[ScheduleLine],
     is_traced: bool,
@@ -96,7 +96,7 @@ fn replay_lines<B: Bank + Drop, V: Watch>(
 ) -> Result<(), (usize, StepFault)>
     requires countable { length (all_steps lines.now) ≤ 2 ^ 64 - 1 }
     ensures ok { OnOk result (Run world.old (all_steps lines.now) world.new) }
-    ensures stopped { IfErr result (λ e. (e.0 < length (all_steps lines.now)) × Run world.old (take e.0 (all_steps lines.now)) world.new × IfSome (slice_get (all_steps lines.now) e.0) (λ s. Refuses world.new s e.1)) }
+    ensures stopped { IfErr result (λ e. (e.0 < length (all_steps lines.now)) × Run world.old (take e.0 (all_steps lines.now)) world.new × IfSome (slice_get (all_steps lines.now) e.0) (λ s. RefusesStep world.new s e.1)) }
     ensures same { (V.watched watch.new).shows ≡ (V.watched watch.old).shows }
     ensures seen { OnOk result (is_traced ≡ true → (V.watched watch.old).seen ≡ 0 → (V.watched watch.new).seen ≡ length (all_steps lines.now)) }
     ensures seen_before { IfErr result (λ e. is_traced ≡ true → (V.watched watch.old).seen ≡ 0 → (V.watched watch.new).seen ≡ e.0) }
@@ -105,7 +105,7 @@ fn replay_lines<B: Bank + Drop, V: Watch>(
     let mut steps = LineSteps::of(lines);
     let mut taken = 0;
     while let Some(next) = steps.next() {
-        match take_seen(world, lent(next, &tick), is_traced, watch) {
+        match take_observed(world, lent(next, &tick), is_traced, watch) {
             Ok(()) => {}
             Err(fault) => return Err((taken, fault)),
         }
@@ -118,7 +118,7 @@ fn replay_lines<B: Bank + Drop, V: Watch>(
 ///
 /// # Errors
 /// `AllocError` where memory for the nodes or the report is refused.
-pub fn replayed<'a, V: Watch>(
+pub fn replayed<'a, V: Observer>(
     alloc: Global,
     unit: Unit,
     agent: Endpoint,
@@ -127,7 +127,7 @@ pub fn replayed<'a, V: Watch>(
     lines: &[ScheduleLine],
     show: Show<'_>,
     watch: &mut V,
-) -> Result<Outcome, AllocError>
+) -> Result<ReplayOutcome, AllocError>
     requires whole { AreWhole agent.eid (map device_of devices.items) }
     requires countable { length (all_steps lines.now) ≤ 2 ^ 64 - 1 }
     ensures replayed { IfOk result (λ r. IsReplayed (new_world agent (nodes_made unit agent.eid (map device_of devices.items)) packages.now) (all_steps lines.now) r.fault show.entry.form r.report.items) }
@@ -145,7 +145,7 @@ pub fn replayed<'a, V: Watch>(
     };
     let watched = watch.end(&world);
     let report = report_in(alloc, &world, show.form)?;
-    Ok(Outcome {
+    Ok(ReplayOutcome {
         report,
         fault,
         watched,
@@ -154,7 +154,7 @@ pub fn replayed<'a, V: Watch>(
 
 /// Lets what looks on begin, where what it shows isn't written over a file that was read, nor over another that it writes, nor into a
 /// store.
-fn begin_replay<F: Files, V: Watch>(
+fn begin_replay<F: Files, V: Observer>(
     alloc: Global,
     files: &F,
     config: &str,
@@ -166,7 +166,7 @@ fn begin_replay<F: Files, V: Watch>(
     ensures shows { OnOk result ((V.watched watch.new).shows ≡ shown_of (show_of show.entry)) }
     ensures anew { OnOk result ((V.watched watch.new).seen ≡ 0) }
     ensures apart { OnOk result (IsApart (F.holds files.now) (show_of show.entry) (schedule.now ∷ config.now ∷ map (λ p. string_bytes p) packages.now)) }
-    ensures untouched { IfErr result (λ e. (watch.new ≡ watch.old) ⊎ IsUnwritten e (V.watched watch.new).fault) }
+    ensures untouched { IfErr result (λ e. (watch.new ≡ watch.old) ⊎ HasObserverFault e (V.watched watch.new).fault) }
     ensures fault { IfErr result (λ e. (e ≡ RunFault.Memory)
         ⊎ IsBarred (F.holds files.now) (V.refuses watch.old) (show_of show.entry) (schedule.now ∷ config.now ∷ map (λ p. string_bytes p) packages.now) e (V.watched watch.new)) }
 {
@@ -196,7 +196,7 @@ fn begin_replay<F: Files, V: Watch>(
 /// is then of the world before it. `Trace`, `Log` or `Record` where what looked on couldn't write: the report is written all the same. `Output`
 /// where the report isn't written whole: a beginning of it may be. `Memory` where memory is refused: nothing is written then, unless it was
 /// what looked on that lacked it.
-pub fn replay_files<F: Files, D: Folder + Drop, T: Stores<D>, V: Watch, W: Write + Drop>(
+pub fn replay_files<F: Files, D: Folder + Drop, T: Stores<D>, V: Observer, W: Write + Drop>(
     alloc: Global,
     files: &F,
     stores: &T,
@@ -209,7 +209,7 @@ pub fn replay_files<F: Files, D: Folder + Drop, T: Stores<D>, V: Watch, W: Write
 ) -> Result<(), RunFault>
     ensures ok { OnOk result (ReportsReplay (F.holds files.now) (source_of (stores_in (T.is_known stores.now) (T.files stores.now)) (option_map (λ p. p.now) store.entry) config.now) steps.now (show_of show.entry) (V.watched watch.new) output.old output.new) }
     ensures fault { IfErr result (λ e. ReplayEnds (F.holds files.now) (source_of (stores_in (T.is_known stores.now) (T.files stores.now)) (option_map (λ p. p.now) store.entry) config.now) steps.now (show_of show.entry) (V.refuses watch.old) e (V.watched watch.new) output.old output.new) }
-    ensures untouched { IfErr result (λ e. (watch.new ≡ watch.old) ⊎ IsUnwritten e (V.watched watch.new).fault) }
+    ensures untouched { IfErr result (λ e. (watch.new ≡ watch.old) ⊎ HasObserverFault e (V.watched watch.new).fault) }
 {
     let Config {
         agent,
@@ -263,6 +263,6 @@ pub fn replay_files<F: Files, D: Folder + Drop, T: Stores<D>, V: Watch, W: Write
     }
     match outcome.watched {
         Ok(()) => Ok(()),
-        Err(fault) => Err(watch_fault(fault)),
+        Err(fault) => Err(observer_fault(fault)),
     }
 }

@@ -1,7 +1,7 @@
 //! Which session of a world isn't Done.
 
 ghost use Rattle.std.specs.Prelude.{◌≡◌, None};
-ghost use Rattle.fwupd_watch.specs.Running.{watch_of};
+ghost use Rattle.fwupd_watch.specs.Running.{observer_fault_of};
 ghost use Rattle.fwupd_jobs.specs.Sessions.{TellsUndone, is_done, undone_in, undone_word};
 ghost use Rattle.fwupd_jobs.specs.Setups.{TellsStore};
 
@@ -58,7 +58,7 @@ fn undone_word(state: Option<SessionState>) -> &'static str
 /// What is told of a session that isn't Done.
 pub fn undone_fault(undone: Undone) -> RunFault
     ensures tells { TellsUndone undone result }
-    ensures other { watch_of result ≡ None }
+    ensures other { observer_fault_of result ≡ None }
     ensures store { TellsStore result → ⊥ }
 {
     RunFault::Session(undone.eid, undone_word(undone.state))

@@ -8,8 +8,8 @@ ghost use Rattle.fw_script.specs.ScheduleLines.{all_steps};
 ghost use Rattle.fw_script.specs.Schedules.{script_of};
 ghost use Rattle.fw_script.specs.Seen.{config_seen, device_of};
 ghost use Rattle.fw_script.specs.Whole.{AreWhole};
-ghost use Rattle.fw_setup.specs.Stocks.{AreStocked, stores_in};
-ghost use Rattle.fwupd_jobs.specs.Setups.{AreDevices, ArePacked, IsPacked, IsUnreadable, PackageFails, PackagesFail, Says, TellsUnopened, TextFails, TextFault, misread_told, unread_told};
+ghost use Rattle.fw_setup.specs.Stocks.{HaveStoredImages, stores_in};
+ghost use Rattle.fwupd_jobs.specs.Setups.{AreDevices, ArePacked, IsPacked, IsUnreadable, PackageFails, PackagesFail, Says, TellsUnopened, TextFails, TextFault, run_fault_of_misread, run_fault_of_unread};
 
 use fw_package::Package;
 use fw_script::{
@@ -35,7 +35,7 @@ fn store_fault(unopened: Unopened) -> RunFault
 
 /// What is told of a file of this name that isn't read; without memory for its name, that.
 fn unread(name: Result<String, AllocError>, fault: FileFault) -> RunFault
-    ensures { result ≡ unread_told name fault }
+    ensures { result ≡ run_fault_of_unread name fault }
 {
     match (fault, name) {
         (FileFault::Unreadable, Ok(name)) => RunFault::Unreadable(name),
@@ -45,7 +45,7 @@ fn unread(name: Result<String, AllocError>, fault: FileFault) -> RunFault
 
 /// What is told of a text of this name that is none of its format; without memory for its name, that.
 fn misread(name: Result<String, AllocError>, fault: ScriptFault) -> RunFault
-    ensures { result ≡ misread_told name fault }
+    ensures { result ≡ run_fault_of_misread name fault }
 {
     match (fault.cause, name) {
         (ScriptCause::Memory, _) | (_, Err(_)) => RunFault::Memory,
@@ -218,7 +218,7 @@ pub(crate) fn open_kept<D: Folder + Drop, T: Stores<D>>(
     root: &str,
     devices: &mut Vec<DeviceConfig>,
 ) -> Result<StoreBanks<D>, RunFault>
-    ensures stocked { OnOk result (AreStocked (stores_in (T.is_known stores.now) (T.files stores.now) root.now) (map device_of devices.old.items) (map device_of devices.new.items)) }
+    ensures stocked { OnOk result (HaveStoredImages (stores_in (T.is_known stores.now) (T.files stores.now) root.now) (map device_of devices.old.items) (map device_of devices.new.items)) }
     ensures whole { OnOk result ((agent : ℕ) → AreWhole agent (map device_of devices.old.items) → AreWhole agent (map device_of devices.new.items)) }
     ensures fault { IfErr result (λ e. (e ≡ RunFault.Memory) ⊎ TellsUnopened (stores_in (T.is_known stores.now) (T.files stores.now) root.now) (map device_of devices.old.items) e) }
 {

@@ -1,6 +1,6 @@
 //! How far a soak is, shown on a terminal.
 
-use fw_soak::{Onlooker, Summary};
+use fw_soak::{SoakObserver, Summary};
 use std::io::{IsTerminal, Print};
 use std::time::{Duration, Instant};
 
@@ -53,7 +53,7 @@ impl<'a> SoakProgress<'a> {
     }
 }
 
-impl<'a> Onlooker for SoakProgress<'a> {
+impl<'a> SoakObserver for SoakProgress<'a> {
     fn see(&mut self, summary: &Summary) {
         if summary.runs >= self.runs {
             self.end();

@@ -2,14 +2,14 @@
 
 ghost use Rattle.std.specs.Prelude.{◌≡◌, ◌≢◌, ◌⊎◌, IfErr, None, OnErr, OnOk, Some, false, option_map, true};
 ghost use Rattle.fw_script.specs.ScheduleTexts.{schedule_text};
-ghost use Rattle.fwupd_jobs.specs.Soaked.{IsJudged, SoakEnds, SoaksClean};
+ghost use Rattle.fwupd_jobs.specs.Soaked.{ReportsViolation, SoakEnds, SoaksClean};
 
 use crate::numbering::is_numbered;
 use crate::setups::{configuration, package_files, packages_in};
 use fw_script::{Config, write_schedule};
-use fw_soak::{Onlooker, Setup, soak, summary_text};
+use fw_soak::{Setup, SoakObserver, soak, summary_text};
 use fw_world::Step;
-use fwupd_watch::{Files, Output, Places, RunFault, is_over_read, write_file};
+use fwupd_watch::{Files, Output, OutputPlaces, RunFault, is_over_read, write_file};
 use fwupd_words::SoakOrder;
 use std::alloc::Global;
 use std::io::Write;
@@ -29,7 +29,7 @@ fn unrecorded(fault: RunFault) -> RunFault
 ///
 /// # Errors
 /// `Record` where it isn't written, and `Memory`. The file is as it was then.
-fn keep<W: Write + Drop, P: Places<W>>(
+fn keep<W: Write + Drop, P: OutputPlaces<W>>(
     alloc: Global,
     steps: &[Step],
     path: &str,
@@ -56,14 +56,14 @@ fn keep<W: Write + Drop, P: Places<W>>(
 ///
 /// # Errors
 /// `Violation`; `Record` or `Memory` where the steps aren't kept.
-fn judge<W: Write + Drop, P: Places<W>>(
+fn judge<W: Write + Drop, P: OutputPlaces<W>>(
     alloc: Global,
     kept: Option<Vec<Step>>,
     file: Option<&str>,
     places: &mut P,
 ) -> Result<(), RunFault>
     ensures ok { OnOk result (option_map (λ k. k.items) kept ≡ None) }
-    ensures fault { IfErr result (λ e. IsJudged (option_map (λ k. k.items) kept) (option_map (λ p. p.now) file.entry) e (P.is_known places.old) (P.held places.new)) }
+    ensures fault { IfErr result (λ e. ReportsViolation (option_map (λ k. k.items) kept) (option_map (λ p. p.now) file.entry) e (P.is_known places.old) (P.held places.new)) }
     ensures left { P.is_begun places.old ≡ false → P.is_begun places.new ≡ false }
 {
     let Some(steps) = kept else {
@@ -85,7 +85,7 @@ fn judge<W: Write + Drop, P: Places<W>>(
 /// The first fault, in this order: of the configuration's file; `NoPackage` where it names none; of the packages that it names, one
 /// after the other; `Record` where the steps would be written over one of these files; `Memory`, nothing is written then. `Output`
 /// where what is said isn't written whole. `Record` or `Memory` where the steps aren't kept, and else `Violation` where a run went wrong.
-pub fn soak_file<F: Files, V: Onlooker, B: Write + Drop, P: Places<B>, W: Write + Drop>(
+pub fn soak_file<F: Files, V: SoakObserver, B: Write + Drop, P: OutputPlaces<B>, W: Write + Drop>(
     alloc: Global,
     files: &F,
     config: &str,

@@ -5,13 +5,13 @@ ghost use Rattle.std.specs.List.{AllByRecursion};
 ghost use Rattle.fw_json.specs.Forms.{report_in};
 ghost use Rattle.fw_setup.specs.Stocks.{stores_in};
 ghost use Rattle.fw_steps.specs.Headline.{IsOpeningWorld};
-ghost use Rattle.fwupd_watch.specs.Outputs.{FailsToPrint, Prints};
+ghost use Rattle.fwupd_watch.specs.Outputs.{FailsToWriteOutput, WritesOutput};
 ghost use Rattle.fwupd_jobs.specs.Sessions.{undone_in};
 ghost use Rattle.fwupd_jobs.specs.Setups.{SourceOf, TellsStore, source_of};
-ghost use Rattle.fwupd_watch.specs.Histories.{AreKeptUp, AreKeptUpStill};
-ghost use Rattle.fwupd_watch.specs.Recordings.{IsNew, IsRecorded};
-ghost use Rattle.fwupd_jobs.specs.Updated.{AreLinked, DrivingEnds, IsLost, IsNamed, IsRough, IsUnlinked, NamesLost, ReportsUpdate, TellsLost, UpdateEnds};
-ghost use Rattle.fwupd_watch.specs.Running.{AreToldOf, IsBroken, IsCaused, IsUnwritten, IsUpdated, StepsLead, StepsSeen, Updates, show_of};
+ghost use Rattle.fwupd_watch.specs.Histories.{HasHistoryLinesIfAny, MayHaveHistoryLines};
+ghost use Rattle.fwupd_watch.specs.Recordings.{IsNewRecording, HasRecordedSteps};
+ghost use Rattle.fwupd_jobs.specs.Updated.{HaveLinks, DrivingEnds, IsLost, IsNumberedSetup, IsRoughLink, IsUnlinked, NamesLost, ReportsUpdate, TellsLost, UpdateEnds};
+ghost use Rattle.fwupd_watch.specs.Running.{ReportsLinkFailures, IsBrokenRun, IsCaused, HasObserverFault, UpdateOk, RunsSteps, RunsStepsSeen, UpdatesDevices, show_of};
 
 use crate::numbering::is_numbered;
 use crate::sessions::{Undone, first_undone};
@@ -24,7 +24,7 @@ use fw_setup::{Stores, opening_world, opening_world_over};
 use fw_store::Folder;
 use fw_world::{World, packets_are_safe};
 use fwupd_base::Form;
-use fwupd_watch::{Files, Output, RunFault, Watch, begin_apart, update_watched};
+use fwupd_watch::{Files, Observer, Output, RunFault, begin_apart, update_observed};
 use fwupd_words::{Order, Show};
 use mctp_wire::Unit;
 use std::alloc::Global;
@@ -58,8 +58,8 @@ fn open_all<B: Bank + Drop, L: Link + Drop, S: Wires<L>>(
     wires: &mut S,
 ) -> Result<Vec<Rough<L>>, RunFault>
     ensures links { IfOk result (λ links. length links.items ≡ length world.now.sites) }
-    ensures each { IfOk result (λ links. AreLinked (λ unit device link. S.is_to unit folder.now device link.link ≡ true) world.now.sites links.items) }
-    ensures rough { IfOk result (λ links. AreLinked (λ unit device link. IsRough roughness device link.roughness link.generator) world.now.sites links.items) }
+    ensures each { IfOk result (λ links. HaveLinks (λ unit device link. S.is_to unit folder.now device link.link ≡ true) world.now.sites links.items) }
+    ensures rough { IfOk result (λ links. HaveLinks (λ unit device link. IsRoughLink roughness device link.roughness link.generator) world.now.sites links.items) }
     ensures fault { IfErr result (λ e. (e ≡ RunFault.Memory) ⊎ IsUnlinked world.now (S.lacks wires.old folder.now) e) }
 {
     let mut links = Vec::new(alloc);
@@ -90,8 +90,8 @@ fn write_report<B: Bank + Drop, W: Write + Drop>(
     form: Form,
     output: &mut Output<W>,
 ) -> Result<(), RunFault>
-    ensures ok { OnOk result (Prints output.old output.new (report_in form world.now)) }
-    ensures fault { IfErr result (λ e. ((e ≡ RunFault.Memory) × (output.new ≡ output.old)) ⊎ ((e ≡ RunFault.Output) × FailsToPrint output.old output.new (report_in form world.now))) }
+    ensures ok { OnOk result (WritesOutput output.old output.new (report_in form world.now)) }
+    ensures fault { IfErr result (λ e. ((e ≡ RunFault.Memory) × (output.new ≡ output.old)) ⊎ ((e ≡ RunFault.Output) × FailsToWriteOutput output.old output.new (report_in form world.now))) }
 {
     let Ok(text) = report_in(alloc, world, form) else {
         return Err(RunFault::Memory);
@@ -119,7 +119,11 @@ fn lost_device<B: Bank + Drop, L: Link>(world: &World<'_, B>, links: &[L]) -> Op
 }
 
 /// Tells what looks on of the first device whose link has failed, if one has.
-fn lose_failed<B: Bank + Drop, L: Link, V: Watch>(world: &World<'_, B>, links: &[L], watch: &mut V)
+fn lose_failed<B: Bank + Drop, L: Link, V: Observer>(
+    world: &World<'_, B>,
+    links: &[L],
+    watch: &mut V,
+)
     ensures seen { (V.watched watch.new).seen ≡ (V.watched watch.old).seen }
     ensures lost { length links.now ≡ length world.now.sites → AllByRecursion (λ n. n ≡ 0) (map (λ l. (L.tally l).failures) links.now) ⊎ TellsLost world.now (map (λ l. (L.tally l).failures) links.now) (V.watched watch.new).lost }
     ensures fault { (V.watched watch.new).fault ≡ (V.watched watch.old).fault }
@@ -139,7 +143,7 @@ fn lose_failed<B: Bank + Drop, L: Link, V: Watch>(world: &World<'_, B>, links: &
 ///
 /// # Errors
 /// That of the update, and else what ends the watch.
-fn update_told<B: Bank + Drop, L: Link + Drop, V: Watch>(
+fn update_reporting<B: Bank + Drop, L: Link + Drop, V: Observer>(
     alloc: Global,
     world: &mut World<'_, B>,
     order: Order,
@@ -147,25 +151,25 @@ fn update_told<B: Bank + Drop, L: Link + Drop, V: Watch>(
     watch: &mut V,
 ) -> Result<(), RunFault>
     requires each { length links.old ≡ length world.old.sites }
-    requires rough { AreLinked (λ unit device link. IsRough order.roughness device link.roughness link.generator) world.old.sites links.old }
-    ensures updated { OnOk result (IsUpdated order.number world.old world.new) }
-    ensures reached { StepsLead order.number world.old world.new }
+    requires rough { HaveLinks (λ unit device link. IsRoughLink order.roughness device link.roughness link.generator) world.old.sites links.old }
+    ensures updated { OnOk result (UpdateOk order.number world.old world.new) }
+    ensures reached { RunsSteps order.number world.old world.new }
     ensures seen { OnOk result ((V.watched watch.new).fault ≡ None) }
-    ensures recorded { OnOk result (IfSome (V.watched watch.old).recording IsNew → IfSome (V.watched watch.new).recording (IsRecorded world.old world.new)) }
-    ensures recorded_still { IfErr result (λ e. (V.watched watch.new).fault ≡ None → IfSome (V.watched watch.old).recording IsNew → IfSome (V.watched watch.new).recording (IsRecorded world.old world.new)) }
-    ensures history { OnOk result (AreKeptUp (V.watched watch.old).history world.old.history → AreKeptUp (V.watched watch.new).history world.new.history) }
-    ensures history_still { AreKeptUp (V.watched watch.old).history world.old.history → AreKeptUpStill (V.watched watch.new).history world.new.history }
+    ensures recorded { OnOk result (IfSome (V.watched watch.old).recording IsNewRecording → IfSome (V.watched watch.new).recording (HasRecordedSteps world.old world.new)) }
+    ensures recorded_still { IfErr result (λ e. (V.watched watch.new).fault ≡ None → IfSome (V.watched watch.old).recording IsNewRecording → IfSome (V.watched watch.new).recording (HasRecordedSteps world.old world.new)) }
+    ensures history { OnOk result (HasHistoryLinesIfAny (V.watched watch.old).history world.old.history → HasHistoryLinesIfAny (V.watched watch.new).history world.new.history) }
+    ensures history_still { HasHistoryLinesIfAny (V.watched watch.old).history world.old.history → MayHaveHistoryLines (V.watched watch.new).history world.new.history }
     ensures ended { (V.watched watch.new).has_ended ≡ true }
     ensures same { (V.watched watch.new).shows ≡ (V.watched watch.old).shows }
-    ensures turns { OnOk result ((V.watched watch.old).seen ≡ 0 → Updates order.number world.old world.new (V.watched watch.new).seen) }
+    ensures turns { OnOk result ((V.watched watch.old).seen ≡ 0 → UpdatesDevices order.number world.old world.new (V.watched watch.new).seen) }
     ensures lost { IfErr result (λ e. e ≡ RunFault.Edge EdgeFault.Frame → TellsLost world.new (map (λ l. l.tally.failures) links.new) (V.watched watch.new).lost) }
     ensures none_lost { OnOk result ((V.watched watch.new).lost ≡ (V.watched watch.old).lost) }
     ensures fault { IfErr result (λ e. (e ≡ RunFault.Memory) ⊎ IsCaused order.number world.old world.new e (V.watched watch.new)) }
     ensures kept { OnOk result (map (λ l. l.tally.failures) links.new ≡ map (λ l. l.tally.failures) links.old) }
-    ensures failed { IfErr result (λ e. AreToldOf e (map (λ l. l.tally.failures) links.old) (map (λ l. l.tally.failures) links.new)) }
-    ensures sees { (V.watched watch.old).seen ≡ 0 → StepsSeen order.number world.old world.new (V.watched watch.new).seen }
+    ensures failed { IfErr result (λ e. ReportsLinkFailures e (map (λ l. l.tally.failures) links.old) (map (λ l. l.tally.failures) links.new)) }
+    ensures sees { (V.watched watch.old).seen ≡ 0 → RunsStepsSeen order.number world.old world.new (V.watched watch.new).seen }
 {
-    match update_watched(alloc, world, order.number, links, watch) {
+    match update_observed(alloc, world, order.number, links, watch) {
         Ok(()) => Ok(()),
         Err(RunFault::Memory) => Err(RunFault::Memory),
         Err(fault) => {
@@ -176,7 +180,7 @@ fn update_told<B: Bank + Drop, L: Link + Drop, V: Watch>(
 }
 
 /// Updates each device of a new world with the package that is asked for over a link of its own, and writes the report of what that leaves.
-fn update_over<B: Bank + Drop, L: Link + Drop, S: Wires<L>, V: Watch, W: Write + Drop>(
+fn update_over<B: Bank + Drop, L: Link + Drop, S: Wires<L>, V: Observer, W: Write + Drop>(
     alloc: Global,
     world: &mut World<'_, B>,
     order: Order,
@@ -186,29 +190,29 @@ fn update_over<B: Bank + Drop, L: Link + Drop, S: Wires<L>, V: Watch, W: Write +
     watch: &mut V,
     output: &mut Output<W>,
 ) -> Result<Option<Undone>, RunFault>
-    ensures updated { OnOk result (IsUpdated order.number world.old world.new) }
+    ensures updated { OnOk result (UpdateOk order.number world.old world.new) }
     ensures seen { OnOk result ((V.watched watch.new).fault ≡ None) }
-    ensures recorded { OnOk result (IfSome (V.watched watch.old).recording IsNew → IfSome (V.watched watch.new).recording (IsRecorded world.old world.new)) }
-    ensures recorded_still { IfErr result (λ e. IsBroken e → (V.watched watch.new).fault ≡ None → IfSome (V.watched watch.old).recording IsNew → IfSome (V.watched watch.new).recording (IsRecorded world.old world.new)) }
-    ensures history { OnOk result (AreKeptUp (V.watched watch.old).history world.old.history → AreKeptUp (V.watched watch.new).history world.new.history) }
-    ensures history_still { IfErr result (λ e. IsBroken e → AreKeptUp (V.watched watch.old).history world.old.history → AreKeptUpStill (V.watched watch.new).history world.new.history) }
+    ensures recorded { OnOk result (IfSome (V.watched watch.old).recording IsNewRecording → IfSome (V.watched watch.new).recording (HasRecordedSteps world.old world.new)) }
+    ensures recorded_still { IfErr result (λ e. IsBrokenRun e → (V.watched watch.new).fault ≡ None → IfSome (V.watched watch.old).recording IsNewRecording → IfSome (V.watched watch.new).recording (HasRecordedSteps world.old world.new)) }
+    ensures history { OnOk result (HasHistoryLinesIfAny (V.watched watch.old).history world.old.history → HasHistoryLinesIfAny (V.watched watch.new).history world.new.history) }
+    ensures history_still { IfErr result (λ e. IsBrokenRun e → HasHistoryLinesIfAny (V.watched watch.old).history world.old.history → MayHaveHistoryLines (V.watched watch.new).history world.new.history) }
     ensures let_end { OnOk result ((V.watched watch.new).has_ended ≡ true) }
-    ensures turns { OnOk result ((V.watched watch.old).seen ≡ 0 → Updates order.number world.old world.new (V.watched watch.new).seen) }
+    ensures turns { OnOk result ((V.watched watch.old).seen ≡ 0 → UpdatesDevices order.number world.old world.new (V.watched watch.new).seen) }
     ensures lost { IfErr result (λ e. e ≡ RunFault.Edge EdgeFault.Frame → NamesLost world.new (V.watched watch.new).lost) }
     ensures none_lost { OnOk result ((V.watched watch.new).lost ≡ (V.watched watch.old).lost) }
-    ensures unwritten { IfErr result (λ e. IsUnwritten e (V.watched watch.new).fault) }
+    ensures unwritten { IfErr result (λ e. HasObserverFault e (V.watched watch.new).fault) }
     ensures same { (V.watched watch.new).shows ≡ (V.watched watch.old).shows }
-    ensures written { OnOk result (Prints output.old output.new (report_in form world.new)) }
+    ensures written { OnOk result (WritesOutput output.old output.new (report_in form world.new)) }
     ensures undone { IfOk result (λ u. u ≡ undone_in world.new) }
-    ensures reached { StepsLead order.number world.old world.new }
-    ensures sees { (V.watched watch.old).seen ≡ 0 → StepsSeen order.number world.old world.new (V.watched watch.new).seen }
+    ensures reached { RunsSteps order.number world.old world.new }
+    ensures sees { (V.watched watch.old).seen ≡ 0 → RunsStepsSeen order.number world.old world.new (V.watched watch.new).seen }
     ensures fault { IfErr result (λ e. DrivingEnds order.number form (S.lacks wires.old folder.now) world.old world.new e (V.watched watch.new) output.old output.new) }
 {
     let mut links = match open_all(alloc, world, folder, order.roughness, wires) {
         Ok(links) => links,
         Err(fault) => return Err(fault),
     };
-    match update_told(alloc, world, order, links.as_mut_slice(), watch) {
+    match update_reporting(alloc, world, order, links.as_mut_slice(), watch) {
         Ok(()) => {}
         Err(RunFault::Memory) => return Err(RunFault::Memory),
         Err(fault) => {
@@ -227,7 +231,7 @@ fn update_over<B: Bank + Drop, L: Link + Drop, S: Wires<L>, V: Watch, W: Write +
 
 /// Lets what looks on begin, updates each device of a world that is new with the package that is asked for over a link of its own, and
 /// writes the report of what that leaves. The world is that of the configuration in a file, which names these packages.
-fn update_new<F: Files, B: Bank + Drop, L: Link + Drop, S: Wires<L>, V: Watch, W: Write + Drop>(
+fn update_new<F: Files, B: Bank + Drop, L: Link + Drop, S: Wires<L>, V: Observer, W: Write + Drop>(
     alloc: Global,
     files: &F,
     config: &str,
@@ -241,13 +245,13 @@ fn update_new<F: Files, B: Bank + Drop, L: Link + Drop, S: Wires<L>, V: Watch, W
     output: &mut Output<W>,
 ) -> Result<Option<Undone>, RunFault>
     requires { IsOpeningWorld world.old }
-    ensures ok { IfOk result (λ undone. (source : SourceOf) (named : IsNamed (F.holds files.now) source order.number world.old) → source.path ≡ config.now
+    ensures ok { IfOk result (λ undone. (source : SourceOf) (named : IsNumberedSetup (F.holds files.now) source order.number world.old) → source.path ≡ config.now
         → named.setup.config.packages ≡ map (λ p. string_bytes p) packages.now
         → ReportsUpdate (F.holds files.now) source order.number (show_of show.entry) (V.watched watch.new) output.old output.new undone) }
-    ensures fault { IfErr result (λ e. (source : SourceOf) (named : IsNamed (F.holds files.now) source order.number world.old) → source.path ≡ config.now
+    ensures fault { IfErr result (λ e. (source : SourceOf) (named : IsNumberedSetup (F.holds files.now) source order.number world.old) → source.path ≡ config.now
         → named.setup.config.packages ≡ map (λ p. string_bytes p) packages.now
         → UpdateEnds (F.holds files.now) source order.number (show_of show.entry) (V.refuses watch.old) (S.lacks wires.old folder.now) e (V.watched watch.new) output.old output.new) }
-    ensures untouched { IfErr result (λ e. (watch.new ≡ watch.old) ⊎ IsUnwritten e (V.watched watch.new).fault) }
+    ensures untouched { IfErr result (λ e. (watch.new ≡ watch.old) ⊎ HasObserverFault e (V.watched watch.new).fault) }
     ensures stores { IfErr result (λ e. TellsStore e → ⊥) }
 {
     packets_are_safe();
@@ -278,7 +282,7 @@ pub fn update_files<
     T: Stores<D>,
     L: Link + Drop,
     S: Wires<L>,
-    V: Watch,
+    V: Observer,
     W: Write + Drop,
 >(
     alloc: Global,
@@ -295,7 +299,7 @@ pub fn update_files<
 ) -> Result<Option<Undone>, RunFault>
     ensures ok { IfOk result (λ undone. ReportsUpdate (F.holds files.now) (source_of (stores_in (T.is_known stores.now) (T.files stores.now)) (option_map (λ p. p.now) store.entry) config.now) order.number (show_of show.entry) (V.watched watch.new) output.old output.new undone) }
     ensures fault { IfErr result (λ e. UpdateEnds (F.holds files.now) (source_of (stores_in (T.is_known stores.now) (T.files stores.now)) (option_map (λ p. p.now) store.entry) config.now) order.number (show_of show.entry) (V.refuses watch.old) (S.lacks wires.old folder.now) e (V.watched watch.new) output.old output.new) }
-    ensures untouched { IfErr result (λ e. (watch.new ≡ watch.old) ⊎ IsUnwritten e (V.watched watch.new).fault) }
+    ensures untouched { IfErr result (λ e. (watch.new ≡ watch.old) ⊎ HasObserverFault e (V.watched watch.new).fault) }
     ensures unopened { IfErr result (λ e. TellsStore e → (watch.new ≡ watch.old) × (wires.new ≡ wires.old)) }
 {
     let Config {

@@ -3,8 +3,8 @@ use Rattle.std.proofs.Common.{◌≡◌, ◌≢◌, ◌++◌, ◌∙◌, ℕ, Li
 use Rattle.std.specs.Prelude.{IfErr, OnOk}
 use Rattle.std.specs.Io.KnownBytes.{Appends, Keeps, append_known}
 use Rattle.mctp_ctl.specs.declared.answers.Endpoint.{Endpoint}
-use Rattle.fwupd_base.specs.Answers.{answers_of, lines_text, printed, tid_along}
-use Rattle.fwupd_base.specs.Stream.{Answered, Broken, BrokenOff, Stopped}
+use Rattle.fwupd_base.specs.Answers.{answers_of, lines_text, text_for_line, tid_along}
+use Rattle.fwupd_base.specs.Stream.{AnswerOk, AnswerWriteErr, BreaksOffAnswer, AnswerErr}
 use Rattle.fwupd_base.specs.declared.stream.AnswerFault.{AnswerFault}
 use Rattle.fwupd_base.specs.declared.stream.AnswerFault.TheVariants as answers
 use Rattle.fwupd_watch.specs.Answering.{AnswerEnds, IsAnswered}
@@ -23,10 +23,10 @@ appends_kept (Some xs) None v text h k = absurd h
 appends_kept (Some xs) (Some ys) None text h k = absurd k
 appends_kept (Some xs) (Some ys) (Some zs) text h k = k ∙ h
 
-all_kept : (e : Endpoint) (rb rn before w v : Option (List ℕ)) → Answered e rb rn before w → Keeps w v → Answered e rb rn before v
+all_kept : (e : Endpoint) (rb rn before w v : Option (List ℕ)) → AnswerOk e rb rn before w → Keeps w v → AnswerOk e rb rn before v
 all_kept e rb rn before w v h k = record { text = h.text; most = h.most; read = h.read; end = h.end; written = appends_kept before w v (answers_of e h.text) h.written k }
 
-stopped_kept : (e : Endpoint) (fault : AnswerFault) (rb rn before w v : Option (List ℕ)) → Stopped e fault rb rn before w → Keeps w v → Stopped e fault rb rn before v
+stopped_kept : (e : Endpoint) (fault : AnswerFault) (rb rn before w v : Option (List ℕ)) → AnswerErr e fault rb rn before w → Keeps w v → AnswerErr e fault rb rn before v
 stopped_kept e fault rb rn before w v h k = record {
   lines = h.lines;
   each = h.each;
@@ -39,7 +39,7 @@ stopped_kept e fault rb rn before w v h k = record {
   written = appends_kept before w v (lines_text e 0 h.lines) h.written k;
 }
 
-off_kept : (e : Endpoint) (text : List ℕ) (before w v : Option (List ℕ)) → BrokenOff e text before w → Keeps w v → BrokenOff e text before v
+off_kept : (e : Endpoint) (text : List ℕ) (before w v : Option (List ℕ)) → BreaksOffAnswer e text before w → Keeps w v → BreaksOffAnswer e text before v
 off_kept e text before w v h k = record {
   lines = h.lines;
   each = h.each;
@@ -49,10 +49,10 @@ off_kept e text before w v h k = record {
   whole = h.whole;
   is = h.is;
   count = h.count;
-  written = appends_kept before w v (lines_text e 0 h.lines ++ take h.count (printed e (tid_along e 0 h.lines) h.line)) h.written k;
+  written = appends_kept before w v (lines_text e 0 h.lines ++ take h.count (text_for_line e (tid_along e 0 h.lines) h.line)) h.written k;
 }
 
-broken_kept : (e : Endpoint) (rb rn before w v : Option (List ℕ)) → Broken e rb rn before w → Keeps w v → Broken e rb rn before v
+broken_kept : (e : Endpoint) (rb rn before w v : Option (List ℕ)) → AnswerWriteErr e rb rn before w → Keeps w v → AnswerWriteErr e rb rn before v
 broken_kept e rb rn before w v h k = record {
   text = h.text;
   past = h.past;
@@ -71,9 +71,9 @@ answered_kept e (Err answers.Memory) rb rn before w v h k = stopped_kept e answe
 
 -- the clauses of a run of answers, in one
 pub answered_so : (e : Endpoint) (end : Result Unit AnswerFault) (rb rn before w : Option (List ℕ))
-    → OnOk end (Answered e rb rn before w)
-    → IfErr end (λ f. f ≢ answers.Write → Stopped e f rb rn before w)
-    → IfErr end (λ f. f ≡ answers.Write → Broken e rb rn before w)
+    → OnOk end (AnswerOk e rb rn before w)
+    → IfErr end (λ f. f ≢ answers.Write → AnswerErr e f rb rn before w)
+    → IfErr end (λ f. f ≡ answers.Write → AnswerWriteErr e rb rn before w)
     → IsAnswered e end rb rn before w
 answered_so e (Ok u) rb rn before w ok stopped broken = ok
 answered_so e (Err answers.Read) rb rn before w ok stopped broken = stopped (λ h. cc)
@@ -97,7 +97,7 @@ answers_break e end rb rn known w before now kept held intact is none failed h k
 
 -- none did
 answers_stop : (e : Endpoint) (fault : AnswerFault) (rb rn known w : Option (List ℕ)) (before now : OutputOf) (kept held : List ℕ)
-    → before.is_broken ≡ false → before.written ≡ known → kept ≡ [] → held ≡ [] → now.is_broken ≡ false → Stopped e fault rb rn (append_known known kept) w
+    → before.is_broken ≡ false → before.written ≡ known → kept ≡ [] → held ≡ [] → now.is_broken ≡ false → AnswerErr e fault rb rn (append_known known kept) w
     → Keeps w (append_known now.written held) → fault ≢ answers.Write → AnswerEnds e rb rn (faults.Answer fault) before now
 answers_stop e fault rb rn known w before now kept held intact is none all whole h k other = inl (record {
   fault = fault;
@@ -106,9 +106,9 @@ answers_stop e fault rb rn known w before now kept held intact is none all whole
   intact = intact;
   whole = whole;
   stopped =
-      subst (λ o. Stopped e fault rb rn before.written o) (held_none now.written held all)
+      subst (λ o. AnswerErr e fault rb rn before.written o) (held_none now.written held all)
       (stopped_kept e fault rb rn before.written w (append_known now.written held)
-      (subst (λ o. Stopped e fault rb rn o w) (held_none known kept none ∙ sym is) h) k);
+      (subst (λ o. AnswerErr e fault rb rn o w) (held_none known kept none ∙ sym is) h) k);
 })
 
 pub answers_end : (e : Endpoint) (fault : AnswerFault) (rb rn known w : Option (List ℕ)) (before now : OutputOf) (kept held : List ℕ)

@@ -6,21 +6,21 @@ use Rattle.std.proofs.KnownBytes.{Appends-trans}
 use Rattle.fw_edge.proofs.Going.{run_append}
 use Rattle.fw_edge.specs.Drives.{Drives}
 use Rattle.fw_edge.specs.Links.{LinksOf}
-use Rattle.fw_edge.specs.Turns.{Drove, Turns}
-use Rattle.fw_script.specs.ScheduleTexts.{AreSayable, PortionsAreTheWhole, SchedulesReadBack, idle_at, schedule_text, text_of_steps, ticks_text}
+use Rattle.fw_edge.specs.Turns.{DrivesTurns, Turns}
+use Rattle.fw_script.specs.ScheduleTexts.{StepsRoundTrip, PortionsAreTheWhole, SchedulesReadBack, idle_at, schedule_text, text_of_steps, ticks_text}
 use Rattle.fw_steps.specs.Headline.{Run}
 use Rattle.fw_steps.specs.Worlds.{WorldOf}
 use Rattle.fw_steps.specs.declared.step.Step.{Step}
-use Rattle.fwupd_watch.specs.Recordings.{Closes, Ends, IsNew, IsRecorded, Notes, NotesRun, RecordingOf, Writes, recording_of}
-use Rattle.fwupd_watch.specs.declared.running.WatchFault.{WatchFault}
+use Rattle.fwupd_watch.specs.Recordings.{WritesHeldTicksIfAny, WritesHeldTicks, IsNewRecording, HasRecordedSteps, RecordsStepsIfAny, RecordsRun, RecordingOf, RecordsSteps, recording_of}
+use Rattle.fwupd_watch.specs.declared.running.ObserverFault.{ObserverFault}
 
 -- steps of two lists can be said
-both_sayable : (front back : List Step) → AreSayable front → AreSayable back → AreSayable (front ++ back)
+both_sayable : (front back : List Step) → StepsRoundTrip front → StepsRoundTrip back → StepsRoundTrip (front ++ back)
 both_sayable [] back h k = k
 both_sayable (step ∷ front) back h k = (h.0, both_sayable front back h.1 k)
 
 -- one portion behind another
-writes_on : PortionsAreTheWhole → (r s t : RecordingOf) (ss ts : List Step) → Writes r s ss → Writes s t ts → Writes r t (ss ++ ts)
+writes_on : PortionsAreTheWhole → (r s t : RecordingOf) (ss ts : List Step) → RecordsSteps r s ss → RecordsSteps s t ts → RecordsSteps r t (ss ++ ts)
 writes_on law r s t ss ts h k =
     let parts = law r.idle ss ts in
     record {
@@ -32,7 +32,7 @@ writes_on law r s t ss ts h k =
       sayable = both_sayable ss ts h.sayable k.sayable;
     }
 
-notes_on : PortionsAreTheWhole → (a b c : Option RecordingOf) (ss ts : List Step) → Notes a b ss → Notes b c ts → Notes a c (ss ++ ts)
+notes_on : PortionsAreTheWhole → (a b c : Option RecordingOf) (ss ts : List Step) → RecordsStepsIfAny a b ss → RecordsStepsIfAny b c ts → RecordsStepsIfAny a c (ss ++ ts)
 notes_on law None None c ss ts h k = k
 notes_on law None (Some s) c ss ts h k = absurd (let bad : Some s ≡ None = h in cc)
 notes_on law (Some r) None c ss ts h k = absurd h
@@ -40,44 +40,44 @@ notes_on law (Some r) (Some s) None ss ts h k = absurd k
 notes_on law (Some r) (Some s) (Some t) ss ts h k = writes_on law r s t ss ts h k
 
 -- those of the starts
-pub run_begun : (w v : WorldOf) (a b : Option RecordingOf) (listed slice ss : List Step) → slice ≡ listed → listed ≡ ss → Run w ss v → Notes a b slice → NotesRun w v a b
-run_begun w v a b listed slice ss is same run noted = record { steps = ss; run = run; noted = subst (Notes a b) (is ∙ same) noted }
+pub run_begun : (w v : WorldOf) (a b : Option RecordingOf) (listed slice ss : List Step) → slice ≡ listed → listed ≡ ss → Run w ss v → RecordsStepsIfAny a b slice → RecordsRun w v a b
+run_begun w v a b listed slice ss is same run noted = record { steps = ss; run = run; noted = subst (RecordsStepsIfAny a b) (is ∙ same) noted }
 
 -- and those of a turn
-pub run_noted : PortionsAreTheWhole → (w v u : WorldOf) (a b c : Option RecordingOf) (before after slice : List Step) → NotesRun w v a b → before ≡ [] → Drives v before u after → slice ≡ after → Notes b c slice
-    → NotesRun w u a c
+pub run_noted : PortionsAreTheWhole → (w v u : WorldOf) (a b c : Option RecordingOf) (before after slice : List Step) → RecordsRun w v a b → before ≡ [] → Drives v before u after → slice ≡ after → RecordsStepsIfAny b c slice
+    → RecordsRun w u a c
 run_noted law w v u a b c before after slice h none k is noted = record {
   steps = h.steps ++ k.steps;
   run = run_append w v u h.steps k.steps h.run k.run;
-  noted = notes_on law a b c h.steps k.steps h.noted (subst (Notes b c) (is ∙ k.appended ∙ ap (λ ss. ss ++ k.steps) none) noted);
+  noted = notes_on law a b c h.steps k.steps h.noted (subst (RecordsStepsIfAny b c) (is ∙ k.appended ∙ ap (λ ss. ss ++ k.steps) none) noted);
 }
 
 -- those of starts of which not all were allowed
-pub run_broken : (w v : WorldOf) (a b : Option RecordingOf) (listed slice : List Step) (r : Result (Prim.Unit {0}) WatchFault) (fault : Option WatchFault) → slice ≡ listed → Run w listed v → OnOk r (Notes a b slice)
-    → IfErr r (λ e. fault ≡ Some e) → fault ≡ None → NotesRun w v a b
-run_broken w v a b listed slice (Ok u) fault is run noted bad none = record { steps = listed; run = run; noted = subst (Notes a b) is noted }
+pub run_broken : (w v : WorldOf) (a b : Option RecordingOf) (listed slice : List Step) (r : Result (Prim.Unit {0}) ObserverFault) (fault : Option ObserverFault) → slice ≡ listed → Run w listed v → OnOk r (RecordsStepsIfAny a b slice)
+    → IfErr r (λ e. fault ≡ Some e) → fault ≡ None → RecordsRun w v a b
+run_broken w v a b listed slice (Ok u) fault is run noted bad none = record { steps = listed; run = run; noted = subst (RecordsStepsIfAny a b) is noted }
 run_broken w v a b listed slice (Err e) fault is run noted bad none = absurd (let had : Some e ≡ None = sym bad ∙ none in cc)
 
 -- what looks on had no fault before it was let end
-pub none_before : (r : Result (Prim.Unit {0}) WatchFault) (before now : Option WatchFault) → IfSome before (λ f. r ≡ Err f) → IfErr r (λ e. now ≡ Some e) → now ≡ None → before ≡ None
+pub none_before : (r : Result (Prim.Unit {0}) ObserverFault) (before now : Option ObserverFault) → IfSome before (λ f. r ≡ Err f) → IfErr r (λ e. now ≡ Some e) → now ≡ None → before ≡ None
 none_before r None now first bad none = refl
 none_before (Ok u) (Some f) now first bad none = absurd (let other : Ok u ≡ Err f = first in cc)
 none_before (Err e) (Some f) now first bad none = absurd (let had : Some e ≡ None = sym bad ∙ none in cc)
 
-pub well_ended : (r : Result (Prim.Unit {0}) WatchFault) (now : Option WatchFault) (P : Type 0) → IfErr r (λ e. now ≡ Some e) → now ≡ None → OnOk r P → P
+pub well_ended : (r : Result (Prim.Unit {0}) ObserverFault) (now : Option ObserverFault) (P : Type 0) → IfErr r (λ e. now ≡ Some e) → now ≡ None → OnOk r P → P
 well_ended (Ok u) now P bad none h = h
 well_ended (Err e) now P bad none h = absurd (let had : Some e ≡ None = sym bad ∙ none in cc)
 
 -- none was taken
-pub run_still : (w v u : WorldOf) (a b : Option RecordingOf) → NotesRun w v a b → u ≡ v → NotesRun w u a b
-run_still w v u a b h is = subst (λ x. NotesRun w x a b) (sym is) h
+pub run_still : (w v u : WorldOf) (a b : Option RecordingOf) → RecordsRun w v a b → u ≡ v → RecordsRun w u a b
+run_still w v u a b h is = subst (λ x. RecordsRun w x a b) (sym is) h
 
 -- where so many turns were taken
-pub none_driven : (turns : ℕ) (w : WorldOf) (before : List Step) (old : LinksOf) (v : WorldOf) (after : List Step) (new : LinksOf) (foreign : ℕ) → turns ≡ 0 → Drove turns w before old v after new foreign → v ≡ w
+pub none_driven : (turns : ℕ) (w : WorldOf) (before : List Step) (old : LinksOf) (v : WorldOf) (after : List Step) (new : LinksOf) (foreign : ℕ) → turns ≡ 0 → DrivesTurns turns w before old v after new foreign → v ≡ w
 none_driven turns w before old v after new foreign none h = (subst (λ n. Turns n w before old v after new h.count) none h.turned).0
 
 -- the whole
-whole : SchedulesReadBack → (w v : WorldOf) (r s t : RecordingOf) (steps : List Step) → Run w steps v → Writes r s steps → Ends s t → IsNew r → IsRecorded w v t
+whole : SchedulesReadBack → (w v : WorldOf) (r s t : RecordingOf) (steps : List Step) → Run w steps v → RecordsSteps r s steps → WritesHeldTicks s t → IsNewRecording r → HasRecordedSteps w v t
 whole law w v r s t steps run h k new = record {
   steps = steps;
   run = run;
@@ -89,7 +89,7 @@ whole law w v r s t steps run h k new = record {
   reads = law steps h.sayable;
 }
 
-pub recorded_whole : SchedulesReadBack → (w v : WorldOf) (a b c : Option RecordingOf) → NotesRun w v a b → Closes b c → IfSome a IsNew → IfSome c (IsRecorded w v)
+pub recorded_whole : SchedulesReadBack → (w v : WorldOf) (a b c : Option RecordingOf) → RecordsRun w v a b → WritesHeldTicksIfAny b c → IfSome a IsNewRecording → IfSome c (HasRecordedSteps w v)
 recorded_whole law w v None None None h k new = tt
 recorded_whole law w v None None (Some t) h k new = absurd (let bad : Some t ≡ None = k in cc)
 recorded_whole law w v None (Some s) c h k new = absurd (let noted = h.noted in let bad : Some s ≡ None = noted in cc)
@@ -98,12 +98,12 @@ recorded_whole law w v (Some r) (Some s) None h k new = absurd k
 recorded_whole law w v (Some r) (Some s) (Some t) h k new = whole law w v r s t h.steps h.run h.noted k new
 
 -- into a file, of whose bytes nothing is known
-pub ended_in : (r : Result (Prim.Unit {0}) WatchFault) (w v : Option (List ℕ)) (idle left : ℕ) (a : Option RecordingOf) (F : Type 0) → a ≡ Some (recording_of None None idle)
-    → OnOk r (Ends (recording_of None w idle) (recording_of None v left)) → OnOk r (F → Closes a (Some (recording_of None None left)))
+pub ended_in : (r : Result (Prim.Unit {0}) ObserverFault) (w v : Option (List ℕ)) (idle left : ℕ) (a : Option RecordingOf) (F : Type 0) → a ≡ Some (recording_of None None idle)
+    → OnOk r (WritesHeldTicks (recording_of None w idle) (recording_of None v left)) → OnOk r (F → WritesHeldTicksIfAny a (Some (recording_of None None left)))
 ended_in (Ok u) w v idle left a F is h = λ given. rw is (record { begun = refl; text = tt; none_held = h.none_held })
 ended_in (Err e) w v idle left a F is h = tt
 
-pub noted_in : (r : Result (Prim.Unit {0}) WatchFault) (w v : Option (List ℕ)) (idle left : ℕ) (a : Option RecordingOf) (ss : List Step) (F : Type 0) → a ≡ Some (recording_of None None idle)
-    → OnOk r (Writes (recording_of None w idle) (recording_of None v left) ss) → OnOk r (F → Notes a (Some (recording_of None None left)) ss)
+pub noted_in : (r : Result (Prim.Unit {0}) ObserverFault) (w v : Option (List ℕ)) (idle left : ℕ) (a : Option RecordingOf) (ss : List Step) (F : Type 0) → a ≡ Some (recording_of None None idle)
+    → OnOk r (RecordsSteps (recording_of None w idle) (recording_of None v left) ss) → OnOk r (F → RecordsStepsIfAny a (Some (recording_of None None left)) ss)
 noted_in (Ok u) w v idle left a ss F is h = λ given. rw is (record { begun = refl; text = tt; idle = h.idle; sayable = h.sayable })
 noted_in (Err e) w v idle left a ss F is h = tt

@@ -8,10 +8,10 @@ use Rattle.fw_edge.specs.Drives.{AreDriven, Drives, tick_in, ticks_in}
 use Rattle.fw_edge.proofs.Going.{driven_append, run_append}
 use Rattle.fw_edge.proofs.Rising.{map_length}
 use Rattle.fw_edge.specs.Ledgers.{OneFailed, packet_counts}
-use Rattle.fw_edge.specs.Links.{Rises}
+use Rattle.fw_edge.specs.Links.{CountsOne}
 use Rattle.fw_node.specs.Nodes.{DeviceNodeOf}
-use Rattle.fw_steps.specs.Headline.{Leads, Run, may_step}
-use Rattle.fw_steps.specs.Replays.{Refuses}
+use Rattle.fw_steps.specs.Headline.{StepsTo, Run, may_step}
+use Rattle.fw_steps.specs.Replays.{RefusesStep}
 use Rattle.fw_steps.specs.Worlds.{SiteOf, WorldOf}
 use Rattle.fw_steps.specs.declared.step.StepFault.{StepFault}
 use Rattle.fw_steps.specs.declared.step.StepFault.TheVariants as refusals
@@ -19,11 +19,11 @@ use Rattle.fw_steps.specs.declared.step.Step.{Step}
 use Rattle.fw_steps.specs.declared.step.Step.TheVariants as steps
 use Rattle.fw_edge.specs.declared.driving.EdgeFault.{EdgeFault}
 use Rattle.fw_edge.specs.declared.driving.EdgeFault.TheVariants as edges
-use Rattle.fwupd_watch.specs.Running.{AreToldOf, IsCaused, IsRefusedStart, IsUnwritten, MayEnd, MayStart, StepsLead, StepsSeen, Updates, WatchOf, starts_of, told_by, told_of, watch_of}
+use Rattle.fwupd_watch.specs.Running.{ReportsLinkFailures, IsCaused, IsRefusedStart, HasObserverFault, MayEnd, MayStart, RunsSteps, RunsStepsSeen, UpdatesDevices, ObserverOf, starts_of, run_fault_of_observer, run_fault_of, observer_fault_of}
 use Rattle.fwupd_watch.specs.declared.faults.RunFault.{RunFault}
 use Rattle.fwupd_watch.specs.declared.faults.RunFault.TheVariants as told
-use Rattle.fwupd_watch.specs.declared.running.WatchFault.{WatchFault}
-use Rattle.fwupd_watch.specs.declared.running.WatchFault.TheVariants as watches
+use Rattle.fwupd_watch.specs.declared.running.ObserverFault.{ObserverFault}
+use Rattle.fwupd_watch.specs.declared.running.ObserverFault.TheVariants as watches
 
 pub take_next : {A : Type 0} (xs : List A) (i : ℕ) (x : A) → slice_get xs i ≡ Some x → take (suc i) xs ≡ take i xs ++ x ∷ []
 take_next [] i x e = absurd cc
@@ -45,7 +45,7 @@ start_of number x = steps.Start x.node.endpoint.eid number
 starts_next : (number : ℕ) (xs : List SiteOf) (place : ℕ) (x : SiteOf) → slice_get xs place ≡ Some x → starts_of number (take (suc place) xs) ≡ starts_of number (take place xs) ++ start_of number x ∷ []
 starts_next number xs place x e = ap (starts_of number) (take_next xs place x e) ∙ map-append (start_of number) (take place xs) (x ∷ [])
 
-pub begun_more : (number : ℕ) (w v u : WorldOf) (place : ℕ) (x : SiteOf) → Begun number w place v → slice_get v.sites place ≡ Some x → Leads v (steps.Start x.node.endpoint.eid number) u → Begun number w (place + 1) u
+pub begun_more : (number : ℕ) (w v u : WorldOf) (place : ℕ) (x : SiteOf) → Begun number w place v → slice_get v.sites place ≡ Some x → StepsTo v (steps.Start x.node.endpoint.eid number) u → Begun number w (place + 1) u
 begun_more number w v u place x h e l = record {
   run =
       let next : suc place ≡ place + 1 = omega arith in
@@ -61,11 +61,11 @@ node_there None n e = absurd cc
 node_there (Some x) n e = (x, refl, (let same : Some x.node ≡ Some n = e in cc))
 
 pub begun_by : (number : ℕ) (w v u : WorldOf) (place device : ℕ) (n : DeviceNodeOf) → Begun number w place v → option_map (λ x. x.node) (slice_get v.sites place) ≡ Some n → device ≡ n.endpoint.eid
-    → Leads v (steps.Start device number) u → Begun number w (place + 1) u
+    → StepsTo v (steps.Start device number) u → Begun number w (place + 1) u
 begun_by number w v u place device n h at is l =
     let there = node_there (slice_get v.sites place) n at in
     let own : device ≡ there.0.node.endpoint.eid = is ∙ ap (λ m. m.endpoint.eid) (sym there.2) in
-    begun_more number w v u place there.0 h there.1 (subst (λ d. Leads v (steps.Start d number) u) own l)
+    begun_more number w v u place there.0 h there.1 (subst (λ d. StepsTo v (steps.Start d number) u) own l)
 
 -- its start isn't allowed
 pub refused_at : (number : ℕ) (w v : WorldOf) (place device : ℕ) (n : DeviceNodeOf) (fault : StepFault) → Begun number w place v → option_map (λ x. x.node) (slice_get v.sites place) ≡ Some n → device ≡ n.endpoint.eid
@@ -87,12 +87,12 @@ not_other : (o : Option StepFault) (fault : StepFault) → (o ≡ Some refusals.
 not_other o fault (inl memory) other is = other (let same : Some fault ≡ Some refusals.Memory = sym is ∙ memory in cc)
 not_other o fault (inr none) other is = absurd (let bad : None ≡ Some fault = sym none ∙ is in cc)
 
-none_other : (v : WorldOf) (s : Step) → Refuses v s refusals.Memory → (may_step v s ≡ Some refusals.Memory) ⊎ (may_step v s ≡ None)
+none_other : (v : WorldOf) (s : Step) → RefusesStep v s refusals.Memory → (may_step v s ≡ Some refusals.Memory) ⊎ (may_step v s ≡ None)
 none_other v s (inl e) = inl e
 none_other v s (inr e) = inr e.2
 
 pub allowed_at : (number : ℕ) (w v : WorldOf) (place device : ℕ) (n : DeviceNodeOf) → Begun number w place v → option_map (λ x. x.node) (slice_get v.sites place) ≡ Some n → device ≡ n.endpoint.eid
-    → Refuses v (steps.Start device number) refusals.Memory → MayStart number w v
+    → RefusesStep v (steps.Start device number) refusals.Memory → MayStart number w v
 allowed_at number w v place device n h at is refused =
     let there = node_there (slice_get v.sites place) n at in
     let own : device ≡ there.0.node.endpoint.eid = is ∙ ap (λ m. m.endpoint.eid) (sym there.2) in
@@ -128,7 +128,7 @@ pub begun_all : (number : ℕ) (w v : WorldOf) (place : ℕ) → Begun number w 
 begun_all number w v place h e =
     subst (λ xs. Run w (starts_of number xs) v) (ap (λ n. take n w.sites) (e ∙ ap length h.same) ∙ take-length w.sites) h.run
 
-pub begun_reached : (number : ℕ) (w v : WorldOf) (place : ℕ) → Begun number w place v → StepsLead number w v
+pub begun_reached : (number : ℕ) (w v : WorldOf) (place : ℕ) → Begun number w place v → RunsSteps number w v
 begun_reached number w v place h = record {
   started = place;
   steps = [];
@@ -138,7 +138,7 @@ begun_reached number w v place h = record {
 }
 
 -- steps that are taken once all are started
-led : (number : ℕ) (w v : WorldOf) (ss : List Step) → Run w (starts_of number w.sites ++ ss) v → AreDriven ss → StepsLead number w v
+led : (number : ℕ) (w v : WorldOf) (ss : List Step) → Run w (starts_of number w.sites ++ ss) v → AreDriven ss → RunsSteps number w v
 led number w v ss run driven = record {
   started = length w.sites;
   steps = ss;
@@ -148,11 +148,11 @@ led number w v ss run driven = record {
 }
 
 -- no tick has passed
-pub updates_none : (number : ℕ) (w v : WorldOf) → Run w (starts_of number w.sites) v → Updates number w v 0
+pub updates_none : (number : ℕ) (w v : WorldOf) → Run w (starts_of number w.sites) v → UpdatesDevices number w v 0
 updates_none number w v h = record { steps = []; run = subst (λ ss. Run w ss v) (sym (append-nil (starts_of number w.sites))) h; driven = refl; ticks_are = refl }
 
 -- steps are taken over links, with so many ticks
-pub updates_more : (number : ℕ) (w v u : WorldOf) (ticks more : ℕ) (before after : List Step) → Updates number w v ticks → before ≡ [] → Drives v before u after → ticks_in after ≡ ticks_in before + more → Updates number w u (ticks + more)
+pub updates_more : (number : ℕ) (w v u : WorldOf) (ticks more : ℕ) (before after : List Step) → UpdatesDevices number w v ticks → before ≡ [] → Drives v before u after → ticks_in after ≡ ticks_in before + more → UpdatesDevices number w u (ticks + more)
 updates_more number w v u ticks more before after h none k counts = record {
   steps = h.steps ++ k.steps;
   run =
@@ -168,10 +168,10 @@ updates_more number w v u ticks more before after h none k counts = record {
 }
 
 -- whatever was done, steps led there
-pub updates_reached : (number : ℕ) (w v : WorldOf) (ticks : ℕ) → Updates number w v ticks → StepsLead number w v
+pub updates_reached : (number : ℕ) (w v : WorldOf) (ticks : ℕ) → UpdatesDevices number w v ticks → RunsSteps number w v
 updates_reached number w v ticks h = led number w v h.steps h.run h.driven
 
-pub updates_off : (number : ℕ) (w v u : WorldOf) (ticks : ℕ) (before after : List Step) → Updates number w v ticks → Drives v before u after → StepsLead number w u
+pub updates_off : (number : ℕ) (w v u : WorldOf) (ticks : ℕ) (before after : List Step) → UpdatesDevices number w v ticks → Drives v before u after → RunsSteps number w u
 updates_off number w v u ticks before after h k =
     led number w u (h.steps ++ k.steps)
     (subst (λ ss. Run w ss u) (append_assoc (starts_of number w.sites) h.steps k.steps)
@@ -179,15 +179,15 @@ updates_off number w v u ticks before after h k =
     (driven_append h.steps k.steps h.driven k.driven)
 
 -- what looks on saw each tick
-pub updates_seen : (number : ℕ) (w v : WorldOf) (ticks seen : ℕ) → Updates number w v ticks → seen ≡ ticks → StepsSeen number w v seen
+pub updates_seen : (number : ℕ) (w v : WorldOf) (ticks seen : ℕ) → UpdatesDevices number w v ticks → seen ≡ ticks → RunsStepsSeen number w v seen
 unfolding updates_reached led
 updates_seen number w v ticks seen h is =
     let all : ticks_in (updates_reached number w v ticks h).steps ≡ ticks = h.ticks_are in
     record { lead = updates_reached number w v ticks h; each = omega arith; few = omega arith }
 
 -- also of a turn that stopped, or was over before it began
-pub updates_seen_off : (number : ℕ) (w v u : WorldOf) (ticks seen : ℕ) (before after : List Step) → Updates number w v ticks → before ≡ [] → Drives v before u after → ticks_in after ≤ ticks_in before + 1
-    → seen ≡ ticks + 1 → StepsSeen number w u seen
+pub updates_seen_off : (number : ℕ) (w v u : WorldOf) (ticks seen : ℕ) (before after : List Step) → UpdatesDevices number w v ticks → before ≡ [] → Drives v before u after → ticks_in after ≤ ticks_in before + 1
+    → seen ≡ ticks + 1 → RunsStepsSeen number w u seen
 unfolding updates_off led
 updates_seen_off number w v u ticks seen before after h none k few is =
     let a : ticks_in h.steps ≡ ticks = h.ticks_are in
@@ -198,38 +198,38 @@ updates_seen_off number w v u ticks seen before after h none k few is =
     record { lead = updates_off number w v u ticks before after h k; each = omega arith; few = omega arith }
 
 -- before all are started, none
-pub begun_seen : (number : ℕ) (w v : WorldOf) (place : ℕ) → Begun number w place v → StepsSeen number w v 0
+pub begun_seen : (number : ℕ) (w v : WorldOf) (place : ℕ) → Begun number w place v → RunsStepsSeen number w v 0
 unfolding begun_reached
 begun_seen number w v place h =
     let none : ticks_in (begun_reached number w v place h).steps ≡ 0 = refl in
     record { lead = begun_reached number w v place h; each = omega arith; few = omega arith }
 
 -- what ends the watch is told otherwise than what ends a turn
-pub watched_apart : (f : WatchFault) (e : EdgeFault) → told_by f ≡ told.Edge e → ⊥
+pub watched_apart : (f : ObserverFault) (e : EdgeFault) → run_fault_of_observer f ≡ told.Edge e → ⊥
 watched_apart watches.Unwritten e h = cc
 watched_apart watches.Unlogged e h = cc
 watched_apart watches.Unrecorded e h = cc
 watched_apart watches.Unkept e h = cc
 watched_apart watches.Memory e h = cc
 
-pub turned_apart : (e : EdgeFault) (fault : RunFault) (seen : Option WatchFault) → fault ≡ told_of e → IsUnwritten fault seen
+pub turned_apart : (e : EdgeFault) (fault : RunFault) (seen : Option ObserverFault) → fault ≡ run_fault_of e → HasObserverFault fault seen
 turned_apart edges.Frame fault seen e = rw e tt
 turned_apart edges.Step fault seen e = rw e tt
 turned_apart edges.Memory fault seen e = rw e tt
 
 -- a link's fault is told as one, behind turns in which none failed
-pub told_links : (e : EdgeFault) (fault : RunFault) (os ms ns : List ℕ) → fault ≡ told_of e → ms ≡ os
-    → (e ≡ edges.Frame → OneFailed ms ns) × (e ≢ edges.Frame → ns ≡ ms) → AreToldOf fault os ns
+pub told_links : (e : EdgeFault) (fault : RunFault) (os ms ns : List ℕ) → fault ≡ run_fault_of e → ms ≡ os
+    → (e ≡ edges.Frame → OneFailed ms ns) × (e ≢ edges.Frame → ns ≡ ms) → ReportsLinkFailures fault os ns
 told_links edges.Frame fault os ms ns e same h = (λ is. subst (λ xs. OneFailed xs ns) same (h.0 refl), λ other. absurd (other e))
 told_links edges.Step fault os ms ns e same h = (λ is. absurd (let no = sym e ∙ is in cc), λ other. h.1 (λ no. cc) ∙ same)
 told_links edges.Memory fault os ms ns e same h = (λ is. absurd (let no = sym e ∙ is in cc), λ other. h.1 (λ no. cc) ∙ same)
 
 -- a fault of no watch
-pub none_unwritten : (fault : RunFault) (seen : Option WatchFault) → watch_of fault ≡ None → IsUnwritten fault seen
+pub none_unwritten : (fault : RunFault) (seen : Option ObserverFault) → observer_fault_of fault ≡ None → HasObserverFault fault seen
 none_unwritten fault seen e = rw e tt
 
 -- what looks on can't be written
-pub unwritten_by : (f : WatchFault) (seen : Option WatchFault) (fault : RunFault) → fault ≡ told_by f → seen ≡ Some f → IsUnwritten fault seen
+pub unwritten_by : (f : ObserverFault) (seen : Option ObserverFault) (fault : RunFault) → fault ≡ run_fault_of_observer f → seen ≡ Some f → HasObserverFault fault seen
 unwritten_by watches.Unwritten seen fault e is = rw e is
 unwritten_by watches.Unlogged seen fault e is = rw e is
 unwritten_by watches.Unrecorded seen fault e is = rw e is
@@ -237,25 +237,25 @@ unwritten_by watches.Unkept seen fault e is = rw e is
 unwritten_by watches.Memory seen fault e is = rw e tt
 
 -- and its first fault stays
-first_still : (r : Result (Prim.Unit {0}) WatchFault) (old new : Option WatchFault) (f : WatchFault) → old ≡ Some f → IfSome old (λ g. r ≡ Err g) → IfErr r (λ g. new ≡ Some g) → new ≡ Some f
+first_still : (r : Result (Prim.Unit {0}) ObserverFault) (old new : Option ObserverFault) (f : ObserverFault) → old ≡ Some f → IfSome old (λ g. r ≡ Err g) → IfErr r (λ g. new ≡ Some g) → new ≡ Some f
 first_still r old new f e first after =
     let is : r ≡ Err f = subst (λ o. IfSome o (λ g. r ≡ Err g)) e first in
     subst (λ q. IfErr q (λ g. new ≡ Some g)) is after
 
-pub unwritten_still : (r : Result (Prim.Unit {0}) WatchFault) (old new : Option WatchFault) (fault : RunFault) → IsUnwritten fault old → IfSome old (λ g. r ≡ Err g) → IfErr r (λ g. new ≡ Some g) → IsUnwritten fault new
-unwritten_still r old new fault h first after = go (watch_of fault) h
+pub unwritten_still : (r : Result (Prim.Unit {0}) ObserverFault) (old new : Option ObserverFault) (fault : RunFault) → HasObserverFault fault old → IfSome old (λ g. r ≡ Err g) → IfErr r (λ g. new ≡ Some g) → HasObserverFault fault new
+unwritten_still r old new fault h first after = go (observer_fault_of fault) h
   where
-    go : (o : Option WatchFault) → IfSome o (λ f. old ≡ Some f) → IfSome o (λ f. new ≡ Some f)
+    go : (o : Option ObserverFault) → IfSome o (λ f. old ≡ Some f) → IfSome o (λ f. new ≡ Some f)
     go None is = tt
     go (Some f) is = first_still r old new f is first after
 
 -- the cause of an update's end
-pub update_caused : (number : ℕ) (w v : WorldOf) (fault : RunFault) (watched : WatchOf) → MayEnd fault → (fault ≡ told.Edge edges.Step → IsRefusedStart number w v ⊎ (v.now ≡ 2 ^ 32 - 1))
-    → IsUnwritten fault watched.fault → watched.has_ended ≡ true → (fault ≡ told.Memory) ⊎ IsCaused number w v fault watched
+pub update_caused : (number : ℕ) (w v : WorldOf) (fault : RunFault) (watched : ObserverOf) → MayEnd fault → (fault ≡ told.Edge edges.Step → IsRefusedStart number w v ⊎ (v.now ≡ 2 ^ 32 - 1))
+    → HasObserverFault fault watched.fault → watched.has_ended ≡ true → (fault ≡ told.Memory) ⊎ IsCaused number w v fault watched
 update_caused number w v fault watched (inl e) step unwritten ended = inl e
 update_caused number w v fault watched (inr b) step unwritten ended = inr (record { broken = b; stopped = step; unwritten = unwritten; let_end = ended })
 
-pub caused_unwritten : (number : ℕ) (w v : WorldOf) (fault : RunFault) (watched : WatchOf) → (fault ≡ told.Memory) ⊎ IsCaused number w v fault watched → IsUnwritten fault watched.fault
+pub caused_unwritten : (number : ℕ) (w v : WorldOf) (fault : RunFault) (watched : ObserverOf) → (fault ≡ told.Memory) ⊎ IsCaused number w v fault watched → HasObserverFault fault watched.fault
 caused_unwritten number w v fault watched (inl e) = rw e tt
 caused_unwritten number w v fault watched (inr h) = h.unwritten
 
@@ -264,6 +264,6 @@ pub counted_alike : {A : Type 0} (sites : List SiteOf) (f : A → ℕ) (xs : Lis
 counted_alike sites f xs e = map_length (λ x. length x.packets) sites ∙ sym e ∙ sym (map_length f xs)
 
 -- a turn more is seen
-pub seen_next : (old new n : ℕ) → n ≤ 80000 → old ≡ n → Rises old new → new ≡ n + 1
+pub seen_next : (old new n : ℕ) → n ≤ 80000 → old ≡ n → CountsOne old new → new ≡ n + 1
 seen_next old new n few is (inl more) = omega (arith, is, more)
 seen_next old new n few is (inr last) = absurd (omega (arith, is, last.0))

@@ -12,7 +12,7 @@ use Rattle.exch_lane.specs.Lanes.{Sent}
 use Rattle.fw_edge.specs.Ledgers.{packet_counts}
 use Rattle.fw_trace.specs.Lines.{ReaderOf, lines_of, new_reader, packet_line, reader_after}
 use Rattle.fw_steps.specs.Worlds.{SiteOf, WorldOf}
-use Rattle.fwupd_watch.specs.Traces.{AreReaders, AreReadersOf, GoesOn, GoesOnFrom, GoOn, HasRead, HasTraced, PairGoesOn, ReadOn, TextsAreLines, counts_of, news_text, pair_news, pair_text, packet_text, pairs_text, read_as, reader_behind, reader_for, reader_next, reader_of_pair, reader_past, readers_for, trace_of, trace_text, written_at}
+use Rattle.fwupd_watch.specs.Traces.{AreReaders, AreReadersOf, ContinuesPairs, ContinuesPairsIfAny, ContinueInOrder, HasReadWorlds, HasTracedWorlds, ContinuesPair, ReadOn, TextsAreLines, counts_of, news_text, pair_news, pair_text, packet_text, pairs_text, read_as, reader_after_packets, reader_for, reader_next, reader_of_pair, reader_past, readers_for, trace_of, trace_text, written_at}
 use Rattle.fwupd_words.specs.declared.asked.TraceForm.{TraceForm}
 use Rattle.fwupd_words.specs.declared.asked.TraceForm.TheVariants as forms
 
@@ -21,7 +21,7 @@ past_all : (form : TraceForm) (r : ReaderOf) (ps qs : List Sent) → reader_past
 past_all form r [] qs = refl
 past_all form r (p ∷ ps) qs = past_all form (reader_next form r p) ps qs
 
-behind_all : (form : TraceForm) (w : WorldOf) (x : SiteOf) (read : ℕ) → reader_of_pair form (reader_behind form w x read) (Some x) read ≡ reader_behind form w x (length x.packets)
+behind_all : (form : TraceForm) (w : WorldOf) (x : SiteOf) (read : ℕ) → reader_of_pair form (reader_after_packets form w x read) (Some x) read ≡ reader_after_packets form w x (length x.packets)
 behind_all form w x read =
     sym (past_all form (reader_for w x) (take read x.packets) (drop read x.packets))
     ∙ ap (reader_past form (reader_for w x)) (take-append-drop read x.packets ∙ sym (take_all (length x.packets) x.packets (omega arith)))
@@ -61,18 +61,18 @@ readers_kept : (w : WorldOf) (readers : List ReaderOf) → length readers ≡ le
 readers_kept w readers h = ap (λ xs. readers ++ map (reader_for w) xs) (drop_beyond (length readers) w.sites (omega arith)) ∙ append-nil readers
 
 -- the readers of a world are those of the next, whose packets they haven't read yet
-same_reader : (v w : WorldOf) (x y : SiteOf) → w.agent.endpoint.eid ≡ v.agent.endpoint.eid → PairGoesOn x y → reader_for v x ≡ reader_for w y
+same_reader : (v w : WorldOf) (x y : SiteOf) → w.agent.endpoint.eid ≡ v.agent.endpoint.eid → ContinuesPair x y → reader_for v x ≡ reader_for w y
 same_reader v w x y agent pair =
     ap (λ u. new_reader u v.agent.endpoint.eid x.node.endpoint.eid) (sym pair.unit)
     ∙ ap (λ a. new_reader y.node.half.unit a x.node.endpoint.eid) (sym agent)
     ∙ ap (λ d. new_reader y.node.half.unit w.agent.endpoint.eid d) (sym pair.eid)
 
-goes_on_reader : (form : TraceForm) (v w : WorldOf) (x y : SiteOf) → w.agent.endpoint.eid ≡ v.agent.endpoint.eid → PairGoesOn x y → reader_behind form v x (length x.packets) ≡ reader_behind form w y (length x.packets)
+goes_on_reader : (form : TraceForm) (v w : WorldOf) (x y : SiteOf) → w.agent.endpoint.eid ≡ v.agent.endpoint.eid → ContinuesPair x y → reader_after_packets form v x (length x.packets) ≡ reader_after_packets form w y (length x.packets)
 goes_on_reader form v w x y agent pair =
     ap (reader_past form (reader_for v x)) (take_all (length x.packets) x.packets (omega arith) ∙ sym pair.packets)
     ∙ ap (λ r. reader_past form r (take (length x.packets) y.packets)) (same_reader v w x y agent pair)
 
-readers_go_on : (form : TraceForm) (v w : WorldOf) (readers : List ReaderOf) → GoesOn v w → AreReaders form v (packet_counts v.sites) readers → AreReaders form w (packet_counts v.sites) readers
+readers_go_on : (form : TraceForm) (v w : WorldOf) (readers : List ReaderOf) → ContinuesPairs v w → AreReaders form v (packet_counts v.sites) readers → AreReaders form w (packet_counts v.sites) readers
 readers_go_on form v w readers goes are = record {
   size = are.size ∙ sym goes.size;
   each = λ place y at.
@@ -80,19 +80,19 @@ readers_go_on form v w readers goes are = record {
       let before = there v.sites place (let size = goes.size in omega arith) in
       let count = count_at v.sites place before.0 before.1 in
       are.each place before.0 before.1
-      ∙ ap (λ n. Some (reader_behind form v before.0 n)) count
+      ∙ ap (λ n. Some (reader_after_packets form v before.0 n)) count
       ∙ ap Some (goes_on_reader form v w before.0 y goes.agent (goes.each place before.0 y before.1 at))
-      ∙ ap (λ n. Some (reader_behind form w y n)) (sym count);
+      ∙ ap (λ n. Some (reader_after_packets form w y n)) (sym count);
 }
 
-readers_before : (form : TraceForm) (seen : List WorldOf) (w : WorldOf) (readers : List ReaderOf) → GoesOnFrom seen w → AreReadersOf form seen readers → AreReaders form w (counts_of seen) (readers_for readers w)
+readers_before : (form : TraceForm) (seen : List WorldOf) (w : WorldOf) (readers : List ReaderOf) → ContinuesPairsIfAny seen w → AreReadersOf form seen readers → AreReaders form w (counts_of seen) (readers_for readers w)
 readers_before form [] w readers goes are = subst (λ rs. AreReaders form w [] (readers_for rs w)) (sym are) (new_readers form w)
 readers_before form (v ∷ vs) w readers goes are =
     let on = readers_go_on form v w readers goes are in
     subst (AreReaders form w (packet_counts v.sites)) (sym (readers_kept w readers on.size)) on
 
 -- what they tell of it
-news_at : (form : TraceForm) (w : WorldOf) (written : ℕ) (o : Option ReaderOf) (s : Option SiteOf) → ((x : SiteOf) → s ≡ Some x → o ≡ Some (reader_behind form w x written)) → pair_text form o s written ≡ pair_news form w s written
+news_at : (form : TraceForm) (w : WorldOf) (written : ℕ) (o : Option ReaderOf) (s : Option SiteOf) → ((x : SiteOf) → s ≡ Some x → o ≡ Some (reader_after_packets form w x written)) → pair_text form o s written ≡ pair_news form w s written
 news_at form w written None None h = refl
 news_at form w written (Some r) None h = refl
 news_at form w written o (Some x) h = ap (λ it. pair_text form it (Some x) written) (h x refl)
@@ -108,26 +108,26 @@ readers_after : (form : TraceForm) (w : WorldOf) (written : List ℕ) (old new :
 readers_after form w written old new are on = record {
   size = on.size ∙ are.size;
   each = λ place x at.
-      on.each place (reader_behind form w x (written_at written place)) (slice_get_within w.sites place x at) (are.each place x at)
-      ∙ ap (λ s. Some (reader_of_pair form (reader_behind form w x (written_at written place)) s (written_at written place))) at
+      on.each place (reader_after_packets form w x (written_at written place)) (slice_get_within w.sites place x at) (are.each place x at)
+      ∙ ap (λ s. Some (reader_of_pair form (reader_after_packets form w x (written_at written place)) s (written_at written place))) at
       ∙ ap Some (behind_all form w x (written_at written place))
-      ∙ ap (λ n. Some (reader_behind form w x n)) (sym (count_at w.sites place x at));
+      ∙ ap (λ n. Some (reader_after_packets form w x n)) (sym (count_at w.sites place x at));
 }
 
 -- so a trace goes on
-pub read_on : (form : TraceForm) (seen : List WorldOf) (w : WorldOf) (written counts : List ℕ) (readers new : List ReaderOf) → HasRead form seen written readers → GoesOnFrom seen w → counts ≡ packet_counts w.sites
-    → ReadOn form written w.sites (length w.sites) (readers_for readers w) new → HasRead form (w ∷ seen) counts new
+pub read_on : (form : TraceForm) (seen : List WorldOf) (w : WorldOf) (written counts : List ℕ) (readers new : List ReaderOf) → HasReadWorlds form seen written readers → ContinuesPairsIfAny seen w → counts ≡ packet_counts w.sites
+    → ReadOn form written w.sites (length w.sites) (readers_for readers w) new → HasReadWorlds form (w ∷ seen) counts new
 read_on form seen w written counts readers new has goes are on = record {
   counts = are;
   readers_are = readers_after form w written (readers_for readers w) new (readers_here form seen w written readers has goes) on;
 }
   where
-    readers_here : (form : TraceForm) (seen : List WorldOf) (w : WorldOf) (written : List ℕ) (readers : List ReaderOf) → HasRead form seen written readers → GoesOnFrom seen w → AreReaders form w written (readers_for readers w)
+    readers_here : (form : TraceForm) (seen : List WorldOf) (w : WorldOf) (written : List ℕ) (readers : List ReaderOf) → HasReadWorlds form seen written readers → ContinuesPairsIfAny seen w → AreReaders form w written (readers_for readers w)
     readers_here form seen w written readers has goes = subst (λ ns. AreReaders form w ns (readers_for readers w)) (sym has.counts) (readers_before form seen w readers goes has.readers_are)
 
-pub traced_on : (form : TraceForm) (seen : List WorldOf) (w : WorldOf) (written counts : List ℕ) (readers new : List ReaderOf) (before mid now : Option (List ℕ)) → HasTraced form seen written readers before mid → GoesOnFrom seen w
+pub traced_on : (form : TraceForm) (seen : List WorldOf) (w : WorldOf) (written counts : List ℕ) (readers new : List ReaderOf) (before mid now : Option (List ℕ)) → HasTracedWorlds form seen written readers before mid → ContinuesPairsIfAny seen w
     → Appends mid now (pairs_text form (readers_for readers w) written w.sites (length w.sites)) → counts ≡ packet_counts w.sites → ReadOn form written w.sites (length w.sites) (readers_for readers w) new
-    → HasTraced form (w ∷ seen) counts new before now
+    → HasTracedWorlds form (w ∷ seen) counts new before now
 traced_on form seen w written counts readers new before mid now has goes news are on =
     let first = readers_before form seen w readers goes has.read.readers_are in
     let here : AreReaders form w written (readers_for readers w) = subst (λ ns. AreReaders form w ns (readers_for readers w)) (sym has.read.counts) first in
@@ -196,7 +196,7 @@ one_site [] h = absurd (omega arith)
 one_site (x ∷ []) h = (x, refl)
 one_site (x ∷ y ∷ xs) h = absurd (omega arith)
 
-told_further : (form : TraceForm) (v w : WorldOf) (x y : SiteOf) → w.agent.endpoint.eid ≡ v.agent.endpoint.eid → PairGoesOn x y
+told_further : (form : TraceForm) (v w : WorldOf) (x y : SiteOf) → w.agent.endpoint.eid ≡ v.agent.endpoint.eid → ContinuesPair x y
     → trace_text form (reader_for v x) x.node.endpoint.eid 1 x.packets ++ pair_news form w (Some y) (length x.packets) ≡ trace_text form (reader_for w y) y.node.endpoint.eid 1 y.packets
 told_further form v w x y agent pair =
     let k = length x.packets in
@@ -209,7 +209,7 @@ told_further form v w x y agent pair =
     ∙ sym (text_all form r y.node.endpoint.eid 1 (take k y.packets) (drop k y.packets))
     ∙ ap (λ ps. trace_text form r y.node.endpoint.eid 1 ps) (take-append-drop k y.packets)
 
-told_alone : (w : WorldOf) (before : List WorldOf) (x : SiteOf) → w.sites ≡ x ∷ [] → GoOn (w ∷ before) → trace_of forms.Text (w ∷ before) ≡ trace_text forms.Text (reader_for w x) x.node.endpoint.eid 1 x.packets
+told_alone : (w : WorldOf) (before : List WorldOf) (x : SiteOf) → w.sites ≡ x ∷ [] → ContinueInOrder (w ∷ before) → trace_of forms.Text (w ∷ before) ≡ trace_text forms.Text (reader_for w x) x.node.endpoint.eid 1 x.packets
 told_alone w [] x one go = news_one forms.Text w x [] one
 told_alone w (v ∷ vs) x one go =
     let there = one_site v.sites (sym go.0.size ∙ ap length one) in

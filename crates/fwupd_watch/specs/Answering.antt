@@ -2,7 +2,7 @@
 use Rattle.std.specs.Prelude.{ℕ, ◌≡◌, ◌≢◌, ◌⊎◌, false, true, List, Option, Result, Ok, Err}
 use Rattle.std.specs.Io.KnownBytes.{append_known}
 use Rattle.mctp_ctl.specs.declared.answers.Endpoint.{Endpoint}
-use Rattle.fwupd_base.specs.Stream.{Answered, Broken, Stopped}
+use Rattle.fwupd_base.specs.Stream.{AnswerOk, AnswerWriteErr, AnswerErr}
 use Rattle.fwupd_base.specs.declared.stream.AnswerFault.{AnswerFault}
 use Rattle.fwupd_base.specs.declared.stream.AnswerFault.TheVariants as answers
 use Rattle.fwupd_watch.specs.Outputs.{OutputOf}
@@ -10,16 +10,16 @@ use Rattle.fwupd_watch.specs.declared.faults.RunFault.{RunFault}
 use Rattle.fwupd_watch.specs.declared.faults.RunFault.TheVariants as faults
 
 -- All that was read is answered, and no write failed.
-pub record Answers (e : Endpoint) (read_before read_now : Option (List ℕ)) (before now : OutputOf) : Type 0 where
+pub record AnswersAll (e : Endpoint) (read_before read_now : Option (List ℕ)) (before now : OutputOf) : Type 0 where
   pub intact : before.is_broken ≡ false
   pub whole : now.is_broken ≡ false
-  pub answered : Answered e read_before read_now before.written now.written
+  pub answered : AnswerOk e read_before read_now before.written now.written
 
 -- how far the answers are where answering ends so
 abbrev pub IsAnswered : Endpoint → Result Unit AnswerFault → (read_before read_now written_before written_now : Option (List ℕ)) → Type 0
-IsAnswered e (Ok _) read_before read_now written_before written_now = Answered e read_before read_now written_before written_now
-IsAnswered e (Err answers.Write) read_before read_now written_before written_now = Broken e read_before read_now written_before written_now
-IsAnswered e (Err fault) read_before read_now written_before written_now = Stopped e fault read_before read_now written_before written_now
+IsAnswered e (Ok _) read_before read_now written_before written_now = AnswerOk e read_before read_now written_before written_now
+IsAnswered e (Err answers.Write) read_before read_now written_before written_now = AnswerWriteErr e read_before read_now written_before written_now
+IsAnswered e (Err fault) read_before read_now written_before written_now = AnswerErr e fault read_before read_now written_before written_now
 
 -- The reader failed, or memory was refused: each whole line before is answered, and that is written.
 pub record AnswersStop (e : Endpoint) (read_before read_now : Option (List ℕ)) (told : RunFault) (before now : OutputOf) : Type 0 where
@@ -28,7 +28,7 @@ pub record AnswersStop (e : Endpoint) (read_before read_now : Option (List ℕ))
   pub other : fault ≢ answers.Write
   pub intact : before.is_broken ≡ false
   pub whole : now.is_broken ≡ false
-  pub stopped : Stopped e fault read_before read_now before.written now.written
+  pub stopped : AnswerErr e fault read_before read_now before.written now.written
 
 -- A write failed. What is written, with what was held back and isn't, is the answers as far as they are.
 pub record AnswersBreak (e : Endpoint) (read_before read_now : Option (List ℕ)) (told : RunFault) (before now : OutputOf) : Type 0 where

@@ -1,8 +1,8 @@
 -- That what is shown of a run is written over no file that it reads, over nothing else that is shown, and into no store.
 use Rattle.std.specs.Prelude.{ℕ, ◌⊎◌, Bool, List, Option, None, IfSome, IsSomeAnd}
 use Rattle.std.specs.List.{AllByRecursion}
-use Rattle.fwupd_watch.specs.Files.{FileOf, IsApartFrom, IsBelow, IsOutside, IsOver, IsOverOne}
-use Rattle.fwupd_watch.specs.Running.{IsUnwritten, MayRefuse, ShowOf, WatchOf}
+use Rattle.fwupd_watch.specs.Files.{FileOf, IsApartFrom, IsInFolder, IsOutsideFolder, IsOver, IsOverOne}
+use Rattle.fwupd_watch.specs.Running.{HasObserverFault, MayRefuse, ShowOf, ObserverOf}
 use Rattle.fwupd_watch.specs.declared.faults.RunFault.{RunFault}
 use Rattle.fwupd_watch.specs.declared.faults.RunFault.TheVariants as faults
 
@@ -17,10 +17,10 @@ IsApartFromUsed files path first second paths =
 
 -- A file that is written, if one is, lies in the folder of stores, if there is one, or in a store; or outside of them.
 abbrev pub IsInStore : (files : List ℕ → FileOf) (path store : Option (List ℕ)) → Type 0
-IsInStore files path store = IsSomeAnd path (λ p. IsSomeAnd store (λ s. IsBelow (files p) (files s)))
+IsInStore files path store = IsSomeAnd path (λ p. IsSomeAnd store (λ s. IsInFolder (files p) (files s)))
 
 abbrev pub IsOutOfStore : (files : List ℕ → FileOf) (path store : Option (List ℕ)) → Type 0
-IsOutOfStore files path store = IfSome path (λ p. IfSome store (λ s. IsOutside (files p) (files s)))
+IsOutOfStore files path store = IfSome path (λ p. IfSome store (λ s. IsOutsideFolder (files p) (files s)))
 
 -- Nothing is written over the files of these paths; the log's records not over the packets, and the steps over neither. Nothing of it
 -- lies in a store.
@@ -39,5 +39,5 @@ IsOverRead files show paths faults.Record = IsOverUsed files show.record_path sh
 IsOverRead files show paths told = ⊥
 
 -- What looks on doesn't begin, and tells so.
-abbrev pub IsBarred : (files : List ℕ → FileOf) (refuses : List ℕ → Bool) (show : ShowOf) (paths : List (List ℕ)) (told : RunFault) (watched : WatchOf) → Type 0
-IsBarred files refuses show paths told watched = IsOverRead files show paths told ⊎ (IsUnwritten told watched.fault × MayRefuse refuses show told)
+abbrev pub IsBarred : (files : List ℕ → FileOf) (refuses : List ℕ → Bool) (show : ShowOf) (paths : List (List ℕ)) (told : RunFault) (watched : ObserverOf) → Type 0
+IsBarred files refuses show paths told watched = IsOverRead files show paths told ⊎ (HasObserverFault told watched.fault × MayRefuse refuses show told)

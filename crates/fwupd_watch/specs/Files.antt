@@ -4,7 +4,7 @@ use Rattle.fw_package.specs.Outlines.{IsBeginning}
 use Rattle.fwupd_watch.specs.declared.files.FileIdentity.{FileIdentity}
 
 -- where a file lies, or would: in which folder, in which folder that one lies, and by which name
-pub record PlaceOf : Type 0 where
+pub record FilePlaceOf : Type 0 where
   pub folder : FileIdentity
   pub above : Option FileIdentity
   pub name : List ℕ
@@ -17,7 +17,7 @@ pub record FileOf : Type 0 where
   pub may_fail : Bool
   pub identity : Option (Option FileIdentity)
   pub is_link : Option Bool
-  pub place : Option (Option PlaceOf)
+  pub place : Option (Option FilePlaceOf)
 
 -- nothing is
 abbrev pub any_file : FileOf
@@ -42,39 +42,39 @@ abbrev pub MayLink : FileOf → Bool → Type 0
 MayLink file is_link = IfSome file.is_link (λ known. is_link ≡ known)
 
 -- it names one to no file, which may lead to any place
-pub record IsLoose (file : FileOf) : Type 0 where
+pub record IsDanglingLink (file : FileOf) : Type 0 where
   pub missing : MayBe file None
   pub link : MayLink file true
 
 -- where it may lie
-abbrev pub MayLie : FileOf → Option PlaceOf → Type 0
+abbrev pub MayLie : FileOf → Option FilePlaceOf → Type 0
 MayLie file place = IfSome file.place (λ known. place ≡ known)
 
 -- two paths name one place
 pub record IsOnePlace (first second : FileOf) : Type 0 where
-  pub place : PlaceOf
+  pub place : FilePlaceOf
   pub of_first : MayLie first (Some place)
   pub of_second : MayLie second (Some place)
 
 -- two paths name two places, or one of them none
 pub record AreTwoPlaces (first second : FileOf) : Type 0 where
-  pub one : Option PlaceOf
-  pub other : Option PlaceOf
+  pub one : Option FilePlaceOf
+  pub other : Option FilePlaceOf
   pub of_first : MayLie first one
   pub of_second : MayLie second other
   pub differ : IfSome one (λ place. other ≢ Some place)
 
 -- a file lies in a folder, or in a folder that lies there
-pub record IsBelow (file folder : FileOf) : Type 0 where
-  pub place : PlaceOf
+pub record IsInFolder (file folder : FileOf) : Type 0 where
+  pub place : FilePlaceOf
   pub own : FileIdentity
   pub lies : MayLie file (Some place)
   pub is : MayBe folder (Some own)
   pub below : (place.folder ≡ own) ⊎ (place.above ≡ Some own)
 
 -- it doesn't, or one of both isn't there
-pub record IsOutside (file folder : FileOf) : Type 0 where
-  pub place : Option PlaceOf
+pub record IsOutsideFolder (file folder : FileOf) : Type 0 where
+  pub place : Option FilePlaceOf
   pub own : Option FileIdentity
   pub lies : MayLie file place
   pub is : MayBe folder own
@@ -103,7 +103,7 @@ abbrev pub IsOver : (files : List ℕ → FileOf) → (written path : List ℕ) 
 IsOver files written path =
     (path ≡ written)
     ⊎ (IsOneFile (files path) (files written)
-    ⊎ (IsLoose (files path) ⊎ (IsLoose (files written) ⊎ IsOnePlace (files path) (files written))))
+    ⊎ (IsDanglingLink (files path) ⊎ (IsDanglingLink (files written) ⊎ IsOnePlace (files path) (files written))))
 
 -- It isn't: they are spelled otherwise, and name two files.
 abbrev pub IsApartFrom : (files : List ℕ → FileOf) → (written path : List ℕ) → Type 0

@@ -1,7 +1,7 @@
 -- Where the report of a run is written.
 use Rattle.std.specs.Prelude.{ℕ, ◌≡◌, Bool, false, true, List, Option}
 use Rattle.std.specs.Io.KnownBytes.{Appends}
-use Rattle.fwupd_base.specs.Stream.{Begins}
+use Rattle.fwupd_base.specs.Stream.{WritesBeginning}
 
 -- Whether a write failed, and what is written, where that is known.
 pub record OutputOf : Type 0 where
@@ -9,13 +9,13 @@ pub record OutputOf : Type 0 where
   pub written : Option (List ℕ)
 
 -- This text was written, and no write failed before.
-pub record Prints (before now : OutputOf) (text : List ℕ) : Type 0 where
+pub record WritesOutput (before now : OutputOf) (text : List ℕ) : Type 0 where
   pub intact : before.is_broken ≡ false
   pub whole : now.is_broken ≡ false
   pub written : Appends before.written now.written text
 
 -- Its write failed, after a beginning of it; or one had failed before, and nothing is written.
-pub record FailsToPrint (before now : OutputOf) (text : List ℕ) : Type 0 where
+pub record FailsToWriteOutput (before now : OutputOf) (text : List ℕ) : Type 0 where
   pub failed : now.is_broken ≡ true
-  pub begun : Begins before.written now.written text
+  pub begun : WritesBeginning before.written now.written text
   pub shut : before.is_broken ≡ true → now ≡ before

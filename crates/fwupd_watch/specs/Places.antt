@@ -2,5 +2,5 @@
 use Rattle.std.specs.Prelude.{ℕ, ◌≡◌, List, Option, Some, IfSome}
 
 -- Where it is known what a file holds, its place holds that, also after a loss of power.
-abbrev pub IsPut : (contents held lasting : Option (List ℕ)) → Type 0
-IsPut contents held lasting = IfSome contents (λ bytes. (held ≡ Some bytes) × (lasting ≡ Some bytes))
+abbrev pub IsOnDisk : (contents held lasting : Option (List ℕ)) → Type 0
+IsOnDisk contents held lasting = IfSome contents (λ bytes. (held ≡ Some bytes) × (lasting ≡ Some bytes))

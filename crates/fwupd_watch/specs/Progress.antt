@@ -3,7 +3,7 @@ use Rattle.std.specs.Prelude.{ℕ, ◌==◌, ◌&&◌, ◌+◌, ◌++◌, codes,
 use Rattle.fwup_wire.specs.Commands.{command_read}
 use Rattle.fwup_wire.specs.Values.{CommandOf}
 use Rattle.fwup_wire.specs.declared.values.Key.{Key}
-use Rattle.fw_text.specs.Printing.{numbered}
+use Rattle.fw_text.specs.Printing.{word_and_number}
 use Rattle.mctp_wire.specs.declared.fault.WireFault.{WireFault}
 use Rattle.mctp_wire.specs.declared.layout.Head.{Head}
 use Rattle.pldm_base.specs.Header.{pldm_of}
@@ -29,5 +29,5 @@ end_asked device (Ok p) = end_in device p.0 (pldm_of p.1)
 -- behind the image. It begins where the line before it began, and covers it.
 abbrev pub progress_line : (device : ℕ) → Key → (asked size : ℕ) → List ℕ
 progress_line device key asked size =
-    numbered (codes "\rdevice ") device ++ numbered (codes " component ") key.classification ++ numbered (codes " ") key.identifier
-    ++ numbered (codes ": ") (min asked size) ++ numbered (codes " of ") size ++ codes " bytes        "
+    word_and_number (codes "\rdevice ") device ++ word_and_number (codes " component ") key.classification ++ word_and_number (codes " ") key.identifier
+    ++ word_and_number (codes ": ") (min asked size) ++ word_and_number (codes " of ") size ++ codes " bytes        "

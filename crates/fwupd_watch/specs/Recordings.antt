@@ -3,7 +3,7 @@ use Rattle.std.specs.Prelude.{ℕ, ◌≡◌, List, Ok, Option, None, Some, true
 use Rattle.std.specs.Io.KnownBytes.{Appends}
 use Rattle.std.specs.List.{AllByRecursion}
 use Rattle.fw_edge.specs.Drives.{is_driven}
-use Rattle.fw_script.specs.ScheduleTexts.{AreSayable, IsSayable, idle_at, schedule_text, text_of_steps, ticks_text}
+use Rattle.fw_script.specs.ScheduleTexts.{StepsRoundTrip, StepRoundTrips, idle_at, schedule_text, text_of_steps, ticks_text}
 use Rattle.fw_script.specs.Schedules.{script_of}
 use Rattle.fw_steps.specs.Headline.{Run}
 use Rattle.fw_steps.specs.Worlds.{WorldOf}
@@ -22,49 +22,49 @@ recording_of begun written idle = record { begun = begun; written = written; idl
 
 -- A schedule can say this step, and a run takes it: an update starts, or what comes of itself.
 abbrev pub IsRecordable : Step → Type 0
-IsRecordable (steps.Start device number) = IsSayable (steps.Start device number)
-IsRecordable s = (is_driven s ≡ true) × IsSayable s
+IsRecordable (steps.Start device number) = StepRoundTrips (steps.Start device number)
+IsRecordable s = (is_driven s ≡ true) × StepRoundTrips s
 
 abbrev pub AreRecordable : List Step → Type 0
 AreRecordable ss = AllByRecursion IsRecordable ss
 
 -- nothing is written yet
-pub record IsNew (r : RecordingOf) : Type 0 where
+pub record IsNewRecording (r : RecordingOf) : Type 0 where
   pub written : r.written ≡ r.begun
   pub idle : r.idle ≡ 0
 
 -- These steps are written behind the others, and a schedule can say them.
-pub record Writes (before now : RecordingOf) (steps : List Step) : Type 0 where
+pub record RecordsSteps (before now : RecordingOf) (steps : List Step) : Type 0 where
   pub begun : now.begun ≡ before.begun
   pub text : Appends before.written now.written (text_of_steps before.idle steps)
   pub idle : now.idle ≡ idle_at before.idle steps
-  pub sayable : AreSayable steps
+  pub sayable : StepsRoundTrip steps
 
 -- where they are recorded at all
-abbrev pub Notes : (before now : Option RecordingOf) → List Step → Type 0
-Notes None now steps = now ≡ None
-Notes (Some r) None steps = ⊥
-Notes (Some r) (Some s) steps = Writes r s steps
+abbrev pub RecordsStepsIfAny : (before now : Option RecordingOf) → List Step → Type 0
+RecordsStepsIfAny None now steps = now ≡ None
+RecordsStepsIfAny (Some r) None steps = ⊥
+RecordsStepsIfAny (Some r) (Some s) steps = RecordsSteps r s steps
 
 -- The ticks that are held back are written too.
-pub record Ends (before now : RecordingOf) : Type 0 where
+pub record WritesHeldTicks (before now : RecordingOf) : Type 0 where
   pub begun : now.begun ≡ before.begun
   pub text : Appends before.written now.written (ticks_text before.idle)
   pub none_held : now.idle ≡ 0
 
-abbrev pub Closes : (before now : Option RecordingOf) → Type 0
-Closes None now = now ≡ None
-Closes (Some r) None = ⊥
-Closes (Some r) (Some s) = Ends r s
+abbrev pub WritesHeldTicksIfAny : (before now : Option RecordingOf) → Type 0
+WritesHeldTicksIfAny None now = now ≡ None
+WritesHeldTicksIfAny (Some r) None = ⊥
+WritesHeldTicksIfAny (Some r) (Some s) = WritesHeldTicks r s
 
 -- The steps that led from one world to another are noted.
-pub record NotesRun (w v : WorldOf) (before now : Option RecordingOf) : Type 0 where
+pub record RecordsRun (w v : WorldOf) (before now : Option RecordingOf) : Type 0 where
   pub steps : List Step
   pub run : Run w steps v
-  pub noted : Notes before now steps
+  pub noted : RecordsStepsIfAny before now steps
 
 -- They are written whole, as a schedule that is read as these steps.
-pub record IsRecorded (w v : WorldOf) (r : RecordingOf) : Type 0 where
+pub record HasRecordedSteps (w v : WorldOf) (r : RecordingOf) : Type 0 where
   pub steps : List Step
   pub run : Run w steps v
   pub written : Appends r.begun r.written (schedule_text steps)

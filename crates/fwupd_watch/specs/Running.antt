@@ -17,33 +17,33 @@ use Rattle.fwupd_words.specs.declared.asked.Show.{Show}
 use Rattle.fwupd_words.specs.declared.asked.TraceForm.{TraceForm}
 use Rattle.fwupd_watch.specs.declared.faults.RunFault.{RunFault}
 use Rattle.fwupd_watch.specs.declared.faults.RunFault.TheVariants as faults
-use Rattle.fwupd_watch.specs.declared.running.WatchFault.{WatchFault}
-use Rattle.fwupd_watch.specs.declared.running.WatchFault.TheVariants as watches
+use Rattle.fwupd_watch.specs.declared.running.ObserverFault.{ObserverFault}
+use Rattle.fwupd_watch.specs.declared.running.ObserverFault.TheVariants as watches
 
 -- the update of each device is started with the package of this number, in configured order
 abbrev pub starts_of : (number : ℕ) → List SiteOf → List Step
 starts_of number sites = map (λ x. steps.Start x.node.endpoint.eid number) sites
 
 -- Each update is started.
-abbrev pub Starts : (number : ℕ) → WorldOf → WorldOf → Type 0
-Starts number w v = Run w (starts_of number w.sites) v
+abbrev pub StartsUpdates : (number : ℕ) → WorldOf → WorldOf → Type 0
+StartsUpdates number w v = Run w (starts_of number w.sites) v
 
 -- Each update is started, and then what comes over links is done for so many ticks.
-pub record Updates (number : ℕ) (w v : WorldOf) (ticks : ℕ) : Type 0 where
+pub record UpdatesDevices (number : ℕ) (w v : WorldOf) (ticks : ℕ) : Type 0 where
   pub steps : List Step
   pub run : Run w (starts_of number w.sites ++ steps) v
   pub driven : AreDriven steps
   pub ticks_are : ticks_in steps ≡ ticks
 
 -- Each session is Done or Failed, or 80,000 ticks have passed, and no more.
-pub record IsUpdated (number : ℕ) (w v : WorldOf) : Type 0 where
+pub record UpdateOk (number : ℕ) (w v : WorldOf) : Type 0 where
   pub ticks : ℕ
-  pub updates : Updates number w v ticks
+  pub updates : UpdatesDevices number w v ticks
   pub within : ticks ≤ 80000
   pub ended : (all_over v ≡ true) ⊎ (ticks ≡ 80000)
 
 -- The updates of the first so many devices are started, and once all are, what comes over links is done.
-pub record StepsLead (number : ℕ) (w v : WorldOf) : Type 0 where
+pub record RunsSteps (number : ℕ) (w v : WorldOf) : Type 0 where
   pub started : ℕ
   pub steps : List Step
   pub run : Run w (starts_of number (take started w.sites) ++ steps) v
@@ -51,49 +51,49 @@ pub record StepsLead (number : ℕ) (w v : WorldOf) : Type 0 where
   pub all : (steps ≡ []) ⊎ (started ≡ length w.sites)
 
 -- So they lead, and what looks on saw so many turns: each tick of the steps, and one turn more at most, whose tick wasn't taken.
-pub record StepsSeen (number : ℕ) (w v : WorldOf) (seen : ℕ) : Type 0 where
-  pub lead : StepsLead number w v
+pub record RunsStepsSeen (number : ℕ) (w v : WorldOf) (seen : ℕ) : Type 0 where
+  pub lead : RunsSteps number w v
   pub each : ticks_in lead.steps ≤ seen
   pub few : seen ≤ ticks_in lead.steps + 1
 
 -- a run doesn't go on: what is told of the world that was reached. Want of memory is told alone.
-abbrev pub IsBroken : RunFault → Type 0
-IsBroken (faults.Edge edges.Frame) = Prim.Unit {0}
-IsBroken (faults.Edge edges.Step) = Prim.Unit {0}
-IsBroken faults.Trace = Prim.Unit {0}
-IsBroken faults.Log = Prim.Unit {0}
-IsBroken faults.Record = Prim.Unit {0}
-IsBroken faults.History = Prim.Unit {0}
-IsBroken fault = ⊥
+abbrev pub IsBrokenRun : RunFault → Type 0
+IsBrokenRun (faults.Edge edges.Frame) = Prim.Unit {0}
+IsBrokenRun (faults.Edge edges.Step) = Prim.Unit {0}
+IsBrokenRun faults.Trace = Prim.Unit {0}
+IsBrokenRun faults.Log = Prim.Unit {0}
+IsBrokenRun faults.Record = Prim.Unit {0}
+IsBrokenRun faults.History = Prim.Unit {0}
+IsBrokenRun fault = ⊥
 
 -- how a run is told of that ends within a turn
-abbrev pub told_of : EdgeFault → RunFault
-told_of edges.Memory = faults.Memory
-told_of fault = faults.Edge fault
+abbrev pub run_fault_of : EdgeFault → RunFault
+run_fault_of edges.Memory = faults.Memory
+run_fault_of fault = faults.Edge fault
 
 -- and where what looks on can't go on
-abbrev pub told_by : WatchFault → RunFault
-told_by watches.Unwritten = faults.Trace
-told_by watches.Unlogged = faults.Log
-told_by watches.Unrecorded = faults.Record
-told_by watches.Unkept = faults.History
-told_by watches.Memory = faults.Memory
+abbrev pub run_fault_of_observer : ObserverFault → RunFault
+run_fault_of_observer watches.Unwritten = faults.Trace
+run_fault_of_observer watches.Unlogged = faults.Log
+run_fault_of_observer watches.Unrecorded = faults.Record
+run_fault_of_observer watches.Unkept = faults.History
+run_fault_of_observer watches.Memory = faults.Memory
 
 -- the fault of what looks on that is told so, if one is told so alone
-abbrev pub watch_of : RunFault → Option WatchFault
-watch_of faults.Trace = Some watches.Unwritten
-watch_of faults.Log = Some watches.Unlogged
-watch_of faults.Record = Some watches.Unrecorded
-watch_of faults.History = Some watches.Unkept
-watch_of fault = None
+abbrev pub observer_fault_of : RunFault → Option ObserverFault
+observer_fault_of faults.Trace = Some watches.Unwritten
+observer_fault_of faults.Log = Some watches.Unlogged
+observer_fault_of faults.Record = Some watches.Unrecorded
+observer_fault_of faults.History = Some watches.Unkept
+observer_fault_of fault = None
 
 -- Where what looks on can't write a file of its own, it has that fault.
-abbrev pub IsUnwritten : RunFault → Option WatchFault → Type 0
-IsUnwritten told fault = IfSome (watch_of told) (λ f. fault ≡ Some f)
+abbrev pub HasObserverFault : RunFault → Option ObserverFault → Type 0
+HasObserverFault told fault = IfSome (observer_fault_of told) (λ f. fault ≡ Some f)
 
 -- A link's fault is told where one failed, and another fault where none did.
-abbrev pub AreToldOf : RunFault → List ℕ → List ℕ → Type 0
-AreToldOf told os ns = (told ≡ faults.Edge edges.Frame → OneFailed os ns) × (told ≢ faults.Edge edges.Frame → ns ≡ os)
+abbrev pub ReportsLinkFailures : RunFault → List ℕ → List ℕ → Type 0
+ReportsLinkFailures told os ns = (told ≡ faults.Edge edges.Frame → OneFailed os ns) × (told ≢ faults.Edge edges.Frame → ns ≡ os)
 
 -- The updates of the devices before one are started, and its start with the package of this number is not allowed.
 pub record IsRefusedStart (number : ℕ) (w v : WorldOf) : Type 0 where
@@ -114,7 +114,7 @@ pub record MayStart (number : ℕ) (w v : WorldOf) : Type 0 where
 
 -- or memory was refused
 abbrev pub MayEnd : RunFault → Type 0
-MayEnd fault = (fault ≡ faults.Memory) ⊎ IsBroken fault
+MayEnd fault = (fault ≡ faults.Memory) ⊎ IsBrokenRun fault
 
 -- What is shown of a run: whether it is to be without progress, the path of the file that its packets are written to, if any, and in
 -- which form, those of the files of its log's records and of its steps, if any, that of the folder of stores with which it begins, if any,
@@ -152,7 +152,7 @@ pub record ShownOf : Type 0 where
   pub has_history : Bool
 
 -- A fault of what looks on is one of what it shows, or want of memory.
-abbrev pub IsOfShown : ShownOf → WatchFault → Type 0
+abbrev pub IsOfShown : ShownOf → ObserverFault → Type 0
 IsOfShown shows watches.Unwritten = is_some shows.traced ≡ true
 IsOfShown shows watches.Unlogged = shows.is_logged ≡ true
 IsOfShown shows watches.Unrecorded = shows.is_recorded ≡ true
@@ -177,8 +177,8 @@ shown_of show = record {
 
 -- What looks on: its first fault, if it had one, what it shows, whether it was let end, how many turns it saw, the device whose link it
 -- was told of as failed, if any, what it has written of the steps, if they are recorded, and of what happened, if there is a history.
-pub record WatchOf : Type 0 where
-  pub fault : Option WatchFault
+pub record ObserverOf : Type 0 where
+  pub fault : Option ObserverFault
   pub shows : ShownOf
   pub has_ended : Bool
   pub seen : ℕ
@@ -195,8 +195,8 @@ MayRefuse refuses show faults.History = IsSomeAnd show.history (λ path. refuses
 MayRefuse refuses show told = ⊥
 
 -- Why a run doesn't go on is so: a start is refused or the clock stands at its end, and what looks on can't be written. It was let end.
-pub record IsCaused (number : ℕ) (w v : WorldOf) (told : RunFault) (watched : WatchOf) : Type 0 where
-  pub broken : IsBroken told
+pub record IsCaused (number : ℕ) (w v : WorldOf) (told : RunFault) (watched : ObserverOf) : Type 0 where
+  pub broken : IsBrokenRun told
   pub stopped : told ≡ faults.Edge edges.Step → IsRefusedStart number w v ⊎ (v.now ≡ 2 ^ 32 - 1)
-  pub unwritten : IsUnwritten told watched.fault
+  pub unwritten : HasObserverFault told watched.fault
   pub let_end : watched.has_ended ≡ true

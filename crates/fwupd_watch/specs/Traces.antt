@@ -3,7 +3,7 @@ use Rattle.std.specs.Prelude.{ℕ, zero, suc, ◌≡◌, ◌<◌, ◌+◌, ◌==
 use Rattle.std.specs.Io.KnownBytes.{Appends}
 use Rattle.exch_lane.specs.Lanes.{Sent}
 use Rattle.fw_edge.specs.Ledgers.{packet_counts}
-use Rattle.fw_text.specs.Printing.{numbered}
+use Rattle.fw_text.specs.Printing.{word_and_number}
 use Rattle.fw_trace.specs.Captures.{CapturedOf, capture_header, capture_record}
 use Rattle.fw_trace.specs.Lines.{ReaderOf, SentOf, lines_of, new_reader, packet_line, reader_after}
 use Rattle.fw_steps.specs.Worlds.{SiteOf, WorldOf}
@@ -23,7 +23,7 @@ way_of device bytes = if is_to_agent device bytes then codes " to-agent " else c
 -- a packet's line: the turn in which it was sent, the device of its pair, its way, and its bytes in digits
 unfoldable pub trace_line : (device : ℕ) → Sent → List ℕ
 trace_line device p =
-    numbered [] p.date ++ numbered (codes " ") device ++ way_of device p.bytes ++ encode_upper p.bytes ++ codes "\n"
+    word_and_number [] p.date ++ word_and_number (codes " ") device ++ way_of device p.bytes ++ encode_upper p.bytes ++ codes "\n"
 
 -- a packet as a capture has it: what goes to a device is sent by us
 abbrev pub captured_as : (device : ℕ) → Sent → CapturedOf
@@ -93,18 +93,18 @@ pub record ReadOn (form : TraceForm) (written : List ℕ) (sites : List SiteOf) 
   pub each : (place : ℕ) (r : ReaderOf) → place < count → slice_get old place ≡ Some r → slice_get new place ≡ Some (reader_of_pair form r (slice_get sites place) (written_at written place))
 
 -- a new reader that has read the first so many packets of a pair, each once and in order
-abbrev pub reader_behind : TraceForm → WorldOf → SiteOf → (read : ℕ) → ReaderOf
-reader_behind form w x read = reader_past form (reader_for w x) (take read x.packets)
+abbrev pub reader_after_packets : TraceForm → WorldOf → SiteOf → (read : ℕ) → ReaderOf
+reader_after_packets form w x read = reader_past form (reader_for w x) (take read x.packets)
 
 -- Each pair has such a reader, which has read the packets that are written.
 pub record AreReaders (form : TraceForm) (w : WorldOf) (written : List ℕ) (readers : List ReaderOf) : Type 0 where
   pub size : length readers ≡ length w.sites
-  pub each : (place : ℕ) (x : SiteOf) → slice_get w.sites place ≡ Some x → slice_get readers place ≡ Some (reader_behind form w x (written_at written place))
+  pub each : (place : ℕ) (x : SiteOf) → slice_get w.sites place ≡ Some x → slice_get readers place ≡ Some (reader_after_packets form w x (written_at written place))
 
 -- the lines of a pair's packets behind so many: each has its number among all of the pair, and tells what it says behind all of them
 abbrev pub pair_news : TraceForm → WorldOf → Option SiteOf → (written : ℕ) → List ℕ
 pair_news form w None written = []
-pair_news form w (Some x) written = trace_text form (reader_behind form w x written) x.node.endpoint.eid (written + 1) (drop written x.packets)
+pair_news form w (Some x) written = trace_text form (reader_after_packets form w x written) x.node.endpoint.eid (written + 1) (drop written x.packets)
 
 -- those of the first so many pairs, in configured order
 abbrev pub news_text : TraceForm → WorldOf → (written : List ℕ) → ℕ → List ℕ
@@ -123,20 +123,20 @@ trace_of form [] = head_of form
 trace_of form (w ∷ ws) = trace_of form ws ++ news_text form w (counts_of ws) (length w.sites)
 
 -- A pair goes on from what it was: its ends are the same, and its packets stand first.
-pub record PairGoesOn (x y : SiteOf) : Type 0 where
+pub record ContinuesPair (x y : SiteOf) : Type 0 where
   pub unit : y.node.half.unit ≡ x.node.half.unit
   pub eid : y.node.endpoint.eid ≡ x.node.endpoint.eid
   pub packets : take (length x.packets) y.packets ≡ x.packets
 
 -- So does each pair of a world.
-pub record GoesOn (v w : WorldOf) : Type 0 where
+pub record ContinuesPairs (v w : WorldOf) : Type 0 where
   pub agent : w.agent.endpoint.eid ≡ v.agent.endpoint.eid
   pub size : length w.sites ≡ length v.sites
-  pub each : (place : ℕ) (x y : SiteOf) → slice_get v.sites place ≡ Some x → slice_get w.sites place ≡ Some y → PairGoesOn x y
+  pub each : (place : ℕ) (x y : SiteOf) → slice_get v.sites place ≡ Some x → slice_get w.sites place ≡ Some y → ContinuesPair x y
 
-abbrev pub GoesOnFrom : List WorldOf → WorldOf → Type 0
-GoesOnFrom [] w = Prim.Unit {0}
-GoesOnFrom (v ∷ vs) w = GoesOn v w
+abbrev pub ContinuesPairsIfAny : List WorldOf → WorldOf → Type 0
+ContinuesPairsIfAny [] w = Prim.Unit {0}
+ContinuesPairsIfAny (v ∷ vs) w = ContinuesPairs v w
 
 -- the readers of a trace that has seen these worlds
 abbrev pub AreReadersOf : TraceForm → List WorldOf → List ReaderOf → Type 0
@@ -144,19 +144,19 @@ AreReadersOf form [] readers = readers ≡ []
 AreReadersOf form (w ∷ ws) readers = AreReaders form w (packet_counts w.sites) readers
 
 -- A trace has seen these worlds, the last one first: so many packets of each pair are written, and its reader has read them.
-pub record HasRead (form : TraceForm) (seen : List WorldOf) (written : List ℕ) (readers : List ReaderOf) : Type 0 where
+pub record HasReadWorlds (form : TraceForm) (seen : List WorldOf) (written : List ℕ) (readers : List ReaderOf) : Type 0 where
   pub counts : written ≡ counts_of seen
   pub readers_are : AreReadersOf form seen readers
 
 -- And what it has written is the lines of the packets that were sent so far.
-pub record HasTraced (form : TraceForm) (seen : List WorldOf) (written : List ℕ) (readers : List ReaderOf) (before now : Option (List ℕ)) : Type 0 where
-  pub read : HasRead form seen written readers
+pub record HasTracedWorlds (form : TraceForm) (seen : List WorldOf) (written : List ℕ) (readers : List ReaderOf) (before now : Option (List ℕ)) : Type 0 where
+  pub read : HasReadWorlds form seen written readers
   pub text : Appends before now (trace_of form seen)
 
 -- each of these worlds goes on from the one before it, which stands behind it
-abbrev pub GoOn : List WorldOf → Type 0
-GoOn [] = Prim.Unit {0}
-GoOn (w ∷ ws) = GoesOnFrom ws w × GoOn ws
+abbrev pub ContinueInOrder : List WorldOf → Type 0
+ContinueInOrder [] = Prim.Unit {0}
+ContinueInOrder (w ∷ ws) = ContinuesPairsIfAny ws w × ContinueInOrder ws
 
 -- a packet as a reader is given it
 abbrev pub read_as : Sent → SentOf
@@ -164,5 +164,5 @@ read_as p = record { turn = p.date; bytes = p.bytes }
 
 -- A text trace that has seen a world of one device is the lines of all its packets, from the first on.
 abbrev pub TextsAreLines : Type 0
-TextsAreLines = (w : WorldOf) (before : List WorldOf) (x : SiteOf) → w.sites ≡ x ∷ [] → GoOn (w ∷ before)
+TextsAreLines = (w : WorldOf) (before : List WorldOf) (x : SiteOf) → w.sites ≡ x ∷ [] → ContinueInOrder (w ∷ before)
     → trace_of forms.Text (w ∷ before) ≡ lines_of (reader_for w x) 1 (map read_as x.packets)

@@ -2,14 +2,14 @@
 
 ghost use Rattle.std.specs.Prelude.{◌≡◌, ◌∷◌, ◌⊎◌, false, IfErr, IfOk, IfSome, IsSomeAnd, None, OnOk, map, option_map, string_bytes, true};
 ghost use Rattle.fwupd_watch.specs.Files.{IsApartFrom, IsOver};
-ghost use Rattle.fwupd_watch.specs.Histories.{IsFresh};
-ghost use Rattle.fwupd_watch.specs.Recordings.{IsNew};
-ghost use Rattle.fwupd_watch.specs.Running.{IsUnwritten, show_of, shown_of};
+ghost use Rattle.fwupd_watch.specs.Histories.{HasNoLines};
+ghost use Rattle.fwupd_watch.specs.Recordings.{IsNewRecording};
+ghost use Rattle.fwupd_watch.specs.Running.{HasObserverFault, show_of, shown_of};
 ghost use Rattle.fwupd_watch.specs.Apart.{IsApart, IsApartFromUsed, IsBarred, IsInStore, IsOutOfStore, IsOverUsed};
 
 use crate::faults::RunFault;
 use crate::files::{Files, is_read, is_same_file};
-use crate::running::{Watch, watch_fault};
+use crate::running::{Observer, observer_fault};
 use fwupd_words::Show;
 use std::alloc::{AllocError, Global};
 
@@ -91,7 +91,7 @@ fn is_barred<F: Files>(
 
 /// Lets what looks on begin, where what it shows isn't written over a file that was read; nor the log's records over the packets, nor
 /// the steps over one of both; and nothing of it lies in a store.
-pub fn begin_apart<F: Files, V: Watch>(
+pub fn begin_apart<F: Files, V: Observer>(
     alloc: Global,
     files: &F,
     config: &str,
@@ -101,10 +101,10 @@ pub fn begin_apart<F: Files, V: Watch>(
 ) -> Result<(), RunFault>
     ensures shows { OnOk result ((V.watched watch.new).shows ≡ shown_of (show_of show.entry)) }
     ensures anew { OnOk result (((V.watched watch.new).seen ≡ 0) × ((V.watched watch.new).lost ≡ None)) }
-    ensures recording { OnOk result (IfSome (V.watched watch.new).recording IsNew) }
-    ensures history { OnOk result (IfSome (V.watched watch.new).history IsFresh) }
+    ensures recording { OnOk result (IfSome (V.watched watch.new).recording IsNewRecording) }
+    ensures history { OnOk result (IfSome (V.watched watch.new).history HasNoLines) }
     ensures apart { OnOk result (IsApart (F.holds files.now) (show_of show.entry) (config.now ∷ map (λ p. string_bytes p) packages.now)) }
-    ensures untouched { IfErr result (λ e. (watch.new ≡ watch.old) ⊎ IsUnwritten e (V.watched watch.new).fault) }
+    ensures untouched { IfErr result (λ e. (watch.new ≡ watch.old) ⊎ HasObserverFault e (V.watched watch.new).fault) }
     ensures fault { IfErr result (λ e. (e ≡ RunFault.Memory)
         ⊎ IsBarred (F.holds files.now) (V.refuses watch.old) (show_of show.entry) (config.now ∷ map (λ p. string_bytes p) packages.now) e (V.watched watch.new)) }
 {
@@ -139,6 +139,6 @@ pub fn begin_apart<F: Files, V: Watch>(
     }
     match watch.begin(show) {
         Ok(()) => Ok(()),
-        Err(fault) => Err(watch_fault(fault)),
+        Err(fault) => Err(observer_fault(fault)),
     }
 }

@@ -1,7 +1,7 @@
 //! Why a run ends with status 1.
 
 ghost use Rattle.std.specs.Prelude.{◌≡◌};
-ghost use Rattle.fwupd_watch.specs.Running.{MayEnd, told_of};
+ghost use Rattle.fwupd_watch.specs.Running.{MayEnd, run_fault_of};
 
 use fw_edge::EdgeFault;
 use fw_package::PackageFault;
@@ -72,7 +72,7 @@ pub enum RunFault {
 
 /// Why a run over links ended early.
 pub fn edge_fault(fault: EdgeFault) -> RunFault
-    ensures told { result ≡ told_of fault }
+    ensures told { result ≡ run_fault_of fault }
     ensures ends { MayEnd result }
 {
     match fault {

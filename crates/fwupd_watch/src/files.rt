@@ -3,7 +3,7 @@
 ghost use Rattle.std.specs.Io.KnownBytes.{IsAtEnd};
 ghost use Rattle.std.specs.Prelude.{◌≡◌, ◌≢◌, ◌∷◌, IfErr, IfOk, IfSome, IsSomeAnd, List, OnOk, option_map, false, map, string_bytes, true, ℕ};
 ghost use Rattle.std.specs.List.{AllByRecursion};
-ghost use Rattle.fwupd_watch.specs.Files.{AreTwoPlaces, FileOf, IsApartFrom, IsBelow, IsOnePlace, IsOutside, IsOver, IsOverOne, MayBe, MayBegin, MayHold, MayLink, any_file};
+ghost use Rattle.fwupd_watch.specs.Files.{AreTwoPlaces, FileOf, IsApartFrom, IsInFolder, IsOnePlace, IsOutsideFolder, IsOver, IsOverOne, MayBe, MayBegin, MayHold, MayLink, any_file};
 
 use crate::beginnings::{BEGINNING, Beginning, read_first};
 use fwupd_base::read_some;
@@ -68,8 +68,8 @@ pub trait Files {
     /// # Errors
     /// Memory is refused.
     fn is_below(&self, alloc: Global, path: &str, folder: &str) -> Result<bool, AllocError>
-        ensures below { IfOk result (λ b. b ≡ true → IsBelow (holds self.now path.now) (holds self.now folder.now)) }
-        ensures outside { IfOk result (λ b. b ≡ false → IsOutside (holds self.now path.now) (holds self.now folder.now)) };
+        ensures below { IfOk result (λ b. b ≡ true → IsInFolder (holds self.now path.now) (holds self.now folder.now)) }
+        ensures outside { IfOk result (λ b. b ≡ false → IsOutsideFolder (holds self.now path.now) (holds self.now folder.now)) };
 }
 
 /// The files of the system, of which nothing is known before they are read.

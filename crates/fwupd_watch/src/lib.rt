@@ -30,8 +30,8 @@ pub use files::{
 };
 pub use history::HistoryFile;
 pub use output::Output;
-pub use places::{FileCalls, Places, WholeFiles, write_file};
+pub use places::{FileCalls, OutputPlaces, WholeFiles, write_file};
 pub use recording::Recording;
-pub use running::{Watch, WatchFault, update_watched, watch_fault};
+pub use running::{Observer, ObserverFault, observer_fault, update_observed};
 pub use tracing_laws::texts_are_lines;
-pub use watching::Onlookers;
+pub use watching::Observers;

@@ -1,8 +1,8 @@
 //! Where the report of a run is written.
 
 ghost use Rattle.std.specs.Prelude.{◌≡◌, IfErr, IfOk, OnErr, OnOk, false};
-ghost use Rattle.fwupd_watch.specs.Answering.{AnswerEnds, Answers};
-ghost use Rattle.fwupd_watch.specs.Outputs.{FailsToPrint, Prints};
+ghost use Rattle.fwupd_watch.specs.Answering.{AnswerEnds, AnswersAll};
+ghost use Rattle.fwupd_watch.specs.Outputs.{FailsToWriteOutput, WritesOutput};
 
 use crate::faults::RunFault;
 use fwupd_base::{AnswerFault, answer_stream, write_whole};
@@ -63,9 +63,9 @@ impl<W: Write + Drop> Output<W> {
     /// # Errors
     /// `Output` where they aren't written whole; a beginning of them may be, and nothing where a write failed before.
     pub fn write(&mut self, bytes: &[u8]) -> Result<(), RunFault>
-        ensures ok { OnOk result (Prints self.old self.new bytes.now) }
+        ensures ok { OnOk result (WritesOutput self.old self.new bytes.now) }
         ensures fault { IfErr result (λ e. e ≡ RunFault.Output) }
-        ensures failed { OnErr result (FailsToPrint self.old self.new bytes.now) }
+        ensures failed { OnErr result (FailsToWriteOutput self.old self.new bytes.now) }
     {
         if self.is_broken {
             return Err(RunFault::Output);
@@ -89,7 +89,7 @@ impl<W: Write + Drop> Output<W> {
         reader: &mut R,
         endpoint: &Endpoint,
     ) -> Result<(), RunFault>
-        ensures ok { OnOk result (Answers endpoint.now (R.remaining reader.old) (R.remaining reader.new) self.old self.new) }
+        ensures ok { OnOk result (AnswersAll endpoint.now (R.remaining reader.old) (R.remaining reader.new) self.old self.new) }
         ensures fault { IfErr result (λ e. AnswerEnds endpoint.now (R.remaining reader.old) (R.remaining reader.new) e self.old self.new) }
     {
         if self.is_broken {

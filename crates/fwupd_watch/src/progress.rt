@@ -1,7 +1,7 @@
 //! How far a run is, shown on a terminal.
 
 ghost use Rattle.std.specs.Prelude.{◌≡◌, IfOk, OnOk, codes};
-ghost use Rattle.fw_text.specs.Printing.{Adds, numbered};
+ghost use Rattle.fw_text.specs.Printing.{AppendsText, word_and_number};
 ghost use Rattle.fwupd_watch.specs.Progress.{end_asked, progress_line};
 ghost use Rattle.mctp_wire.specs.Packet.{packet_of};
 ghost use Rattle.mctp_wire.specs.declared.unit.Unit.TheVariants.{U128};
@@ -28,7 +28,7 @@ const BLANK: &str = "                                                           
 
 /// Shows on standard error how far the first device is that loads an image, at most ten times a second.
 #[derive(Drop)]
-pub struct Progress<'a> {
+pub struct ProgressLine<'a> {
     rt: &'a HostRuntime,
     shown: Option<Instant>,
 }
@@ -94,10 +94,10 @@ fn progress_line(
     Ok(line)
 }
 
-impl<'a> Progress<'a> {
+impl<'a> ProgressLine<'a> {
     /// Progress of which nothing is shown.
-    pub fn new(rt: &'a HostRuntime) -> Progress<'a> {
-        Progress { rt, shown: None }
+    pub fn new(rt: &'a HostRuntime) -> ProgressLine<'a> {
+        ProgressLine { rt, shown: None }
     }
 
     /// The time, where progress wasn't shown a moment ago.

@@ -3,10 +3,10 @@
 ghost use Rattle.std.specs.Prelude.{◌≡◌, ◌⊎◌, ◌<◌, ◌^◌, [], IfErr, IfOk, List, OnOk, Option, false, true, ℕ};
 ghost use Rattle.exch_lane.specs.Lanes.{IsEid};
 ghost use Rattle.std.specs.Io.Buffered.{writer_buffer, writer_contents, writer_inner};
-ghost use Rattle.fw_script.specs.ScheduleTexts.{AreSayable, IsSayable};
-ghost use Rattle.fwupd_watch.specs.Recordings.{AreRecordable, Ends, IsRecordable, Writes, recording_of};
+ghost use Rattle.fw_script.specs.ScheduleTexts.{StepsRoundTrip, StepRoundTrips};
+ghost use Rattle.fwupd_watch.specs.Recordings.{AreRecordable, WritesHeldTicks, IsRecordable, RecordsSteps, recording_of};
 
-use crate::running::WatchFault;
+use crate::running::ObserverFault;
 use fw_script::ScheduleText;
 use fw_world::Step;
 use std::alloc::Global;
@@ -40,7 +40,7 @@ fn is_counted(number: usize) -> bool
 /// Whether a step is one that a run takes and a schedule can say: the update of a device starts, a packet comes, a tick passes
 /// that nobody misses, a device has its verdict or activates.
 fn is_said(step: &Step) -> bool
-    ensures said { result ≡ true → IsSayable step.now }
+    ensures said { result ≡ true → StepRoundTrips step.now }
     ensures taken { IsRecordable step.now → result ≡ true }
 {
     match step {
@@ -57,7 +57,7 @@ fn is_said(step: &Step) -> bool
 
 /// Whether each of these steps is.
 fn are_said(steps: &[Step]) -> bool
-    ensures said { result ≡ true → AreSayable steps.now }
+    ensures said { result ≡ true → StepsRoundTrip steps.now }
     ensures taken { AreRecordable steps.now → result ≡ true }
 {
     for step in steps {
@@ -73,14 +73,14 @@ impl<W: Write + Drop> Recording<W> {
     ///
     /// # Errors
     /// `Memory`.
-    pub fn new(alloc: Global, writer: W) -> Result<Recording<W>, WatchFault>
+    pub fn new(alloc: Global, writer: W) -> Result<Recording<W>, ObserverFault>
         ensures contents { IfOk result (λ r. W.contents (writer_inner r.writer) ≡ W.contents writer) }
         ensures none { IfOk result (λ r. writer_buffer r.writer ≡ []) }
         ensures idle { IfOk result (λ r. r.text ≡ 0) }
-        ensures fault { IfErr result (λ e. e ≡ WatchFault.Memory) }
+        ensures fault { IfErr result (λ e. e ≡ ObserverFault.Memory) }
     {
         let Ok(writer) = BufWriter::new(alloc, writer) else {
-            return Err(WatchFault::Memory);
+            return Err(ObserverFault::Memory);
         };
         Ok(Recording {
             alloc,
@@ -93,20 +93,20 @@ impl<W: Write + Drop> Recording<W> {
     ///
     /// # Errors
     /// They can't be written, or a schedule can't say one of them, or memory for their lines is refused.
-    pub fn note(&mut self, steps: &[Step]) -> Result<(), WatchFault>
-        ensures fault { IfErr result (λ e. (e ≡ WatchFault.Memory) ⊎ (e ≡ WatchFault.Unrecorded)) }
-        ensures noted { (begun : Option (List ℕ)) → OnOk result (Writes (recording_of begun (writer_contents W.contents self.old.writer) self.old.text) (recording_of begun (writer_contents W.contents self.new.writer) self.new.text) steps.now) }
+    pub fn note(&mut self, steps: &[Step]) -> Result<(), ObserverFault>
+        ensures fault { IfErr result (λ e. (e ≡ ObserverFault.Memory) ⊎ (e ≡ ObserverFault.Unrecorded)) }
+        ensures noted { (begun : Option (List ℕ)) → OnOk result (RecordsSteps (recording_of begun (writer_contents W.contents self.old.writer) self.old.text) (recording_of begun (writer_contents W.contents self.new.writer) self.new.text) steps.now) }
     {
         if !are_said(steps) {
-            return Err(WatchFault::Unrecorded);
+            return Err(ObserverFault::Unrecorded);
         }
         let mut text = Vec::new(self.alloc);
         let Ok(()) = self.text.push_all(self.alloc, &mut text, steps) else {
-            return Err(WatchFault::Memory);
+            return Err(ObserverFault::Memory);
         };
         match self.writer.write_all(&text) {
             Ok(()) => Ok(()),
-            Err(_) => Err(WatchFault::Unrecorded),
+            Err(_) => Err(ObserverFault::Unrecorded),
         }
     }
 
@@ -114,22 +114,22 @@ impl<W: Write + Drop> Recording<W> {
     ///
     /// # Errors
     /// It can't be written, or memory is refused.
-    pub fn end(&mut self) -> Result<(), WatchFault>
-        ensures fault { IfErr result (λ e. (e ≡ WatchFault.Memory) ⊎ (e ≡ WatchFault.Unrecorded)) }
-        ensures ended { (begun : Option (List ℕ)) → OnOk result (Ends (recording_of begun (writer_contents W.contents self.old.writer) self.old.text) (recording_of begun (writer_contents W.contents self.new.writer) self.new.text)) }
+    pub fn end(&mut self) -> Result<(), ObserverFault>
+        ensures fault { IfErr result (λ e. (e ≡ ObserverFault.Memory) ⊎ (e ≡ ObserverFault.Unrecorded)) }
+        ensures ended { (begun : Option (List ℕ)) → OnOk result (WritesHeldTicks (recording_of begun (writer_contents W.contents self.old.writer) self.old.text) (recording_of begun (writer_contents W.contents self.new.writer) self.new.text)) }
         ensures all { OnOk result (writer_buffer self.new.writer ≡ []) }
     {
         let mut text = Vec::new(self.alloc);
         let Ok(()) = self.text.end(self.alloc, &mut text) else {
-            return Err(WatchFault::Memory);
+            return Err(ObserverFault::Memory);
         };
         match self.writer.write_all(&text) {
             Ok(()) => {}
-            Err(_) => return Err(WatchFault::Unrecorded),
+            Err(_) => return Err(ObserverFault::Unrecorded),
         }
         match self.writer.flush() {
             Ok(()) => Ok(()),
-            Err(_) => Err(WatchFault::Unrecorded),
+            Err(_) => Err(ObserverFault::Unrecorded),
         }
     }
 }

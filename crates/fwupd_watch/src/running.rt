@@ -2,11 +2,11 @@
 
 ghost use Rattle.std.specs.Prelude.{[], ◌≡◌, ◌≢◌, ◌-◌, ◌^◌, ◌⊎◌, Bool, Err, IfErr, IfSome, List, None, OnOk, Some, length, map, true, ℕ};
 ghost use Rattle.fw_edge.specs.Ledgers.{AllSent, packet_counts};
-ghost use Rattle.fw_edge.specs.Links.{Rises};
+ghost use Rattle.fw_edge.specs.Links.{CountsOne};
 ghost use Rattle.fw_steps.specs.Headline.{Run};
-ghost use Rattle.fwupd_watch.specs.Histories.{AreKeptUp, AreKeptUpStill, IsFresh, KeepsUp, KeepsUpStill};
-ghost use Rattle.fwupd_watch.specs.Recordings.{Closes, IsNew, IsRecorded, Notes, NotesRun};
-ghost use Rattle.fwupd_watch.specs.Running.{AreToldOf, IsCaused, IsRefusedStart, IsUnwritten, IsUpdated, MayEnd, MayRefuse, MayStart, Starts, StepsLead, StepsSeen, Updates, show_of, shown_of, starts_of, told_by, told_of, watch_of};
+ghost use Rattle.fwupd_watch.specs.Histories.{HasHistoryLinesIfAny, MayHaveHistoryLines, HasNoLines, AppendsToHistory, MayAppendToHistory};
+ghost use Rattle.fwupd_watch.specs.Recordings.{WritesHeldTicksIfAny, IsNewRecording, HasRecordedSteps, RecordsStepsIfAny, RecordsRun};
+ghost use Rattle.fwupd_watch.specs.Running.{ReportsLinkFailures, IsCaused, IsRefusedStart, HasObserverFault, UpdateOk, MayEnd, MayRefuse, MayStart, StartsUpdates, RunsSteps, RunsStepsSeen, UpdatesDevices, show_of, shown_of, starts_of, run_fault_of_observer, run_fault_of, observer_fault_of};
 
 use crate::faults::{RunFault, edge_fault};
 use fd_core::Bank;
@@ -21,7 +21,7 @@ const TURNS: u32 = 80_000;
 
 /// Why what looks on ends a run.
 #[derive(Clone, Copy, PartialEq, Eq)]
-pub enum WatchFault {
+pub enum ObserverFault {
     /// What it tells of packets can't be written.
     Unwritten,
     /// The event log's records can't be written.
@@ -35,11 +35,11 @@ pub enum WatchFault {
 }
 
 /// What looks on while devices are updated, from its beginning until it has a fault, which is what each later call ends with.
-pub trait Watch {
-    ghost use Rattle.fw_edge.specs.Links.{Rises};
-    ghost use Rattle.fwupd_watch.specs.Running.{IsOfShown, WatchOf};
+pub trait Observer {
+    ghost use Rattle.fw_edge.specs.Links.{CountsOne};
+    ghost use Rattle.fwupd_watch.specs.Running.{IsOfShown, ObserverOf};
 
-    ghost watched: { Self → WatchOf };
+    ghost watched: { Self → ObserverOf };
 
     ghost refuses: { Self → List ℕ → Bool };
 
@@ -48,24 +48,24 @@ pub trait Watch {
     /// # Errors
     /// A file that the packets, the log's records, the steps or what happens are to be written to is refused, or `Memory`. It is known
     /// before which files may be refused.
-    fn begin(&mut self, show: Show<'_>) -> Result<(), WatchFault>
+    fn begin(&mut self, show: Show<'_>) -> Result<(), ObserverFault>
         ensures shows { OnOk result ((watched self.new).shows ≡ shown_of (show_of show.entry)) }
         ensures anew { OnOk result (((watched self.new).seen ≡ 0) × ((watched self.new).lost ≡ None)) }
-        ensures recording { OnOk result (IfSome (watched self.new).recording IsNew) }
-        ensures history { OnOk result (IfSome (watched self.new).history IsFresh) }
+        ensures recording { OnOk result (IfSome (watched self.new).recording IsNewRecording) }
+        ensures history { OnOk result (IfSome (watched self.new).history HasNoLines) }
         ensures err { IfErr result (λ e. (watched self.new).fault ≡ Some e) }
-        ensures refused { IfErr result (λ e. e ≢ WatchFault.Memory → MayRefuse (refuses self.old) (show_of show.entry) (told_by e)) };
+        ensures refused { IfErr result (λ e. e ≢ ObserverFault.Memory → MayRefuse (refuses self.old) (show_of show.entry) (run_fault_of_observer e)) };
 
     /// Notes the steps that were taken, where they are recorded.
     ///
     /// # Errors
     /// The fault that it had; else that they can't be written, or said by a schedule, or that memory is refused.
-    fn note(&mut self, steps: &[Step]) -> Result<(), WatchFault>
+    fn note(&mut self, steps: &[Step]) -> Result<(), ObserverFault>
         ensures ok { OnOk result ((watched self.new).fault ≡ None) }
         ensures err { IfErr result (λ e. (watched self.new).fault ≡ Some e) }
         ensures first { IfSome (watched self.old).fault (λ f. result ≡ Err f) }
-        ensures cause { IfErr result (λ e. (watched self.old).fault ≡ None → (e ≡ WatchFault.Memory) ⊎ ((e ≡ WatchFault.Unrecorded) × ((watched self.old).shows.is_recorded ≡ true))) }
-        ensures noted { OnOk result (Notes (watched self.old).recording (watched self.new).recording steps.now) }
+        ensures cause { IfErr result (λ e. (watched self.old).fault ≡ None → (e ≡ ObserverFault.Memory) ⊎ ((e ≡ ObserverFault.Unrecorded) × ((watched self.old).shows.is_recorded ≡ true))) }
+        ensures noted { OnOk result (RecordsStepsIfAny (watched self.old).recording (watched self.new).recording steps.now) }
         ensures history { (watched self.new).history ≡ (watched self.old).history }
         ensures same { (watched self.new).shows ≡ (watched self.old).shows }
         ensures seen { (watched self.new).seen ≡ (watched self.old).seen }
@@ -75,17 +75,17 @@ pub trait Watch {
     ///
     /// # Errors
     /// The fault that it had; else that what it tells of the turn can't be written, or that memory is refused.
-    fn see<B: Bank + Drop>(&mut self, world: &World<'_, B>) -> Result<(), WatchFault>
+    fn see<B: Bank + Drop>(&mut self, world: &World<'_, B>) -> Result<(), ObserverFault>
         ensures ok { OnOk result ((watched self.new).fault ≡ None) }
         ensures err { IfErr result (λ e. (watched self.new).fault ≡ Some e) }
         ensures first { IfSome (watched self.old).fault (λ f. result ≡ Err f) }
         ensures cause { IfErr result (λ e. (watched self.old).fault ≡ None → IsOfShown (watched self.old).shows e) }
         ensures same { (watched self.new).shows ≡ (watched self.old).shows }
-        ensures seen { Rises (watched self.old).seen (watched self.new).seen }
+        ensures seen { CountsOne (watched self.old).seen (watched self.new).seen }
         ensures lost { (watched self.new).lost ≡ (watched self.old).lost }
         ensures recording { (watched self.new).recording ≡ (watched self.old).recording }
-        ensures history { OnOk result (KeepsUp (watched self.old).history (watched self.new).history world.now.history) }
-        ensures history_still { KeepsUpStill (watched self.old).history (watched self.new).history world.now.history };
+        ensures history { OnOk result (AppendsToHistory (watched self.old).history (watched self.new).history world.now.history) }
+        ensures history_still { MayAppendToHistory (watched self.old).history (watched self.new).history world.now.history };
 
     /// Is told that the link of this device failed.
     fn lose(&mut self, device: u8)
@@ -101,7 +101,7 @@ pub trait Watch {
     ///
     /// # Errors
     /// As for a turn; and the records can't be written.
-    fn end<B: Bank + Drop>(&mut self, world: &World<'_, B>) -> Result<(), WatchFault>
+    fn end<B: Bank + Drop>(&mut self, world: &World<'_, B>) -> Result<(), ObserverFault>
         ensures ok { OnOk result ((watched self.new).fault ≡ None) }
         ensures err { IfErr result (λ e. (watched self.new).fault ≡ Some e) }
         ensures first { IfSome (watched self.old).fault (λ f. result ≡ Err f) }
@@ -109,22 +109,22 @@ pub trait Watch {
         ensures same { (watched self.new).shows ≡ (watched self.old).shows }
         ensures seen { (watched self.new).seen ≡ (watched self.old).seen }
         ensures lost { (watched self.new).lost ≡ (watched self.old).lost }
-        ensures closed { OnOk result (Closes (watched self.old).recording (watched self.new).recording) }
+        ensures closed { OnOk result (WritesHeldTicksIfAny (watched self.old).recording (watched self.new).recording) }
         ensures history { (watched self.new).history ≡ (watched self.old).history }
         ensures ended { (watched self.new).has_ended ≡ true };
 }
 
 /// The run's fault when an onlooker fails.
-pub fn watch_fault(fault: WatchFault) -> RunFault
-    ensures told { result ≡ told_by fault }
+pub fn observer_fault(fault: ObserverFault) -> RunFault
+    ensures told { result ≡ run_fault_of_observer fault }
     ensures ends { MayEnd result }
 {
     match fault {
-        WatchFault::Unwritten => RunFault::Trace,
-        WatchFault::Unlogged => RunFault::Log,
-        WatchFault::Unrecorded => RunFault::Record,
-        WatchFault::Unkept => RunFault::History,
-        WatchFault::Memory => RunFault::Memory,
+        ObserverFault::Unwritten => RunFault::Trace,
+        ObserverFault::Unlogged => RunFault::Log,
+        ObserverFault::Unrecorded => RunFault::Record,
+        ObserverFault::Unkept => RunFault::History,
+        ObserverFault::Memory => RunFault::Memory,
     }
 }
 
@@ -135,18 +135,18 @@ fn start_all<B: Bank + Drop>(
     steps: &mut Vec<Step>,
 ) -> Result<(), RunFault>
     requires none { steps.old.items ≡ [] }
-    ensures started { OnOk result (Starts number world.old world.new) }
+    ensures started { OnOk result (StartsUpdates number world.old world.new) }
     ensures listed { OnOk result (steps.new.items ≡ starts_of number world.old.sites) }
     ensures same { world.new.sites ≡ world.old.sites }
     ensures history { world.new.history ≡ world.old.history }
-    ensures reached { StepsLead number world.old world.new }
-    ensures unseen_steps { StepsSeen number world.old world.new 0 }
+    ensures reached { RunsSteps number world.old world.new }
+    ensures unseen_steps { RunsStepsSeen number world.old world.new 0 }
     ensures fault { IfErr result MayEnd }
     ensures refused { IfErr result (λ e. e ≡ RunFault.Edge EdgeFault.Step → IsRefusedStart number world.old world.new) }
     ensures memory { IfErr result (λ e. e ≡ RunFault.Memory → (world.new ≡ world.old) ⊎ MayStart number world.old world.new) }
     ensures run { Run world.old steps.new.items world.new }
     ensures none { IfErr result (λ e. e ≡ RunFault.Edge EdgeFault.Frame → ⊥) }
-    ensures unseen { IfErr result (λ e. watch_of e ≡ None) }
+    ensures unseen { IfErr result (λ e. observer_fault_of e ≡ None) }
 {
     let Ok(()) = steps.reserve(world.device_count()) else {
         return Err(RunFault::Memory);
@@ -167,18 +167,18 @@ fn start_all<B: Bank + Drop>(
 }
 
 /// What looks on notes the steps of a turn, and sees what it left.
-fn see_turn<B: Bank + Drop, V: Watch>(
+fn see_turn<B: Bank + Drop, V: Observer>(
     world: &World<'_, B>,
     watch: &mut V,
     steps: &[Step],
-) -> Result<(), WatchFault>
+) -> Result<(), ObserverFault>
     ensures ok { OnOk result ((V.watched watch.new).fault ≡ None) }
     ensures err { IfErr result (λ e. (V.watched watch.new).fault ≡ Some e) }
-    ensures noted { OnOk result (Notes (V.watched watch.old).recording (V.watched watch.new).recording steps.now) }
-    ensures history { OnOk result (KeepsUp (V.watched watch.old).history (V.watched watch.new).history world.now.history) }
-    ensures history_still { KeepsUpStill (V.watched watch.old).history (V.watched watch.new).history world.now.history }
+    ensures noted { OnOk result (RecordsStepsIfAny (V.watched watch.old).recording (V.watched watch.new).recording steps.now) }
+    ensures history { OnOk result (AppendsToHistory (V.watched watch.old).history (V.watched watch.new).history world.now.history) }
+    ensures history_still { MayAppendToHistory (V.watched watch.old).history (V.watched watch.new).history world.now.history }
     ensures same { (V.watched watch.new).shows ≡ (V.watched watch.old).shows }
-    ensures seen { Rises (V.watched watch.old).seen (V.watched watch.new).seen }
+    ensures seen { CountsOne (V.watched watch.old).seen (V.watched watch.new).seen }
     ensures lost { (V.watched watch.new).lost ≡ (V.watched watch.old).lost }
 {
     let _ = watch.note(steps);
@@ -186,17 +186,17 @@ fn see_turn<B: Bank + Drop, V: Watch>(
 }
 
 /// The run's fault when a turn fails. The onlooker still notes its steps, and sees it; a fault of its own isn't told then.
-fn broken_off<B: Bank + Drop, V: Watch>(
+fn broken_off<B: Bank + Drop, V: Observer>(
     world: &World<'_, B>,
     watch: &mut V,
     steps: &[Step],
     fault: EdgeFault,
 ) -> RunFault
-    ensures told { result ≡ told_of fault }
-    ensures noted { (V.watched watch.new).fault ≡ None → Notes (V.watched watch.old).recording (V.watched watch.new).recording steps.now }
-    ensures history_still { KeepsUpStill (V.watched watch.old).history (V.watched watch.new).history world.now.history }
+    ensures told { result ≡ run_fault_of fault }
+    ensures noted { (V.watched watch.new).fault ≡ None → RecordsStepsIfAny (V.watched watch.old).recording (V.watched watch.new).recording steps.now }
+    ensures history_still { MayAppendToHistory (V.watched watch.old).history (V.watched watch.new).history world.now.history }
     ensures same { (V.watched watch.new).shows ≡ (V.watched watch.old).shows }
-    ensures seen { Rises (V.watched watch.old).seen (V.watched watch.new).seen }
+    ensures seen { CountsOne (V.watched watch.old).seen (V.watched watch.new).seen }
     ensures lost { (V.watched watch.new).lost ≡ (V.watched watch.old).lost }
 {
     let _ = see_turn(world, watch, steps);
@@ -209,7 +209,7 @@ fn broken_off<B: Bank + Drop, V: Watch>(
 /// # Errors
 /// `Edge` where a link failed, a start is refused or the clock stands at its end, `Memory` where memory was refused, and what ends
 /// the watch.
-pub fn update_all<B: Bank + Drop, L: Link, V: Watch>(
+pub fn update_all<B: Bank + Drop, L: Link, V: Observer>(
     alloc: Global,
     world: &mut World<'_, B>,
     number: usize,
@@ -217,22 +217,22 @@ pub fn update_all<B: Bank + Drop, L: Link, V: Watch>(
     watch: &mut V,
 ) -> Result<(), RunFault>
     requires { length links.old ≡ length world.old.sites }
-    ensures updated { OnOk result (IsUpdated number world.old world.new) }
-    ensures reached { StepsLead number world.old world.new }
+    ensures updated { OnOk result (UpdateOk number world.old world.new) }
+    ensures reached { RunsSteps number world.old world.new }
     ensures fault { IfErr result MayEnd }
     ensures kept { OnOk result (map (λ l. (L.tally l).failures) links.new ≡ map (λ l. (L.tally l).failures) links.old) }
-    ensures failed { IfErr result (λ e. AreToldOf e (map (λ l. (L.tally l).failures) links.old) (map (λ l. (L.tally l).failures) links.new)) }
+    ensures failed { IfErr result (λ e. ReportsLinkFailures e (map (λ l. (L.tally l).failures) links.old) (map (λ l. (L.tally l).failures) links.new)) }
     ensures step { IfErr result (λ e. e ≡ RunFault.Edge EdgeFault.Step → IsRefusedStart number world.old world.new ⊎ (world.new.now ≡ 2 ^ 32 - 1)) }
     ensures sent { OnOk result (AllSent (packet_counts world.old.sites) (packet_counts world.new.sites) (map (λ l. (L.tally l).sent) links.old) (map (λ l. (L.tally l).sent) links.new)) }
     ensures devices { length links.new ≡ length world.new.sites }
-    ensures unwritten { IfErr result (λ e. IsUnwritten e (V.watched watch.new).fault) }
-    ensures noted { OnOk result (NotesRun world.old world.new (V.watched watch.old).recording (V.watched watch.new).recording) }
-    ensures noted_still { IfErr result (λ e. (V.watched watch.new).fault ≡ None → NotesRun world.old world.new (V.watched watch.old).recording (V.watched watch.new).recording) }
-    ensures history { OnOk result (AreKeptUp (V.watched watch.old).history world.old.history → AreKeptUp (V.watched watch.new).history world.new.history) }
-    ensures history_still { AreKeptUp (V.watched watch.old).history world.old.history → AreKeptUpStill (V.watched watch.new).history world.new.history }
+    ensures unwritten { IfErr result (λ e. HasObserverFault e (V.watched watch.new).fault) }
+    ensures noted { OnOk result (RecordsRun world.old world.new (V.watched watch.old).recording (V.watched watch.new).recording) }
+    ensures noted_still { IfErr result (λ e. (V.watched watch.new).fault ≡ None → RecordsRun world.old world.new (V.watched watch.old).recording (V.watched watch.new).recording) }
+    ensures history { OnOk result (HasHistoryLinesIfAny (V.watched watch.old).history world.old.history → HasHistoryLinesIfAny (V.watched watch.new).history world.new.history) }
+    ensures history_still { HasHistoryLinesIfAny (V.watched watch.old).history world.old.history → MayHaveHistoryLines (V.watched watch.new).history world.new.history }
     ensures same { (V.watched watch.new).shows ≡ (V.watched watch.old).shows }
-    ensures turns { OnOk result ((V.watched watch.old).seen ≡ 0 → Updates number world.old world.new (V.watched watch.new).seen) }
-    ensures sees { (V.watched watch.old).seen ≡ 0 → StepsSeen number world.old world.new (V.watched watch.new).seen }
+    ensures turns { OnOk result ((V.watched watch.old).seen ≡ 0 → UpdatesDevices number world.old world.new (V.watched watch.new).seen) }
+    ensures sees { (V.watched watch.old).seen ≡ 0 → RunsStepsSeen number world.old world.new (V.watched watch.new).seen }
     ensures lost { (V.watched watch.new).lost ≡ (V.watched watch.old).lost }
 {
     let mut steps = Vec::new(alloc);
@@ -246,7 +246,7 @@ pub fn update_all<B: Bank + Drop, L: Link, V: Watch>(
     }
     match noted {
         Ok(()) => {}
-        Err(fault) => return Err(watch_fault(fault)),
+        Err(fault) => return Err(observer_fault(fault)),
     }
     steps.clear();
     for _ in 0..TURNS {
@@ -259,7 +259,7 @@ pub fn update_all<B: Bank + Drop, L: Link, V: Watch>(
         }
         match see_turn(world, watch, steps.as_slice()) {
             Ok(()) => {}
-            Err(fault) => return Err(watch_fault(fault)),
+            Err(fault) => return Err(observer_fault(fault)),
         }
         steps.clear();
     }
@@ -270,7 +270,7 @@ pub fn update_all<B: Bank + Drop, L: Link, V: Watch>(
 ///
 /// # Errors
 /// That of the update, and else what ends the watch.
-pub fn update_watched<B: Bank + Drop, L: Link, V: Watch>(
+pub fn update_observed<B: Bank + Drop, L: Link, V: Observer>(
     alloc: Global,
     world: &mut World<'_, B>,
     number: usize,
@@ -278,22 +278,22 @@ pub fn update_watched<B: Bank + Drop, L: Link, V: Watch>(
     watch: &mut V,
 ) -> Result<(), RunFault>
     requires { length links.old ≡ length world.old.sites }
-    ensures updated { OnOk result (IsUpdated number world.old world.new) }
-    ensures reached { StepsLead number world.old world.new }
+    ensures updated { OnOk result (UpdateOk number world.old world.new) }
+    ensures reached { RunsSteps number world.old world.new }
     ensures seen { OnOk result ((V.watched watch.new).fault ≡ None) }
-    ensures recorded { OnOk result (IfSome (V.watched watch.old).recording IsNew → IfSome (V.watched watch.new).recording (IsRecorded world.old world.new)) }
-    ensures recorded_still { IfErr result (λ e. (V.watched watch.new).fault ≡ None → IfSome (V.watched watch.old).recording IsNew → IfSome (V.watched watch.new).recording (IsRecorded world.old world.new)) }
-    ensures history { OnOk result (AreKeptUp (V.watched watch.old).history world.old.history → AreKeptUp (V.watched watch.new).history world.new.history) }
-    ensures history_still { AreKeptUp (V.watched watch.old).history world.old.history → AreKeptUpStill (V.watched watch.new).history world.new.history }
+    ensures recorded { OnOk result (IfSome (V.watched watch.old).recording IsNewRecording → IfSome (V.watched watch.new).recording (HasRecordedSteps world.old world.new)) }
+    ensures recorded_still { IfErr result (λ e. (V.watched watch.new).fault ≡ None → IfSome (V.watched watch.old).recording IsNewRecording → IfSome (V.watched watch.new).recording (HasRecordedSteps world.old world.new)) }
+    ensures history { OnOk result (HasHistoryLinesIfAny (V.watched watch.old).history world.old.history → HasHistoryLinesIfAny (V.watched watch.new).history world.new.history) }
+    ensures history_still { HasHistoryLinesIfAny (V.watched watch.old).history world.old.history → MayHaveHistoryLines (V.watched watch.new).history world.new.history }
     ensures ended { (V.watched watch.new).has_ended ≡ true }
     ensures devices { length links.new ≡ length world.new.sites }
     ensures same { (V.watched watch.new).shows ≡ (V.watched watch.old).shows }
-    ensures turns { OnOk result ((V.watched watch.old).seen ≡ 0 → Updates number world.old world.new (V.watched watch.new).seen) }
-    ensures sees { (V.watched watch.old).seen ≡ 0 → StepsSeen number world.old world.new (V.watched watch.new).seen }
+    ensures turns { OnOk result ((V.watched watch.old).seen ≡ 0 → UpdatesDevices number world.old world.new (V.watched watch.new).seen) }
+    ensures sees { (V.watched watch.old).seen ≡ 0 → RunsStepsSeen number world.old world.new (V.watched watch.new).seen }
     ensures lost { (V.watched watch.new).lost ≡ (V.watched watch.old).lost }
     ensures fault { IfErr result (λ e. (e ≡ RunFault.Memory) ⊎ IsCaused number world.old world.new e (V.watched watch.new)) }
     ensures kept { OnOk result (map (λ l. (L.tally l).failures) links.new ≡ map (λ l. (L.tally l).failures) links.old) }
-    ensures failed { IfErr result (λ e. AreToldOf e (map (λ l. (L.tally l).failures) links.old) (map (λ l. (L.tally l).failures) links.new)) }
+    ensures failed { IfErr result (λ e. ReportsLinkFailures e (map (λ l. (L.tally l).failures) links.old) (map (λ l. (L.tally l).failures) links.new)) }
     ensures sent { OnOk result (AllSent (packet_counts world.old.sites) (packet_counts world.new.sites) (map (λ l. (L.tally l).sent) links.old) (map (λ l. (L.tally l).sent) links.new)) }
 {
     schedules_read_back();
@@ -305,6 +305,6 @@ pub fn update_watched<B: Bank + Drop, L: Link, V: Watch>(
     }
     match watched {
         Ok(()) => Ok(()),
-        Err(fault) => Err(watch_fault(fault)),
+        Err(fault) => Err(observer_fault(fault)),
     }
 }

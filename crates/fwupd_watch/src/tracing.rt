@@ -4,17 +4,17 @@ ghost use Rattle.std.specs.Prelude.{◌≡◌, ◌<◌, ◌≤◌, ◌⊎◌, �
 ghost use Rattle.std.specs.Io.Buffered.{writer_buffer, writer_contents};
 ghost use Rattle.std.specs.Io.KnownBytes.{Appends, Keeps};
 ghost use Rattle.fw_edge.specs.Ledgers.{packet_counts};
-ghost use Rattle.fw_text.specs.Printing.{Adds};
+ghost use Rattle.fw_text.specs.Printing.{AppendsText};
 ghost use Rattle.fw_steps.specs.Packets.{sent_of};
 ghost use Rattle.fw_steps.specs.Worlds.{WorldOf};
-ghost use Rattle.fwupd_watch.specs.Traces.{GoesOnFrom, HasRead, HasTraced, ReadOn, head_of, is_to_agent, packet_text, pair_text, pairs_text, reader_next, reader_of_pair, reader_past, readers_for, trace_line, trace_text, way_of, written_at as written_of};
+ghost use Rattle.fwupd_watch.specs.Traces.{ContinuesPairsIfAny, HasReadWorlds, HasTracedWorlds, ReadOn, head_of, is_to_agent, packet_text, pair_text, pairs_text, reader_next, reader_of_pair, reader_past, readers_for, trace_line, trace_text, way_of, written_at as written_of};
 
-use crate::running::WatchFault;
+use crate::running::ObserverFault;
 use arrayvec::ArrayVec;
 use fd_core::Bank;
 use fw_text::{push_number, push_words};
 use fw_trace::{PacketReader, capture_header, push_capture};
-use fw_world::{SentPacket, SentPackets, World};
+use fw_world::{DatedPacket, SentPackets, World};
 use fwupd_words::TraceForm;
 use std::alloc::{AllocError, Global};
 use std::io::{BufWriter, Write};
@@ -58,9 +58,9 @@ fn push_line(
     alloc: Global,
     text: &mut Vec<u8>,
     device: u8,
-    packet: &SentPacket<'_>,
+    packet: &DatedPacket<'_>,
 ) -> Result<(), AllocError>
-    ensures { OnOk result (Adds text.old.items text.new.items (trace_line device (sent_of packet.now))) }
+    ensures { OnOk result (AppendsText text.old.items text.new.items (trace_line device (sent_of packet.now))) }
 {
     push_number(alloc, text, "", packet.date as usize)?;
     push_number(alloc, text, " ", usize::from(device))?;
@@ -78,9 +78,9 @@ fn push_packet(
     text: &mut Vec<u8>,
     device: u8,
     number: usize,
-    packet: &SentPacket<'_>,
+    packet: &DatedPacket<'_>,
 ) -> Result<(), AllocError>
-    ensures text { OnOk result (Adds text.old.items text.new.items (packet_text form reader.old device number (sent_of packet.now))) }
+    ensures text { OnOk result (AppendsText text.old.items text.new.items (packet_text form reader.old device number (sent_of packet.now))) }
     ensures after { OnOk result (reader.new ≡ reader_next form reader.old (sent_of packet.now)) }
 {
     match form {
@@ -143,12 +143,12 @@ fn write_pair<B: Bank + Drop, W: Write>(
     written: usize,
     reader: &mut PacketReader,
     writer: &mut W,
-) -> Result<usize, WatchFault>
+) -> Result<usize, ObserverFault>
     ensures lines { OnOk result (Appends (W.contents writer.old) (W.contents writer.new) (pair_text form (Some reader.old) (slice_get world.now.sites place) written)) }
     ensures read { OnOk result (reader.new ≡ reader_of_pair form reader.old (slice_get world.now.sites place) written) }
     ensures count { IfOk result (λ n. IfSome (slice_get world.now.sites place) (λ x. n ≡ length x.packets)) }
-    ensures fault { IfErr result (λ e. (e ≡ WatchFault.Memory) ⊎ (e ≡ WatchFault.Unwritten)) }
-    ensures unwritten { IfErr result (λ e. e ≡ WatchFault.Unwritten → reader.new ≡ reader_of_pair form reader.old (slice_get world.now.sites place) written) }
+    ensures fault { IfErr result (λ e. (e ≡ ObserverFault.Memory) ⊎ (e ≡ ObserverFault.Unwritten)) }
+    ensures unwritten { IfErr result (λ e. e ≡ ObserverFault.Unwritten → reader.new ≡ reader_of_pair form reader.old (slice_get world.now.sites place) written) }
 {
     let (Some(node), Some(packets)) = (world.device_at(place), world.packets_at(place)) else {
         return Ok(0);
@@ -164,11 +164,11 @@ fn write_pair<B: Bank + Drop, W: Write>(
         written,
         &packets.behind(written),
     ) else {
-        return Err(WatchFault::Memory);
+        return Err(ObserverFault::Memory);
     };
     match writer.write_all(&text) {
         Ok(()) => Ok(packets.len()),
-        Err(_) => Err(WatchFault::Unwritten),
+        Err(_) => Err(ObserverFault::Unwritten),
     }
 }
 
@@ -191,12 +191,12 @@ fn write_pairs<B: Bank + Drop, W: Write>(
     written: &[usize],
     readers: &mut [PacketReader],
     writer: &mut W,
-) -> Result<ArrayVec<usize, 16>, WatchFault>
+) -> Result<ArrayVec<usize, 16>, ObserverFault>
     requires { length world.now.sites ≤ length readers.old }
     ensures lines { OnOk result (Appends (W.contents writer.old) (W.contents writer.new) (pairs_text form readers.old written.now world.now.sites (length world.now.sites))) }
     ensures counts { IfOk result (λ counts. counts.items ≡ packet_counts world.now.sites) }
     ensures read { OnOk result (ReadOn form written.now world.now.sites (length world.now.sites) readers.old readers.new) }
-    ensures fault { IfErr result (λ e. (e ≡ WatchFault.Memory) ⊎ (e ≡ WatchFault.Unwritten)) }
+    ensures fault { IfErr result (λ e. (e ≡ ObserverFault.Memory) ⊎ (e ≡ ObserverFault.Unwritten)) }
 {
     let mut counts = ArrayVec::new();
     for place in 0..world.device_count() {
@@ -238,20 +238,20 @@ impl<W: Write + Drop> Trace<W> {
     ///
     /// # Errors
     /// The head can't be written, or `Memory`.
-    pub fn new(alloc: Global, form: TraceForm, writer: W) -> Result<Trace<W>, WatchFault>
+    pub fn new(alloc: Global, form: TraceForm, writer: W) -> Result<Trace<W>, ObserverFault>
         ensures written { IfOk result (λ t. t.written.items ≡ []) }
         ensures unread { IfOk result (λ t. t.readers.items ≡ []) }
         ensures form { IfOk result (λ t. t.form ≡ form) }
         ensures head { IfOk result (λ t. Appends (W.contents writer) (writer_contents W.contents t.writer) (head_of form)) }
-        ensures traced { IfOk result (λ t. HasTraced form [] t.written.items t.readers.items (W.contents writer) (writer_contents W.contents t.writer)) }
-        ensures fault { IfErr result (λ e. (e ≡ WatchFault.Memory) ⊎ (e ≡ WatchFault.Unwritten)) }
+        ensures traced { IfOk result (λ t. HasTracedWorlds form [] t.written.items t.readers.items (W.contents writer) (writer_contents W.contents t.writer)) }
+        ensures fault { IfErr result (λ e. (e ≡ ObserverFault.Memory) ⊎ (e ≡ ObserverFault.Unwritten)) }
     {
         let Ok(mut writer) = BufWriter::new(alloc, writer) else {
-            return Err(WatchFault::Memory);
+            return Err(ObserverFault::Memory);
         };
         match writer.write_all(head(form)) {
             Ok(()) => {}
-            Err(_) => return Err(WatchFault::Unwritten),
+            Err(_) => return Err(ObserverFault::Unwritten),
         }
         Ok(Trace {
             alloc,
@@ -267,20 +267,20 @@ impl<W: Write + Drop> Trace<W> {
     ///
     /// # Errors
     /// They can't be written, or memory for their lines is refused.
-    pub fn see<B: Bank + Drop>(&mut self, world: &World<'_, B>) -> Result<(), WatchFault>
+    pub fn see<B: Bank + Drop>(&mut self, world: &World<'_, B>) -> Result<(), ObserverFault>
         ensures lines { OnOk result (Appends (writer_contents W.contents self.old.writer) (writer_contents W.contents self.new.writer)
             (pairs_text self.old.form (readers_for self.old.readers.items world.now) self.old.written.items world.now.sites (length world.now.sites))) }
         ensures counts { OnOk result (self.new.written.items ≡ packet_counts world.now.sites) }
-        ensures read { OnOk result ((seen : List WorldOf) → HasRead self.old.form seen self.old.written.items self.old.readers.items → GoesOnFrom seen world.now
-            → HasRead self.old.form (world.now ∷ seen) self.new.written.items self.new.readers.items) }
+        ensures read { OnOk result ((seen : List WorldOf) → HasReadWorlds self.old.form seen self.old.written.items self.old.readers.items → ContinuesPairsIfAny seen world.now
+            → HasReadWorlds self.old.form (world.now ∷ seen) self.new.written.items self.new.readers.items) }
         ensures traced { OnOk result ((seen : List WorldOf) (before : Option (List ℕ))
-            → HasTraced self.old.form seen self.old.written.items self.old.readers.items before (writer_contents W.contents self.old.writer) → GoesOnFrom seen world.now
-            → HasTraced self.old.form (world.now ∷ seen) self.new.written.items self.new.readers.items before (writer_contents W.contents self.new.writer)) }
+            → HasTracedWorlds self.old.form seen self.old.written.items self.old.readers.items before (writer_contents W.contents self.old.writer) → ContinuesPairsIfAny seen world.now
+            → HasTracedWorlds self.old.form (world.now ∷ seen) self.new.written.items self.new.readers.items before (writer_contents W.contents self.new.writer)) }
         ensures form { self.new.form ≡ self.old.form }
-        ensures fault { IfErr result (λ e. (e ≡ WatchFault.Memory) ⊎ (e ≡ WatchFault.Unwritten)) }
+        ensures fault { IfErr result (λ e. (e ≡ ObserverFault.Memory) ⊎ (e ≡ ObserverFault.Unwritten)) }
     {
         if add_readers(world, &mut self.readers).is_err() {
-            return Err(WatchFault::Memory);
+            return Err(ObserverFault::Memory);
         }
         let counts = match write_pairs(
             self.alloc,
@@ -301,15 +301,15 @@ impl<W: Write + Drop> Trace<W> {
     ///
     /// # Errors
     /// It can't be written.
-    pub fn end(&mut self) -> Result<(), WatchFault>
-        ensures fault { IfErr result (λ e. e ≡ WatchFault.Unwritten) }
+    pub fn end(&mut self) -> Result<(), ObserverFault>
+        ensures fault { IfErr result (λ e. e ≡ ObserverFault.Unwritten) }
         ensures all { OnOk result (writer_buffer self.new.writer ≡ []) }
         ensures form { self.new.form ≡ self.old.form }
         ensures kept { Keeps (writer_contents W.contents self.old.writer) (writer_contents W.contents self.new.writer) }
     {
         match self.writer.flush() {
             Ok(()) => Ok(()),
-            Err(_) => Err(WatchFault::Unwritten),
+            Err(_) => Err(ObserverFault::Unwritten),
         }
     }
 }

@@ -14,7 +14,7 @@ use Rattle.clap.specs.declared.builder.value_parser.Reading.TheVariants.{Without
 use Rattle.clap.specs.ValueTests.{accepts}
 use Rattle.clap.specs.Walk.{Row, Rule, Text, arg_by_id, has_row, one_of, row_text}
 use Rattle.clap.specs.declared.builder.value_parser.ValueParser.TheVariants as vp
-use Rattle.fwupd_words.specs.CommandLine.{between}
+use Rattle.fwupd_words.specs.CommandLine.{number_between}
 use Rattle.fwupd_words.specs.Words.{number_of}
 use Rattle.fwupd_words.proofs.Rows.{AreRows, IsRowOf}
 
@@ -60,7 +60,7 @@ had_row rules (r ∷ rs) id a all by has = here (bytes_eq r.id id) refl (λ h. h
 
 -- the number under an id
 pub number_at : (rules : List Rule) (rows : List Row) (id : Text) (a : Rule) (k m low high : ℕ) → AreRows rules rows → arg_by_id rules id ≡ Some a → has_row id rows ≡ true
-    → a.parser ≡ Some (between low high) → a.ignore_case ≡ false → high < 2 ^ k → m + 1 ≡ 2 ^ k → m < 2 ^ 64
+    → a.parser ≡ Some (number_between low high) → a.ignore_case ≡ false → high < 2 ^ k → m + 1 ≡ 2 ^ k → m < 2 ^ 64
     → (text : Text) × (one_of id rows ≡ Some text) × IsNumber k low high text
 number_at rules rows id a k m low high all by has parser case fits full small =
     let row = had_row rules rows id a all by has in
@@ -68,13 +68,13 @@ number_at rules rows id a k m low high all by has parser case fits full small =
     let reading : row.0.reading ≡ WithoutMinus = row.2.reading ∙ ap (λ p. reading_of (parser_of_value p)) parser in
     let one : one_of id rows ≡ Some (without_minus text) = ap (option_and_then row_text) row.1
     ∙ (λ i. option_map (read_as (reading i)) (slice_get (row.2.values i) 0)) in
-    let passes : accepts false (between low high) text ≡ true =
+    let passes : accepts false (number_between low high) text ≡ true =
     sym (λ i. accepts (case i) (parser_of_value (parser i)) text) ∙ row.2.passes in
-    (without_minus text, one, in_bounds k m low high text fits full small (accepts-Accepts false (between low high) text passes))
+    (without_minus text, one, in_bounds k m low high text fits full small (accepts-Accepts false (number_between low high) text passes))
 
 -- what asks for it lies in its bounds
 pub number_under : (rules : List Rule) (rows : List Row) (id : Text) (a : Rule) (k m low high number : ℕ) → AreRows rules rows → arg_by_id rules id ≡ Some a → has_row id rows ≡ true
-    → a.parser ≡ Some (between low high) → a.ignore_case ≡ false → high < 2 ^ k → m + 1 ≡ 2 ^ k → m < 2 ^ 64
+    → a.parser ≡ Some (number_between low high) → a.ignore_case ≡ false → high < 2 ^ k → m + 1 ≡ 2 ^ k → m < 2 ^ 64
     → ((text : Text) → one_of id rows ≡ Some text → IsNumeral 10 (without_leading_plus text) → number_of text < 2 ^ k → number ≡ number_of text)
     → (low ≤ number) × (number ≤ high)
 number_under rules rows id a k m low high number all by has parser case fits full small asks =

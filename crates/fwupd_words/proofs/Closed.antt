@@ -9,7 +9,7 @@ use Rattle.clap.specs.declared.parser.matches.ArgMatches.{ArgMatches}
 use Rattle.clap.proofs.CallerLemmas.{subcommand_required}
 use Rattle.clap.proofs.SimpleLemmas.{plain_fields}
 use Rattle.fwupd_words.specs.CommandLine.{Forms, IsCommandLine, command_line}
-use Rattle.fwupd_words.specs.Reading.{Finds}
+use Rattle.fwupd_words.specs.Reading.{FindsSubcommand}
 
 -- the kit says what each word of such a command line comes to
 pub line_is_simple : (forms : Forms) → is_simple (command_line forms) ≡ true
@@ -20,7 +20,7 @@ line_is_free forms = refl
 
 -- what a command of that line finds in words
 pub finds : (c : Command) (words : List Text) (r : Result ArgMatches Error) → IsCommandLine (app_of c) → IfOk r (λ m. IsParsedFrom c m)
-    → IfOk r (HasMatchesOf (app_of c) words) → (is_simple_and_free (app_of c) ≡ true → FailsBy (fault_of (app_of c) words) r) → Finds (app_of c) words r
+    → IfOk r (HasMatchesOf (app_of c) words) → (is_simple_and_free (app_of c) ≡ true → FailsBy (fault_of (app_of c) words) r) → FindsSubcommand (app_of c) words r
 finds c words (Ok m) line parsed matches kinds =
     let plain = plain_fields c (ap (λ (a : App). a.top.is_plain) line.is) in
     let needs = ap (λ (a : App). a.top.subcommand_required) line.is in (
@@ -42,6 +42,6 @@ some_line = record { forms = some_forms; words = refl; is = refl }
 
 -- where there was no memory for the command line, what is found is that
 pub finds_no_memory : (words : List Text) (r : Result ArgMatches Error) → IsErrAnd r (λ e. kind_of e ≡ kinds.OutOfMemory)
-    → (line : App) × IsCommandLine line × Finds line words r
+    → (line : App) × IsCommandLine line × FindsSubcommand line words r
 finds_no_memory words (Ok m) e = absurd e
 finds_no_memory words (Err e) is = (command_line some_forms, some_line, inl is)

@@ -8,8 +8,8 @@ use Rattle.clap.specs.declared.parser.matches.ArgMatches.{ArgMatches}
 use Rattle.clap.specs.declared.parser.matches.ArgMatches.TheViews.{out-ArgMatches, out-SubCommand}
 use Rattle.clap.specs.declared.parser.matches.SubCommand.{SubCommand}
 use Rattle.clap.proofs.WalkLemmas.{first_value-rows, one_text-rows}
-use Rattle.fwupd_words.specs.Reading.{IsFound, IsNoByte, IsNoUuid, IsRefused, Reads, Refuses}
-use Rattle.fwupd_words.specs.Words.{Asks, Given, given_by, given_in}
+use Rattle.fwupd_words.specs.Reading.{IsFound, IsNoByte, IsNoUuid, IsRefusedWord, ReadsWords, RefusesWords}
+use Rattle.fwupd_words.specs.Words.{AsksForJob, Given, given_by, given_in}
 use Rattle.fwupd_words.specs.CommandLine.{Forms, IsCommandLine, command_line}
 use Rattle.fwupd_words.proofs.Named.{names_a_job}
 use Rattle.fwupd_words.proofs.Within.{eid_is_read, is_within}
@@ -42,7 +42,7 @@ entered_is m name rows named shown = go (subcommand_rows_of m) (subcommand_name_
 
 -- why a subcommand asks for no job
 no_endpoint : (line : App) (words : List Text) (given : Given) (name : Text) (error : Error) → fault_of line words ≡ []
-    → (name ≡ codes "answer" → IsNoByte given (codes "EID") → ⊥) → IsRefused name given error → HasKind (fault_of line words) error ⊎ IsNoUuid name given error
+    → (name ≡ codes "answer" → IsNoByte given (codes "EID") → ⊥) → IsRefusedWord name given error → HasKind (fault_of line words) error ⊎ IsNoUuid name given error
 no_endpoint line words given name error passed never (inl memory) = inl (inl memory)
 no_endpoint line words given name error passed never (inr (answers, inl memory)) = inl (inl memory)
 no_endpoint line words given name error passed never (inr (answers, inr (inl missing))) = absurd (never answers missing.1)
@@ -50,14 +50,14 @@ no_endpoint line words given name error passed never (inr (answers, inr (inr bad
 
 refused : (line : App) (words : List Text) (entered : ArgMatches) (name : Text) (error : Error) (forms : Forms) → fault_of line words ≡ []
     → Some (name, rows_of (found_of entered)) ≡ subcommand_of line words → fault_of (command_line forms) words ≡ []
-    → subcommand_of (command_line forms) words ≡ Some (name, rows_of (found_of entered)) → Refuses name (given_in entered) error → Reads line words (Err error)
+    → subcommand_of (command_line forms) words ≡ Some (name, rows_of (found_of entered)) → RefusesWords name (given_in entered) error → ReadsWords line words (Err error)
 refused line words entered name error forms passed is free entering (inr other) =
     absurd (names_a_job forms words name (rows_of (found_of entered)) free entering other)
 refused line words entered name error forms passed is free entering (inl why) =
     let rows = rows_of (found_of entered) in
     let never : name ≡ codes "answer" → IsNoByte (given_by rows) (codes "EID") → ⊥ =
     eid_is_read forms words name rows free entering in
-    elim (no_endpoint line words (given_by rows) name error passed never (subst (λ given. IsRefused name given error) (given_rows entered) why)) [
+    elim (no_endpoint line words (given_by rows) name error passed never (subst (λ given. IsRefusedWord name given error) (given_rows entered) why)) [
       | inl kind ↦ inl kind
       | inr bad ↦ inr (passed, subst (λ o. IsSomeAnd o (λ at. IsNoUuid at.0 (given_by at.1) error)) is bad)
     ]
@@ -65,15 +65,15 @@ refused line words entered name error forms passed is free entering (inl why) =
 -- what is read of a subcommand is read of the words
 pub reads : (line : App) (words : List Text) (m entered : ArgMatches) (name : Text) (r : Result Job Error) → IsCommandLine line → IsFound line words m
     → Some name ≡ subcommand_name_of m → Some (rows_of (found_of entered)) ≡ option_map (λ named. named.1) (subcommand_rows_of m)
-    → IfOk r (Asks name (given_in entered)) → IfErr r (Refuses name (given_in entered)) → Reads line words r
+    → IfOk r (AsksForJob name (given_in entered)) → IfErr r (RefusesWords name (given_in entered)) → ReadsWords line words r
 reads line words m entered name (Ok job) is_line found named shown asks refuses =
     let rows = rows_of (found_of entered) in
     let is = sym (entered_is m name rows named shown) ∙ found.1 in
     let passed = subst (λ a. fault_of a words ≡ []) is_line.is found.0 in
     let entering = sym (subst (λ a. Some (name, rows) ≡ subcommand_of a words) is_line.is is) in
-    let here = subst (λ given. Asks name given job) (given_rows entered) asks in (
+    let here = subst (λ given. AsksForJob name given job) (given_rows entered) asks in (
       found.0,
-      subst (λ o. IsSomeAnd o (λ at. Asks at.0 (given_by at.1) job)) is here,
+      subst (λ o. IsSomeAnd o (λ at. AsksForJob at.0 (given_by at.1) job)) is here,
       is_within is_line.forms words name rows job passed entering here,
     )
 reads line words m entered name (Err error) is_line found named shown asks refuses =

@@ -6,9 +6,9 @@ use Rattle.std.specs.Str.{bytes_eq}
 use Rattle.clap.specs.Simple.{Shape, built, built_leaf, filled, inherited, with_index}
 use Rattle.clap.specs.Walk.{Row, Rule, Text, arg_by_id, has_row}
 use Rattle.clap.specs.Words.{App, fault_of, subcommand_of}
-use Rattle.fwupd_words.specs.CommandLine.{Forms, answer, between, command_line, option_rule, package_rule, plan, run, soak, text_option, word_rule}
-use Rattle.fwupd_words.specs.Reading.{IsNoByte, IsRough, IsWithin}
-use Rattle.fwupd_words.specs.Words.{Asks, AsksNumber, AsksOrder, AsksRoughness, AsksSmall, AsksSoak, given_by}
+use Rattle.fwupd_words.specs.CommandLine.{Forms, answer, number_between, command_line, option_rule, package_rule, plan, run, soak, text_option, word_rule}
+use Rattle.fwupd_words.specs.Reading.{IsNoByte, HasAllowedRoughness, IsWithinBounds}
+use Rattle.fwupd_words.specs.Words.{AsksForJob, AsksNumber, AsksOrder, AsksRoughness, AsksSmall, AsksSoak, given_by}
 use Rattle.fw_edge.specs.declared.fates.Roughness.{Roughness}
 use Rattle.fwupd_words.specs.declared.asked.Order.{Order}
 use Rattle.fwupd_words.specs.declared.asked.SoakOrder.{SoakOrder}
@@ -82,13 +82,13 @@ package_within rules rows number each by has asks =
     (number_under rules rows (codes "package") (as_built package_rule) 32 4294967295 1 4294967295 number each by has refl refl (omega arith) refl (omega arith) asks.is).0
 
 small_within : (rules : List Rule) (rows : List Row) (name : Text) (most number : ℕ) → AreRows rules rows
-    → arg_by_id rules name ≡ Some (as_built (option_rule name (codes "0") (between 0 most))) → has_row name rows ≡ true → most < 2 ^ 8
+    → arg_by_id rules name ≡ Some (as_built (option_rule name (codes "0") (number_between 0 most))) → has_row name rows ≡ true → most < 2 ^ 8
     → AsksSmall (given_by rows) name number → number ≤ most
 small_within rules rows name most number each by has fits asks =
-    (number_under rules rows name (as_built (option_rule name (codes "0") (between 0 most))) 8 255 0 most number each by has refl refl fits refl (omega arith) asks).1
+    (number_under rules rows name (as_built (option_rule name (codes "0") (number_between 0 most))) 8 255 0 most number each by has refl refl fits refl (omega arith) asks).1
 
 abbrev runs_rule : Rule
-runs_rule = as_built (record (text_option (codes "runs")) { required = true; parser = Some (between 1 1000000) })
+runs_rule = as_built (record (text_option (codes "runs")) { required = true; parser = Some (number_between 1 1000000) })
 
 given_has : (id : Text) (rows : List Row) → is_given id rows ≡ true → has_row id rows ≡ true
 given_has id [] given = given
@@ -109,32 +109,32 @@ plan_within : (rows : List Row) (number : ℕ) → AreRead (building plan) rows 
 plan_within rows number read asks = package_within (building plan).rules rows number read.each refl (read.defaults (codes "package") refl) asks
 
 rough_within : (s : Shape) (rows : List Row) (roughness : Roughness) → AreRead s rows
-    → arg_by_id s.rules (codes "loss") ≡ Some (as_built (option_rule (codes "loss") (codes "0") (between 0 100)))
-    → arg_by_id s.rules (codes "duplicate") ≡ Some (as_built (option_rule (codes "duplicate") (codes "0") (between 0 100)))
-    → arg_by_id s.rules (codes "delay") ≡ Some (as_built (option_rule (codes "delay") (codes "0") (between 0 8)))
+    → arg_by_id s.rules (codes "loss") ≡ Some (as_built (option_rule (codes "loss") (codes "0") (number_between 0 100)))
+    → arg_by_id s.rules (codes "duplicate") ≡ Some (as_built (option_rule (codes "duplicate") (codes "0") (number_between 0 100)))
+    → arg_by_id s.rules (codes "delay") ≡ Some (as_built (option_rule (codes "delay") (codes "0") (number_between 0 8)))
     → has_default (codes "loss") s.rules ≡ true → has_default (codes "duplicate") s.rules ≡ true → has_default (codes "delay") s.rules ≡ true
-    → AsksRoughness (given_by rows) roughness → IsRough roughness
+    → AsksRoughness (given_by rows) roughness → HasAllowedRoughness roughness
 rough_within s rows roughness read loss duplicate delay has_loss has_duplicate has_delay asks = record {
   loss = small_within s.rules rows (codes "loss") 100 roughness.loss read.each loss (read.defaults (codes "loss") has_loss) (omega arith) asks.loss;
   duplicate = small_within s.rules rows (codes "duplicate") 100 roughness.duplicate read.each duplicate (read.defaults (codes "duplicate") has_duplicate) (omega arith) asks.duplicate;
   delay = small_within s.rules rows (codes "delay") 8 roughness.delay read.each delay (read.defaults (codes "delay") has_delay) (omega arith) asks.delay;
 }
 
-run_within : (forms : Forms) (rows : List Row) (order : Order) → AreRead (building (run forms)) rows → AsksOrder (given_by rows) order → (1 ≤ order.number) × IsRough order.roughness
+run_within : (forms : Forms) (rows : List Row) (order : Order) → AreRead (building (run forms)) rows → AsksOrder (given_by rows) order → (1 ≤ order.number) × HasAllowedRoughness order.roughness
 run_within forms rows order read asks = (
   package_within (building (run forms)).rules rows order.number read.each refl (read.defaults (codes "package") refl) asks.number,
   rough_within (building (run forms)) rows order.roughness read refl refl refl refl refl refl asks.roughness,
 )
 
 soak_within : (rows : List Row) (order : SoakOrder) → AreRead (building soak) rows → AsksSoak (given_by rows) order
-    → (1 ≤ order.runs) × (order.runs ≤ 1000000) × IsRough order.roughness
+    → (1 ≤ order.runs) × (order.runs ≤ 1000000) × HasAllowedRoughness order.roughness
 soak_within rows order read asks =
     let has = given_has (codes "runs") rows (runs_given rows read.checked) in
     let runs = number_under (building soak).rules rows (codes "runs") runs_rule 32 4294967295 1 1000000 order.runs read.each refl has refl refl (omega arith) refl (omega arith) asks.runs.is in
     (runs.0, runs.1, rough_within (building soak) rows order.roughness read refl refl refl refl refl refl asks.roughness)
 
 abbrev eid_rule : Rule
-eid_rule = as_built (record (word_rule (codes "EID")) { parser = Some (between 8 254) })
+eid_rule = as_built (record (word_rule (codes "EID")) { parser = Some (number_between 8 254) })
 
 eid_given : (rows : List Row) → check_fault (building answer) rows false ≡ [] → is_given (codes "EID") rows ≡ true
 eid_given rows passed = go (is_given (codes "EID") rows) refl
@@ -162,7 +162,7 @@ eid_is_read forms words name rows passed is named never =
 
 -- the numbers of a job that words without a fault ask for
 pub is_within : (forms : Forms) (words : List Text) (name : Text) (rows : List Row) (job : Job) → fault_of (command_line forms) words ≡ []
-    → subcommand_of (command_line forms) words ≡ Some (name, rows) → Asks name (given_by rows) job → IsWithin job
+    → subcommand_of (command_line forms) words ≡ Some (name, rows) → AsksForJob name (given_by rows) job → IsWithinBounds job
 is_within forms words name rows (jobs.Answer endpoint) passed is asks =
     let read = answer_read forms words name rows passed is asks.0 in
     let has = given_has (codes "EID") rows (eid_given rows read.checked) in

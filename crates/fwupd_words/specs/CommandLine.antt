@@ -27,8 +27,8 @@ abbrev pub given_option : Text → Rule
 given_option name = record (text_option name) { parser = Some vp.NonEmptyString }
 
 -- The numbers from one to another.
-abbrev pub between : ℕ → ℕ → ValueParser
-between low high = vp.Signed (pos low) (pos high)
+abbrev pub number_between : ℕ → ℕ → ValueParser
+number_between low high = vp.Signed (pos low) (pos high)
 
 -- A number of 64 bits.
 abbrev pub any_number : ValueParser
@@ -51,21 +51,21 @@ trace_form_rule forms = option_rule (codes "trace-format") (codes "hex") (vp.Nam
 
 -- The number of a package, from 1 on.
 abbrev pub package_rule : Rule
-package_rule = option_rule (codes "package") (codes "1") (between 1 4294967295)
+package_rule = option_rule (codes "package") (codes "1") (number_between 1 4294967295)
 
 -- How rough links are.
 abbrev pub roughness_rules : List Rule
 roughness_rules =
-    option_rule (codes "loss") (codes "0") (between 0 100)
-    ∷ option_rule (codes "duplicate") (codes "0") (between 0 100)
-    ∷ option_rule (codes "delay") (codes "0") (between 0 8)
+    option_rule (codes "loss") (codes "0") (number_between 0 100)
+    ∷ option_rule (codes "duplicate") (codes "0") (number_between 0 100)
+    ∷ option_rule (codes "delay") (codes "0") (number_between 0 8)
     ∷ option_rule (codes "seed") (codes "0") any_number
     ∷ []
 
 -- `fwupd answer [--uuid UUID] EID`
 abbrev pub answer_rules : List Rule
 answer_rules =
-    record (word_rule (codes "EID")) { parser = Some (between 8 254) }
+    record (word_rule (codes "EID")) { parser = Some (number_between 8 254) }
     ∷ record (text_option (codes "uuid")) { defaults = codes "00000000-0000-0000-0000-000000000000" ∷ [] }
     ∷ []
 
@@ -111,7 +111,7 @@ run_rules forms = run_options forms ++ roughness_rules
 -- `fwupd soak [OPTIONS] --runs N CONFIG`, with the options of rough links last
 abbrev pub soak_rules : List Rule
 soak_rules =
-    record (text_option (codes "runs")) { required = true; parser = Some (between 1 1000000) }
+    record (text_option (codes "runs")) { required = true; parser = Some (number_between 1 1000000) }
     ∷ text_option (codes "record")
     ∷ word_rule (codes "CONFIG")
     ∷ roughness_rules

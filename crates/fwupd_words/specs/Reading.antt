@@ -6,7 +6,7 @@ use Rattle.clap.specs.declared.error.Error.{Error}
 use Rattle.clap.specs.declared.error.kind.ErrorKind.TheVariants as kinds
 use Rattle.clap.specs.declared.parser.matches.ArgMatches.{ArgMatches}
 use Rattle.uuid.specs.Text.{parsed}
-use Rattle.fwupd_words.specs.Words.{Asks, Given, given_by, number_of, text_under}
+use Rattle.fwupd_words.specs.Words.{AsksForJob, Given, given_by, number_of, text_under}
 use Rattle.fw_edge.specs.declared.fates.Roughness.{Roughness}
 use Rattle.fwupd_words.specs.declared.asked.Job.{Job}
 use Rattle.fwupd_words.specs.declared.asked.Job.TheVariants as jobs
@@ -18,25 +18,25 @@ pub record IsNoUuid (name : Text) (words : Given) (error : Error) : Type 0 where
   pub uuid : parsed (text_under words (codes "uuid")) ≡ None
 
 -- Links are no rougher than the command line lets them be.
-pub record IsRough (roughness : Roughness) : Type 0 where
+pub record HasAllowedRoughness (roughness : Roughness) : Type 0 where
   pub loss : roughness.loss ≤ 100
   pub duplicate : roughness.duplicate ≤ 100
   pub delay : roughness.delay ≤ 8
 
 -- The numbers of a job lie in the bounds of the command line.
-abbrev pub IsWithin : Job → Type 0
-IsWithin (jobs.Answer endpoint) = (8 ≤ endpoint.eid) × (endpoint.eid ≤ 254)
-IsWithin (jobs.Plan config number form) = 1 ≤ number
-IsWithin (jobs.Run config folder order show) = (1 ≤ order.number) × IsRough order.roughness
-IsWithin (jobs.Soak config order path) = (1 ≤ order.runs) × (order.runs ≤ 1000000) × IsRough order.roughness
-IsWithin _ = Unit {0}
+abbrev pub IsWithinBounds : Job → Type 0
+IsWithinBounds (jobs.Answer endpoint) = (8 ≤ endpoint.eid) × (endpoint.eid ≤ 254)
+IsWithinBounds (jobs.Plan config number form) = 1 ≤ number
+IsWithinBounds (jobs.Run config folder order show) = (1 ≤ order.number) × HasAllowedRoughness order.roughness
+IsWithinBounds (jobs.Soak config order path) = (1 ≤ order.runs) × (order.runs ≤ 1000000) × HasAllowedRoughness order.roughness
+IsWithinBounds _ = Unit {0}
 
 -- Words with no fault ask for the job that their subcommand asks for, or give no UUID. An error has a kind that the faults of the
 -- words say, or memory ran out.
-abbrev pub Reads : App → List Text → Result Job Error → Type 0
-Reads line words (Ok job) =
-    (fault_of line words ≡ []) × IsSomeAnd (subcommand_of line words) (λ named. Asks named.0 (given_by named.1) job) × IsWithin job
-Reads line words (Err error) =
+abbrev pub ReadsWords : App → List Text → Result Job Error → Type 0
+ReadsWords line words (Ok job) =
+    (fault_of line words ≡ []) × IsSomeAnd (subcommand_of line words) (λ named. AsksForJob named.0 (given_by named.1) job) × IsWithinBounds job
+ReadsWords line words (Err error) =
     HasKind (fault_of line words) error
     ⊎ ((fault_of line words ≡ []) × IsSomeAnd (subcommand_of line words) (λ named. IsNoUuid named.0 (given_by named.1) error))
 
@@ -47,8 +47,8 @@ abbrev pub IsFound : App → List Text → ArgMatches → Type 0
 IsFound line words matches =
     (fault_of line words ≡ []) × (subcommand_rows_of matches ≡ subcommand_of line words) × (has_subcommand matches ≡ true)
 
-abbrev pub Finds : App → List Text → Result ArgMatches Error → Type 0
-Finds line words result = MatchResult result (IsFound line words) (HasKind (fault_of line words))
+abbrev pub FindsSubcommand : App → List Text → Result ArgMatches Error → Type 0
+FindsSubcommand line words result = MatchResult result (IsFound line words) (HasKind (fault_of line words))
 
 -- There is no byte under a name.
 abbrev pub IsNoByte : Given → (name : Text) → Type 0
@@ -68,9 +68,9 @@ IsNoJob name =
     × (name ≢ codes "soak") × (name ≢ codes "sel") × (name ≢ codes "build")
 
 -- Why the subcommand of a name, with these words, asks for no job: memory ran out, or it is one that answers, without an endpoint.
-abbrev pub IsRefused : (name : Text) → Given → Error → Type 0
-IsRefused name words error = (kind_of error ≡ kinds.OutOfMemory) ⊎ ((name ≡ codes "answer") × RefusesEndpoint words error)
+abbrev pub IsRefusedWord : (name : Text) → Given → Error → Type 0
+IsRefusedWord name words error = (kind_of error ≡ kinds.OutOfMemory) ⊎ ((name ≡ codes "answer") × RefusesEndpoint words error)
 
 -- or it is none
-abbrev pub Refuses : (name : Text) → Given → Error → Type 0
-Refuses name words error = IsRefused name words error ⊎ IsNoJob name
+abbrev pub RefusesWords : (name : Text) → Given → Error → Type 0
+RefusesWords name words error = IsRefusedWord name words error ⊎ IsNoJob name

@@ -113,17 +113,17 @@ pub record AsksSoak (words : Given) (order : SoakOrder) : Type 0 where
   pub roughness : AsksRoughness words order.roughness
 
 -- The subcommand of a name, with these words, asks for a job.
-abbrev pub Asks : (name : List ℕ) → Given → Job → Type 0
-Asks name words (jobs.Answer endpoint) = (name ≡ codes "answer") × AsksEndpoint words endpoint
-Asks name words (jobs.Inspect path form) = (name ≡ codes "inspect") × (path.now ≡ text_under words (codes "FILE")) × AsksForm words form
-Asks name words (jobs.Replay config schedule show) =
+abbrev pub AsksForJob : (name : List ℕ) → Given → Job → Type 0
+AsksForJob name words (jobs.Answer endpoint) = (name ≡ codes "answer") × AsksEndpoint words endpoint
+AsksForJob name words (jobs.Inspect path form) = (name ≡ codes "inspect") × (path.now ≡ text_under words (codes "FILE")) × AsksForm words form
+AsksForJob name words (jobs.Replay config schedule show) =
     (name ≡ codes "replay") × (config.now ≡ text_under words (codes "CONFIG")) × (schedule.now ≡ text_under words (codes "SCHEDULE")) × (show.is_quiet ≡ true) × (show.history ≡ None) × AsksKept words show
-Asks name words (jobs.Run config folder order show) =
+AsksForJob name words (jobs.Run config folder order show) =
     (name ≡ codes "run") × (config.now ≡ text_under words (codes "CONFIG")) × (folder.now ≡ text_under words (codes "FOLDER")) × AsksOrder words order × AsksShow words show
-Asks name words (jobs.Sel file) = (name ≡ codes "sel") × (file.now ≡ text_under words (codes "FILE"))
-Asks name words (jobs.Build spec file) = (name ≡ codes "build") × (spec.now ≡ text_under words (codes "SPEC")) × (file.now ≡ text_under words (codes "FILE"))
-Asks name words (jobs.Plan config number form) =
+AsksForJob name words (jobs.Sel file) = (name ≡ codes "sel") × (file.now ≡ text_under words (codes "FILE"))
+AsksForJob name words (jobs.Build spec file) = (name ≡ codes "build") × (spec.now ≡ text_under words (codes "SPEC")) × (file.now ≡ text_under words (codes "FILE"))
+AsksForJob name words (jobs.Plan config number form) =
     (name ≡ codes "plan") × (config.now ≡ text_under words (codes "CONFIG")) × AsksNumber words number × AsksForm words form
-Asks name words (jobs.Soak config order path) =
+AsksForJob name words (jobs.Soak config order path) =
     (name ≡ codes "soak") × (config.now ≡ text_under words (codes "CONFIG")) × AsksSoak words order
     × (option_map (λ p. p.now) path ≡ words.first (codes "record"))

@@ -4,8 +4,8 @@ ghost use Rattle.std.specs.Prelude.{◌≡◌, IfErr, IfOk, codes, map, option_m
 ghost use Rattle.std.specs.String.{string_bytes};
 ghost use Rattle.clap.specs.Words.{App, kind_of};
 ghost use Rattle.fwupd_words.specs.CommandLine.{IsCommandLine};
-ghost use Rattle.fwupd_words.specs.Reading.{Finds, Reads, Refuses, RefusesEndpoint};
-ghost use Rattle.fwupd_words.specs.Words.{Asks, AsksEndpoint, AsksForm, AsksKept, AsksNumber, AsksOrder, AsksRoughness, AsksRuns, AsksSeed, AsksSmall, AsksSoak, AsksTraceForm, given_in, text_under};
+ghost use Rattle.fwupd_words.specs.Reading.{FindsSubcommand, ReadsWords, RefusesWords, RefusesEndpoint};
+ghost use Rattle.fwupd_words.specs.Words.{AsksForJob, AsksEndpoint, AsksForm, AsksKept, AsksNumber, AsksOrder, AsksRoughness, AsksRuns, AsksSeed, AsksSmall, AsksSoak, AsksTraceForm, given_in, text_under};
 
 use crate::asked::{Job, Order, Show, SoakOrder, TraceForm};
 use crate::commands::command;
@@ -168,8 +168,8 @@ fn soak_order_in(matches: &ArgMatches<'_>) -> SoakOrder
 
 /// The job that the subcommand of this name asks for, with these words.
 fn job_of<'a>(alloc: Global, name: &str, matches: &ArgMatches<'a>) -> Result<Job<'a>, clap::Error>
-    ensures job { IfOk result (Asks name.now (given_in matches.now)) }
-    ensures refused { IfErr result (Refuses name.now (given_in matches.now)) }
+    ensures job { IfOk result (AsksForJob name.now (given_in matches.now)) }
+    ensures refused { IfErr result (RefusesWords name.now (given_in matches.now)) }
 {
     match name {
         "answer" => match endpoint_in(alloc, matches) {
@@ -210,7 +210,7 @@ fn job_of<'a>(alloc: Global, name: &str, matches: &ArgMatches<'a>) -> Result<Job
 
 /// What the command line finds in words.
 fn found_in<'a>(alloc: Global, words: &'a [String]) -> Result<ArgMatches<'a>, clap::Error>
-    ensures { (line : App) × IsCommandLine line × Finds line (map string_bytes words.now) result }
+    ensures { (line : App) × IsCommandLine line × FindsSubcommand line (map string_bytes words.now) result }
 {
     command(alloc)?.try_get_matches_from(words)
 }
@@ -220,7 +220,7 @@ fn found_in<'a>(alloc: Global, words: &'a [String]) -> Result<ArgMatches<'a>, cl
 /// # Errors
 /// What to print in place of a job, and where: the text of help and version, or of wrong usage.
 pub fn parse<'a>(alloc: Global, words: &'a [String]) -> Result<Job<'a>, clap::Error>
-    ensures { (line : App) × IsCommandLine line × Reads line (map string_bytes words.now) result }
+    ensures { (line : App) × IsCommandLine line × ReadsWords line (map string_bytes words.now) result }
 {
     let matches = match found_in(alloc, words) {
         Ok(matches) => matches,

@@ -8,8 +8,8 @@ use Rattle.std.proofs.lemmas.Option.{slice_get_within, get_or_from_slice_get}
 use Rattle.mctp_wire.specs.declared.unit.TheConstants.{MAX_PACKETS}
 use Rattle.mctp_wire.specs.declared.layout.Head.{Head}
 use Rattle.mctp_reasm.specs.Pieces.{MessageOf, IsMessage, PacketOf, Route, bodies, message_route, piece, pieces, pieces_from, route_of}
-use Rattle.mctp_reasm.specs.Held.{Held, base_of, cause_of, fed, held_after, joined, message_of, is_cut}
-use Rattle.mctp_reasm.specs.Laws.{holding, FeedsNext, FeedsOther, IsPieceAt, PiecesOfAMessage}
+use Rattle.mctp_reasm.specs.Held.{Held, base_of, cause_of, feed_outcome, held_after, packets_with, message_of, is_cut}
+use Rattle.mctp_reasm.specs.Laws.{held_first_pieces, FeedsNext, FeedsOther, IsPieceAt, PiecesOfAMessage}
 use Rattle.mctp_reasm.specs.declared.outcomes.DropCause.{DropCause}
 use Rattle.mctp_reasm.specs.declared.outcomes.DropCause.TheVariants as causes
 use Rattle.mctp_reasm.specs.declared.outcomes.Fed.TheVariants as outcomes
@@ -96,8 +96,8 @@ cause_later u ps age k p s q l lt c =
     rw (s, q, l, same, eq-eqb k k refl, ne_eqb k MAX_PACKETS (λ e. absurd (omega (arith, e))), c) refl
 
 -- what comes of a packet that is not dropped
-taken : (u : «Unit») (held : Option Held) (p : PacketOf) (m : MessageOf) (qs : List PacketOf) (last : Bool) → cause_of u held p ≡ None → p.head.eom ≡ last → joined held p ≡ qs → (last ≡ true → message_of p.head qs ≡ m)
-    → (fed u held p ≡ (if last then outcomes.Whole m else outcomes.Open)) × (held_after u held p ≡ (if last then None else Some (record { packets = qs; age = 0 })))
+taken : (u : «Unit») (held : Option Held) (p : PacketOf) (m : MessageOf) (qs : List PacketOf) (last : Bool) → cause_of u held p ≡ None → p.head.eom ≡ last → packets_with held p ≡ qs → (last ≡ true → message_of p.head qs ≡ m)
+    → (feed_outcome u held p ≡ (if last then outcomes.Whole m else outcomes.Open)) × (held_after u held p ≡ (if last then None else Some (record { packets = qs; age = 0 })))
 taken u held p m qs true c e j h = (rw (c, j, e, h refl) refl, rw (c, e) refl)
 taken u held p m qs false c e j h = (rw (c, e) refl, rw (c, j, e) refl)
 
@@ -116,8 +116,8 @@ piece_at u m i p lawful h =
 
 -- a piece that joins those before it
 pub piece_taken : (u : «Unit») (held : Option Held) (m : MessageOf) (i : ℕ) (p : PacketOf) → IsMessage u m → slice_get (pieces u m) i ≡ Some p → base_of held p.head ≡ take i (pieces u m) → cause_of u held p ≡ None
-    → (fed u held p ≡ (if i + 1 == length (pieces u m) then outcomes.Whole m else outcomes.Open))
-    × (held_after u held p ≡ (if i + 1 == length (pieces u m) then None else holding u m (i + 1) 0))
+    → (feed_outcome u held p ≡ (if i + 1 == length (pieces u m) then outcomes.Whole m else outcomes.Open))
+    × (held_after u held p ≡ (if i + 1 == length (pieces u m) then None else held_first_pieces u m (i + 1) 0))
 piece_taken u held m i p lawful h base c =
     let here = piece_at u m i p lawful h in
     rw (ne_eqb (i + 1) 0 (λ e. absurd (omega (arith, e))))
@@ -125,16 +125,16 @@ piece_taken u held m i p lawful h base c =
     (λ e. let all : i + 1 ≡ length (pieces u m) = eqb-true (i + 1) (length (pieces u m)) e in rw (take_all (i + 1) (pieces u m) (omega (arith, all))) (message_again u m p.head lawful here.route)))
 
 feeds_first : (u : «Unit») (held : Option Held) (m : MessageOf) (p : PacketOf) → IsMessage u m → slice_get (pieces u m) 0 ≡ Some p
-    → (fed u held p ≡ (if 0 + 1 == length (pieces u m) then outcomes.Whole m else outcomes.Open))
-    × (held_after u held p ≡ (if 0 + 1 == length (pieces u m) then None else holding u m (0 + 1) 0))
+    → (feed_outcome u held p ≡ (if 0 + 1 == length (pieces u m) then outcomes.Whole m else outcomes.Open))
+    × (held_after u held p ≡ (if 0 + 1 == length (pieces u m) then None else held_first_pieces u m (0 + 1) 0))
 feeds_first u held m p lawful h =
     let here = piece_at u m 0 p lawful h in
     let som : p.head.som ≡ true = here.som in
     piece_taken u held m 0 p lawful h (rw som refl) (cause_first u held p som here.seq (not_cut u p.head.eom (length p.body) here.full))
 
 pub feeds_next : FeedsNext
-feeds_next u m k i age p lawful lt h (inl first) = rw first (feeds_first u (holding u m k age) m p lawful (rw first at h))
-feeds_next u m zero i age p lawful lt h (inr next) = rw next (feeds_first u (holding u m zero age) m p lawful (rw next at h))
+feeds_next u m k i age p lawful lt h (inl first) = rw first (feeds_first u (held_first_pieces u m k age) m p lawful (rw first at h))
+feeds_next u m zero i age p lawful lt h (inr next) = rw next (feeds_first u (held_first_pieces u m zero age) m p lawful (rw next at h))
 feeds_next u m (suc k) i age p lawful lt h (inr next) =
     let here = piece_at u m i p lawful h in
     let few = pieces_length u MAX_PACKETS (message_route m) 0 m.bytes in
@@ -149,7 +149,7 @@ cause_other u ps age k p s q l lt =
     let same : k % 4 ≡ k = omega arith in
     rw (s, l, same, ne_eqb p.head.seq k q) refl
 
-dropped : (u : «Unit») (held : Option Held) (p : PacketOf) (cause : DropCause) → cause_of u held p ≡ Some cause → (fed u held p ≡ outcomes.Dropped cause) × (held_after u held p ≡ None)
+dropped : (u : «Unit») (held : Option Held) (p : PacketOf) (cause : DropCause) → cause_of u held p ≡ Some cause → (feed_outcome u held p ≡ outcomes.Dropped cause) × (held_after u held p ≡ None)
 dropped u held p cause c = (rw c refl, rw c refl)
 
 pub feeds_other : FeedsOther

@@ -4,7 +4,7 @@ use Rattle.mctp_wire.specs.declared.unit.Unit.{«Unit»}
 use Rattle.mctp_wire.specs.declared.unit.Unit.TheVariants.{U64, U128}
 use Rattle.mctp_wire.specs.Units.{bytes_of}
 use Rattle.mctp_reasm.specs.Held.{AssemblyOf, held_tick}
-use Rattle.mctp_reasm.specs.Inboxes.{AreOf, held_in, ticked}
+use Rattle.mctp_reasm.specs.Inboxes.{HaveUnit, held_in, assembly_after_tick}
 use Rattle.mctp_wire.specs.declared.unit.TheConstants.{MAX_PACKETS}
 
 -- three packets and one more body fit the longest message
@@ -16,21 +16,21 @@ body_fits U128 count size lt le = omega arith
 pub room_more : (u : «Unit») (count : ℕ) → bytes_of u * (count + 1) ≡ bytes_of u * count + bytes_of u
 room_more u count = omega arith
 
-pub unit_at : (u : «Unit») (xs : List AssemblyOf) (i : ℕ) (a : AssemblyOf) → i < length xs → AreOf u xs → (get_or xs i a).unit ≡ u
+pub unit_at : (u : «Unit») (xs : List AssemblyOf) (i : ℕ) (a : AssemblyOf) → i < length xs → HaveUnit u xs → (get_or xs i a).unit ≡ u
 unit_at u [] i a lt h = absurd (omega arith)
 unit_at u (b ∷ xs) zero a lt h = h.0
 unit_at u (b ∷ xs) (suc i) a lt h = unit_at u xs i a (omega arith) h.1
 
-pub units_set : (u : «Unit») (xs : List AssemblyOf) (i : ℕ) (a : AssemblyOf) → AreOf u xs → a.unit ≡ u → AreOf u (slice_set xs i a)
+pub units_set : (u : «Unit») (xs : List AssemblyOf) (i : ℕ) (a : AssemblyOf) → HaveUnit u xs → a.unit ≡ u → HaveUnit u (slice_set xs i a)
 units_set u [] i a h e = h
 units_set u (b ∷ xs) zero a h e = (e, h.1)
 units_set u (b ∷ xs) (suc i) a h e = (h.0, units_set u xs i a h.1 e)
 
-pub units_tick : (u : «Unit») (xs : List AssemblyOf) → AreOf u xs → AreOf u (map ticked xs)
+pub units_tick : (u : «Unit») (xs : List AssemblyOf) → HaveUnit u xs → HaveUnit u (map assembly_after_tick xs)
 units_tick u [] h = h
 units_tick u (a ∷ xs) h = (h.0, units_tick u xs h.1)
 
-pub held_in_tick : (xs : List AssemblyOf) → held_in (map ticked xs) ≡ map held_tick (held_in xs)
+pub held_in_tick : (xs : List AssemblyOf) → held_in (map assembly_after_tick xs) ≡ map held_tick (held_in xs)
 held_in_tick [] = refl
 held_in_tick (a ∷ xs) = ap (λ hs. held_tick a.held ∷ hs) (held_in_tick xs)
 

@@ -4,7 +4,7 @@ use Rattle.mctp_wire.specs.declared.unit.Unit.{«Unit»}
 use Rattle.std.proofs.lemmas.Bool.Decides.{eqb_tells}
 use Rattle.std.proofs.lemmas.List.{length-map, length-set}
 use Rattle.mctp_wire.specs.declared.layout.Head.{Head}
-use Rattle.mctp_reasm.specs.Held.{Held, IsOfSame, held_after, held_as, held_tick, packets_of, cause_of, joined}
+use Rattle.mctp_reasm.specs.Held.{Held, IsOfHeldMessage, held_after, held_as, held_tick, packets_of, cause_of, packets_with}
 use Rattle.mctp_reasm.specs.declared.outcomes.DropCause.{DropCause}
 use Rattle.mctp_reasm.specs.Pieces.{PacketOf, Route, route_of}
 use Rattle.mctp_reasm.specs.Inboxes.{AreOnRoutes, IsInbox, IsOnRoute, held_at, held_with, inbox_route, is_for}
@@ -32,7 +32,7 @@ on_joined r true ps p same k = same
 on_joined r false ps p same k = on_more r ps p same k
 
 on_after : (u : «Unit») (r : Route) (h : Option Held) (p : PacketOf) → route_of p.head ≡ r → IsOnRoute r (packets_of h) → IsOnRoute r (packets_of (held_after u h p))
-on_after u r h p same k = on_as r (cause_of u h p) p.head.eom (joined h p) (on_joined r p.head.som (packets_of h) p same k)
+on_after u r h p same k = on_as r (cause_of u h p) p.head.eom (packets_with h p) (on_joined r p.head.som (packets_of h) p same k)
 
 -- all places
 pub routes_tick : (own peer : ℕ) (to : Bool) (tag : ℕ) (hs : List (Option Held)) → AreOnRoutes own peer to tag hs → AreOnRoutes own peer to tag (map held_tick hs)
@@ -78,7 +78,7 @@ for_route own peer to h e =
     (equal_by h.source peer (second_holds (h.dest == own) (h.source == peer) outer))
     (same_to h.to to (second_holds ((h.dest == own) && (h.source == peer)) (if to then h.to else not h.to) e))
 
-of_same : (ps : List PacketOf) (h : Head) (r : Route) → route_of h ≡ r → IsOnRoute r ps → IsOfSame ps h
+of_same : (ps : List PacketOf) (h : Head) (r : Route) → route_of h ≡ r → IsOnRoute r ps → IsOfHeldMessage ps h
 of_same [] h r e on = tt
 of_same (q ∷ qs) h r e on = on ∙ sym e
 
@@ -94,7 +94,7 @@ inbox_tick u own peer to hs gs e k = rw e (record {
 })
 
 pub inbox_same : (own peer : ℕ) (to : Bool) (hs : List (Option Held)) (h : Head) → AreOnRoutes own peer to 0 hs → is_for own peer to h ≡ true
-    → IsOfSame (packets_of (held_at hs h.tag)) h
+    → IsOfHeldMessage (packets_of (held_at hs h.tag)) h
 inbox_same own peer to hs h k e =
     of_same (packets_of (held_at hs h.tag)) h (inbox_route own peer to h.tag) (for_route own peer to h e) (routes_here own peer to h.tag hs k)
 

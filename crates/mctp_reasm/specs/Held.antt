@@ -23,13 +23,13 @@ pub record AssemblyOf : Type 0 where
   pub held : Option Held
 
 -- so many pieces of the unit, from number n on, none of them the last
-unfoldable pub opened : «Unit» → ℕ → Route → ℕ → List ℕ → List PacketOf
-opened u zero r n bytes = []
-opened u (suc count) r n bytes = piece r n false (take (bytes_of u) bytes) ∷ opened u count r (n + 1) (drop (bytes_of u) bytes)
+unfoldable pub open_pieces : «Unit» → ℕ → Route → ℕ → List ℕ → List PacketOf
+open_pieces u zero r n bytes = []
+open_pieces u (suc count) r n bytes = piece r n false (take (bytes_of u) bytes) ∷ open_pieces u count r (n + 1) (drop (bytes_of u) bytes)
 
 -- what a buffer of so many pieces holds
 abbrev pub held_of : «Unit» → Route → List ℕ → ℕ → ℕ → Option Held
-held_of u r bytes count age = if count == 0 then None else Some (record { packets = opened u count r 0 bytes; age = age })
+held_of u r bytes count age = if count == 0 then None else Some (record { packets = open_pieces u count r 0 bytes; age = age })
 
 -- the packets that are held
 abbrev pub packets_of : Option Held → List PacketOf
@@ -41,8 +41,8 @@ abbrev pub base_of : Option Held → Head → List PacketOf
 base_of held h = if h.som then [] else packets_of held
 
 -- those, and the packet behind them
-abbrev pub joined : Option Held → PacketOf → List PacketOf
-joined held p = base_of held p.head ++ p ∷ []
+abbrev pub packets_with : Option Held → PacketOf → List PacketOf
+packets_with held p = base_of held p.head ++ p ∷ []
 
 -- the message whose bytes are those of these packets
 abbrev pub message_of : Head → List PacketOf → MessageOf
@@ -77,10 +77,10 @@ abbrev pub cause_of : «Unit» → Option Held → PacketOf → Option DropCause
 cause_of u held p = if p.head.som then start_cause u p else cause_in u held p
 
 -- a packet that isn't dropped makes its message whole where it is the last of it
-abbrev pub fed_as : Option DropCause → Bool → MessageOf → Fed
-fed_as (Some cause) last m = outcomes.Dropped cause
-fed_as None true m = outcomes.Whole m
-fed_as None false m = outcomes.Open
+abbrev pub feed_outcome_for : Option DropCause → Bool → MessageOf → Fed
+feed_outcome_for (Some cause) last m = outcomes.Dropped cause
+feed_outcome_for None true m = outcomes.Whole m
+feed_outcome_for None false m = outcomes.Open
 
 -- it is held where its message goes on; in each other case nothing is
 abbrev pub held_as : Option DropCause → Bool → List PacketOf → Option Held
@@ -88,23 +88,23 @@ held_as None false ps = Some (record { packets = ps; age = 0 })
 held_as _ last ps = None
 
 -- what comes of a packet
-abbrev pub fed : «Unit» → Option Held → PacketOf → Fed
-fed u held p = fed_as (cause_of u held p) p.head.eom (message_of p.head (joined held p))
+abbrev pub feed_outcome : «Unit» → Option Held → PacketOf → Fed
+feed_outcome u held p = feed_outcome_for (cause_of u held p) p.head.eom (message_of p.head (packets_with held p))
 
 -- what comes of it, where a message that it ends was written elsewhere
-abbrev pub told : Taken → (written : MessageOf) → Fed
-told takens.Open written = outcomes.Open
-told takens.Whole written = outcomes.Whole written
-told (takens.Dropped cause) written = outcomes.Dropped cause
+abbrev pub fed_of : Taken → (written : MessageOf) → Fed
+fed_of takens.Open written = outcomes.Open
+fed_of takens.Whole written = outcomes.Whole written
+fed_of (takens.Dropped cause) written = outcomes.Dropped cause
 
 -- where no message ended, what lay there lies there still
-abbrev pub LiesThere : Taken → (before after : MessageOf) → Type 0
-LiesThere takens.Whole before after = Prim.Unit {0}
-LiesThere _ before after = after ≡ before
+abbrev pub KeepsMessageUnlessWhole : Taken → (before after : MessageOf) → Type 0
+KeepsMessageUnlessWhole takens.Whole before after = Prim.Unit {0}
+KeepsMessageUnlessWhole _ before after = after ≡ before
 
 -- what is held after it
 abbrev pub held_after : «Unit» → Option Held → PacketOf → Option Held
-held_after u held p = held_as (cause_of u held p) p.head.eom (joined held p)
+held_after u held p = held_as (cause_of u held p) p.head.eom (packets_with held p)
 
 -- a tick ages what is held; in the ninth after the last packet nothing is held any more
 abbrev pub held_tick : Option Held → Option Held
@@ -112,25 +112,25 @@ held_tick None = None
 held_tick (Some h) = if h.age == 8 then None else Some (record h { age = h.age + 1 })
 
 -- the packet is of the message that is held
-abbrev pub IsOfSame : List PacketOf → Head → Type 0
-IsOfSame [] h = Prim.Unit {0}
-IsOfSame (q ∷ qs) h = route_of q.head ≡ route_of h
+abbrev pub IsOfHeldMessage : List PacketOf → Head → Type 0
+IsOfHeldMessage [] h = Prim.Unit {0}
+IsOfHeldMessage (q ∷ qs) h = route_of q.head ≡ route_of h
 
 -- the packet stands after these, by its number and its start flag
-abbrev pub Joins : List PacketOf → Head → Type 0
-Joins ps h = (length ps < MAX_PACKETS) × (h.seq ≡ length ps) × (h.som ≡ (length ps == 0))
+abbrev pub FollowsPackets : List PacketOf → Head → Type 0
+FollowsPackets ps h = (length ps < MAX_PACKETS) × (h.seq ≡ length ps) × (h.som ≡ (length ps == 0))
 
 -- pieces of one message from number n on, none of them the last
-abbrev pub AreOpen : «Unit» → Route → ℕ → List PacketOf → Type 0
-AreOpen u r n [] = Prim.Unit {0}
-AreOpen u r n (q ∷ qs) = (q ≡ piece r n false q.body) × (length q.body ≡ bytes_of u) × AreOpen u r (n + 1) qs
+abbrev pub AreOpenPieces : «Unit» → Route → ℕ → List PacketOf → Type 0
+AreOpenPieces u r n [] = Prim.Unit {0}
+AreOpenPieces u r n (q ∷ qs) = (q ≡ piece r n false q.body) × (length q.body ≡ bytes_of u) × AreOpenPieces u r (n + 1) qs
 
 -- the first pieces of a message that goes on
-abbrev pub AreFirst : «Unit» → List PacketOf → Type 0
-AreFirst u [] = ⊥
-AreFirst u (q ∷ qs) = AreOpen u (route_of q.head) 0 (q ∷ qs)
+abbrev pub AreFirstPieces : «Unit» → List PacketOf → Type 0
+AreFirstPieces u [] = ⊥
+AreFirstPieces u (q ∷ qs) = AreOpenPieces u (route_of q.head) 0 (q ∷ qs)
 
 -- what is true of each assembly
 abbrev pub IsHeld : «Unit» → Option Held → Type 0
 IsHeld u None = Prim.Unit {0}
-IsHeld u (Some h) = AreFirst u h.packets × (length h.packets ≤ MAX_PACKETS) × (h.age ≤ 8)
+IsHeld u (Some h) = AreFirstPieces u h.packets × (length h.packets ≤ MAX_PACKETS) × (h.age ≤ 8)

@@ -5,7 +5,7 @@ use Rattle.mctp_wire.specs.declared.unit.Unit.{«Unit»}
 use Rattle.mctp_wire.specs.Packet as wire
 use Rattle.mctp_wire.specs.declared.fault.WireFault.{WireFault}
 use Rattle.mctp_wire.specs.declared.layout.Head.{Head}
-use Rattle.mctp_reasm.specs.Held.{AssemblyOf, Held, fed, held_after, held_tick, packets_of}
+use Rattle.mctp_reasm.specs.Held.{AssemblyOf, Held, feed_outcome, held_after, held_tick, packets_of}
 use Rattle.mctp_reasm.specs.Pieces.{PacketOf, Route, packet_of, route_of}
 use Rattle.mctp_reasm.specs.declared.outcomes.Fed.{Fed}
 
@@ -40,21 +40,21 @@ abbrev pub held_in : List AssemblyOf → List (Option Held)
 held_in xs = map (λ a. a.held) xs
 
 -- a tick passes for one
-abbrev pub ticked : AssemblyOf → AssemblyOf
-ticked a = record a { held = held_tick a.held }
+abbrev pub assembly_after_tick : AssemblyOf → AssemblyOf
+assembly_after_tick a = record a { held = held_tick a.held }
 
 -- each of these has this unit
-abbrev pub AreOf : «Unit» → List AssemblyOf → Type 0
-AreOf u [] = u ≡ u
-AreOf u (a ∷ xs) = (a.unit ≡ u) × AreOf u xs
+abbrev pub HaveUnit : «Unit» → List AssemblyOf → Type 0
+HaveUnit u [] = u ≡ u
+HaveUnit u (a ∷ xs) = (a.unit ≡ u) × HaveUnit u xs
 
 -- what is held under a tag
 abbrev pub held_at : List (Option Held) → ℕ → Option Held
 held_at held tag = get_or held tag None
 
 -- what comes of a packet: it is fed to the assembly of its tag
-abbrev pub fed_at : «Unit» → List (Option Held) → PacketOf → Fed
-fed_at u held p = fed u (held_at held p.head.tag) p
+abbrev pub feed_outcome_at : «Unit» → List (Option Held) → PacketOf → Fed
+feed_outcome_at u held p = feed_outcome u (held_at held p.head.tag) p
 
 -- what is held after it
 abbrev pub held_with : «Unit» → List (Option Held) → PacketOf → List (Option Held)

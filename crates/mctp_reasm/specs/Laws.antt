@@ -3,7 +3,7 @@ use Rattle.std.specs.Prelude.{◌≡◌, ◌≢◌, ◌<◌, ◌≤◌, ◌⊎�
 use Rattle.mctp_wire.specs.declared.unit.Unit.{«Unit»}
 use Rattle.mctp_wire.specs.Units.{bytes_of}
 use Rattle.mctp_reasm.specs.Pieces.{MessageOf, IsMessage, PacketOf, Route, bodies, message_route, pieces, route_of}
-use Rattle.mctp_reasm.specs.Held.{Held, fed, held_after}
+use Rattle.mctp_reasm.specs.Held.{Held, feed_outcome, held_after}
 use Rattle.mctp_reasm.specs.declared.outcomes.DropCause.TheVariants as causes
 use Rattle.mctp_reasm.specs.declared.outcomes.Fed.TheVariants as outcomes
 use Rattle.mctp_wire.specs.declared.unit.TheConstants.{MAX_PACKETS}
@@ -27,17 +27,17 @@ abbrev pub PiecesOfAMessage : Type 0
 PiecesOfAMessage = (u : «Unit») (m : MessageOf) → IsMessage u m → ArePieces u m
 
 -- the first k pieces of a message are held
-abbrev pub holding : «Unit» → MessageOf → ℕ → ℕ → Option Held
-holding u m k age = if k == 0 then None else Some (record { packets = take k (pieces u m); age = age })
+abbrev pub held_first_pieces : «Unit» → MessageOf → ℕ → ℕ → Option Held
+held_first_pieces u m k age = if k == 0 then None else Some (record { packets = take k (pieces u m); age = age })
 
 -- The first piece, and the one that comes next, are taken: the last of all makes the message whole.
 abbrev pub FeedsNext : Type 0
 FeedsNext = (u : «Unit») (m : MessageOf) (k i age : ℕ) (p : PacketOf) → IsMessage u m → k < length (pieces u m) → slice_get (pieces u m) i ≡ Some p → (i ≡ 0) ⊎ (i ≡ k)
-    → (fed u (holding u m k age) p ≡ (if i + 1 == length (pieces u m) then outcomes.Whole m else outcomes.Open))
-    × (held_after u (holding u m k age) p ≡ (if i + 1 == length (pieces u m) then None else holding u m (i + 1) 0))
+    → (feed_outcome u (held_first_pieces u m k age) p ≡ (if i + 1 == length (pieces u m) then outcomes.Whole m else outcomes.Open))
+    × (held_after u (held_first_pieces u m k age) p ≡ (if i + 1 == length (pieces u m) then None else held_first_pieces u m (i + 1) 0))
 
 -- Any other piece is dropped, and nothing is held then.
 abbrev pub FeedsOther : Type 0
 FeedsOther = (u : «Unit») (m : MessageOf) (k i age : ℕ) (p : PacketOf) → IsMessage u m → k < length (pieces u m) → slice_get (pieces u m) i ≡ Some p → i ≢ 0 → i ≢ k
-    → (fed u (holding u m k age) p ≡ outcomes.Dropped (if k == 0 then causes.NoStart else causes.Sequence))
-    × (held_after u (holding u m k age) p ≡ None)
+    → (feed_outcome u (held_first_pieces u m k age) p ≡ outcomes.Dropped (if k == 0 then causes.NoStart else causes.Sequence))
+    × (held_after u (held_first_pieces u m k age) p ≡ None)

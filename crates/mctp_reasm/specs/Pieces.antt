@@ -60,8 +60,8 @@ abbrev pub pieces : «Unit» → MessageOf → List PacketOf
 pieces u m = pieces_from u MAX_PACKETS (message_route m) 0 m.bytes
 
 -- a packet in its written spelling
-abbrev pub spelled : PacketOf → List ℕ
-spelled p = packet_bytes p.head p.body
+abbrev pub spelling_of : PacketOf → List ℕ
+spelling_of p = packet_bytes p.head p.body
 
 -- the bytes that packets carry, one after the other
 abbrev pub bodies : List PacketOf → List ℕ

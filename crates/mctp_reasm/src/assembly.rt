@@ -2,7 +2,7 @@
 
 ghost use Rattle.std.specs.Prelude.{◌≡◌, ◌≢◌, ◌<◌, ◌≤◌, ◌↔◌, ◌⊎◌, ◌%◌, ◌++◌, ◌∷◌, [], length, Option, Some, None, true, false, IfNone};
 ghost use Rattle.mctp_reasm.specs.Pieces.{IsMessage, MessageOf, packet_of, pieces};
-ghost use Rattle.mctp_reasm.specs.Held.{IsHeld, IsOfSame, Joins, LiesThere, base_of, cause_of, fed, held_after, held_tick, joined, message_of, next_cause, packets_of, start_cause, told};
+ghost use Rattle.mctp_reasm.specs.Held.{IsHeld, IsOfHeldMessage, FollowsPackets, KeepsMessageUnlessWhole, base_of, cause_of, feed_outcome, held_after, held_tick, packets_with, message_of, next_cause, packets_of, start_cause, fed_of};
 ghost use Rattle.mctp_wire.specs.Units.{bytes_of};
 
 use crate::messages::Message;
@@ -104,7 +104,7 @@ impl Assembly {
     fn cause(&self, packet: &Packet<'_>) -> Option<DropCause>
         ensures cause { result ≡ cause_of self.now.unit self.now.held (packet_of packet.now.head packet.now.body.now) }
         ensures lawful { IsHeld self.now.unit self.now.held }
-        ensures joins { IfNone result (Joins (base_of self.now.held packet.now.head) packet.now.head) }
+        ensures joins { IfNone result (FollowsPackets (base_of self.now.held packet.now.head) packet.now.head) }
     {
         let count = self.count();
         if packet.head.som {
@@ -118,7 +118,7 @@ impl Assembly {
 
     /// Whether `feed` may be called: the packet starts a message, nothing is held, or the packet is of what is held.
     pub fn is_for(&self, packet: &Packet<'_>) -> bool
-        ensures { (result ≡ true) ↔ ((packet.now.head.som ≡ true) ⊎ IsOfSame (packets_of self.now.held) packet.now.head) }
+        ensures { (result ≡ true) ↔ ((packet.now.head.som ≡ true) ⊎ IsOfHeldMessage (packets_of self.now.held) packet.now.head) }
     {
         if packet.head.som {
             return true;
@@ -129,7 +129,7 @@ impl Assembly {
     /// Whether the packet is of the message that is held, or nothing is held.
     #[tactic(auto, using(crate::proofs::Opened::held))]
     fn is_same(&self, packet: &Packet<'_>) -> bool
-        ensures { (result ≡ true) ↔ IsOfSame (packets_of self.now.held) packet.now.head }
+        ensures { (result ≡ true) ↔ IsOfHeldMessage (packets_of self.now.held) packet.now.head }
     {
         if self.pieces == 0 {
             return true;
@@ -148,10 +148,10 @@ impl Assembly {
     pub fn feed(&mut self, packet: &Packet<'_>) -> Fed
         requires body { (1 ≤ length packet.now.body.now) × (length packet.now.body.now ≤ bytes_of self.old.unit) }
         requires tag { packet.now.head.tag ≤ 7 }
-        requires same { (packet.now.head.som ≡ true) ⊎ IsOfSame (packets_of self.old.held) packet.now.head }
-        ensures answer { result ≡ fed self.old.unit self.old.held (packet_of packet.now.head packet.now.body.now) }
+        requires same { (packet.now.head.som ≡ true) ⊎ IsOfHeldMessage (packets_of self.old.held) packet.now.head }
+        ensures answer { result ≡ feed_outcome self.old.unit self.old.held (packet_of packet.now.head packet.now.body.now) }
         ensures after { self.new ≡ record self.old { held = held_after self.old.unit self.old.held (packet_of packet.now.head packet.now.body.now) } }
-        ensures exact { (m : MessageOf) → IsMessage self.old.unit m → (result ≡ Fed.Whole m) ↔ (joined self.old.held (packet_of packet.now.head packet.now.body.now) ≡ pieces self.old.unit m) }
+        ensures exact { (m : MessageOf) → IsMessage self.old.unit m → (result ≡ Fed.Whole m) ↔ (packets_with self.old.held (packet_of packet.now.head packet.now.body.now) ≡ pieces self.old.unit m) }
     {
         let mut whole = Message::blank();
         match self.take(packet, &mut whole) {
@@ -165,12 +165,12 @@ impl Assembly {
     pub(crate) fn take(&mut self, packet: &Packet<'_>, whole: &mut Message) -> Taken
         requires body { (1 ≤ length packet.now.body.now) × (length packet.now.body.now ≤ bytes_of self.old.unit) }
         requires tag { packet.now.head.tag ≤ 7 }
-        requires same { (packet.now.head.som ≡ true) ⊎ IsOfSame (packets_of self.old.held) packet.now.head }
-        ensures answer { told result whole.new ≡ fed self.old.unit self.old.held (packet_of packet.now.head packet.now.body.now) }
-        ensures whole { LiesThere result whole.old whole.new }
+        requires same { (packet.now.head.som ≡ true) ⊎ IsOfHeldMessage (packets_of self.old.held) packet.now.head }
+        ensures answer { fed_of result whole.new ≡ feed_outcome self.old.unit self.old.held (packet_of packet.now.head packet.now.body.now) }
+        ensures whole { KeepsMessageUnlessWhole result whole.old whole.new }
         ensures after { self.new ≡ record self.old { held = held_after self.old.unit self.old.held (packet_of packet.now.head packet.now.body.now) } }
         ensures lawful { IsHeld self.old.unit self.old.held }
-        ensures joins { IfNone (cause_of self.old.unit self.old.held (packet_of packet.now.head packet.now.body.now)) (Joins (base_of self.old.held packet.now.head) packet.now.head) }
+        ensures joins { IfNone (cause_of self.old.unit self.old.held (packet_of packet.now.head packet.now.body.now)) (FollowsPackets (base_of self.old.held packet.now.head) packet.now.head) }
     {
         let cause = self.cause(packet);
         if packet.head.som || cause.is_some() {
@@ -209,11 +209,11 @@ impl Assembly {
     /// One more body of the message that is held.
     #[tactic(auto, using(crate::proofs::Opened::held))]
     fn append(&mut self, packet: &Packet<'_>)
-        requires joins { Joins (packets_of self.old.held) packet.now.head }
+        requires joins { FollowsPackets (packets_of self.old.held) packet.now.head }
         requires full { length packet.now.body.now ≡ bytes_of self.old.unit }
         requires tag { packet.now.head.tag ≤ 7 }
         requires eom { packet.now.head.eom ≡ false }
-        requires same { IsOfSame (packets_of self.old.held) packet.now.head }
+        requires same { IsOfHeldMessage (packets_of self.old.held) packet.now.head }
         ensures { self.new ≡ record self.old { held = Some (record { packets = packets_of self.old.held ++ packet_of packet.now.head packet.now.body.now ∷ []; age = 0 }) } }
     {
         self.dest = packet.head.dest;

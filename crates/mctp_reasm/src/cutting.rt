@@ -1,7 +1,7 @@
 //! Messages into packets.
 
 ghost use Rattle.std.specs.Prelude.{◌≡◌, ◌<◌, ◌≤◌, length, map, option_map, slice_get};
-ghost use Rattle.mctp_reasm.specs.Pieces.{message_route, pieces, piece, spelled};
+ghost use Rattle.mctp_reasm.specs.Pieces.{message_route, pieces, piece, spelling_of};
 
 use crate::messages::Message;
 use arrayvec::ArrayVec;
@@ -11,7 +11,7 @@ use mctp_wire::{Head, MAX_BODY, MAX_PACKETS, RawPacket, Unit};
 fn piece_of(message: &Message, number: u8, last: bool, body: &[u8]) -> RawPacket
     requires number { number < MAX_PACKETS }
     requires body { (1 ≤ length body.now) × (length body.now ≤ MAX_BODY) }
-    ensures { result.items ≡ spelled (piece (message_route message.now) number last body.now) }
+    ensures { result.items ≡ spelling_of (piece (message_route message.now) number last body.now) }
 {
     let head = Head {
         dest: message.dest,
@@ -30,7 +30,7 @@ fn piece_of(message: &Message, number: u8, last: bool, body: &[u8]) -> RawPacket
 /// The packet of one piece of a message, counted from 0, as `split` cuts it; none where the message has no such piece.
 #[tactic(auto, using(crate::proofs::Cuts::cuts))]
 pub fn piece_at(unit: Unit, message: &Message, number: u8) -> Option<RawPacket>
-    ensures { option_map (λ p. p.items) result ≡ slice_get (map spelled (pieces unit message.now)) number }
+    ensures { option_map (λ p. p.items) result ≡ slice_get (map spelling_of (pieces unit message.now)) number }
 {
     let size = unit.bytes();
     let bytes = message.bytes();
@@ -52,7 +52,7 @@ pub fn piece_at(unit: Unit, message: &Message, number: u8) -> Option<RawPacket>
 /// Cuts a message into its packets, at most four (DSP0236, section 8): its bytes cut at each transmission
 /// unit, SOM on the first and EOM on the last, numbered from 0.
 pub fn split(unit: Unit, message: &Message) -> ArrayVec<RawPacket, MAX_PACKETS>
-    ensures { map (λ p. p.items) result.items ≡ map spelled (pieces unit message.now) }
+    ensures { map (λ p. p.items) result.items ≡ map spelling_of (pieces unit message.now) }
 {
     let size = unit.bytes();
     let mut out = ArrayVec::new();

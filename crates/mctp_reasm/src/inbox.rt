@@ -1,9 +1,9 @@
 //! The messages that a node hears from a peer, put together from their packets (DSP0236, section 8).
 
 ghost use Rattle.std.specs.Prelude.{◌≡◌, ◌≤◌, None, Some, false, length, map, true};
-ghost use Rattle.mctp_reasm.specs.Held.{IsOfSame, LiesThere, held_tick, packets_of, told};
+ghost use Rattle.mctp_reasm.specs.Held.{IsOfHeldMessage, KeepsMessageUnlessWhole, held_tick, packets_of, fed_of};
 ghost use Rattle.mctp_reasm.specs.Pieces.{packet_of};
-ghost use Rattle.mctp_reasm.specs.Inboxes.{AreOf, fed_at, held_at, held_in, held_with, is_for, none_held, packet_for, ticked};
+ghost use Rattle.mctp_reasm.specs.Inboxes.{HaveUnit, feed_outcome_at, held_at, held_in, held_with, is_for, none_held, packet_for, assembly_after_tick};
 ghost use Rattle.mctp_wire.specs.Packet.{IsRead, spelling};
 ghost use Rattle.mctp_wire.specs.Units.{bytes_of};
 
@@ -26,13 +26,13 @@ pub struct Inbox {
 }
 
 impl Model for Inbox {
-    ghost use Rattle.mctp_reasm.specs.Inboxes.{AreOf, InboxOf, IsInbox, held_in};
+    ghost use Rattle.mctp_reasm.specs.Inboxes.{HaveUnit, InboxOf, IsInbox, held_in};
 
     ghost Value = { InboxOf };
 
     ghost view = { λ b. record { unit = b.unit; own = b.own; peer = b.peer; to = b.to; held = held_in b.places } };
 
-    ghost invariant = { λ b. IsInbox (record { unit = b.unit; own = b.own; peer = b.peer; to = b.to; held = held_in b.places }) × AreOf b.unit b.places };
+    ghost invariant = { λ b. IsInbox (record { unit = b.unit; own = b.own; peer = b.peer; to = b.to; held = held_in b.places }) × HaveUnit b.unit b.places };
 }
 
 impl Inbox {
@@ -90,7 +90,7 @@ impl Inbox {
     /// Whether a packet is for this node: its body fits the transmission unit, it goes to this node's endpoint and comes from
     /// its peer, and TO is set where requests are heard.
     #[tactic(auto, using(crate::proofs::Heard::heard))]
-    pub fn hears(&self, packet: &Packet<'_>) -> bool
+    pub fn accepts(&self, packet: &Packet<'_>) -> bool
         requires read { IsRead packet.now }
         ensures heard { result ≡ true → packet_for self.now.unit self.now.own self.now.peer self.now.to (spelling packet.now) ≡ Some (packet_of packet.now.head packet.now.body.now) }
         ensures other { result ≡ false → packet_for self.now.unit self.now.own self.now.peer self.now.to (spelling packet.now) ≡ None }
@@ -110,8 +110,8 @@ impl Inbox {
         requires mine { is_for self.old.own self.old.peer self.old.to packet.now.head ≡ true }
         requires body { (1 ≤ length packet.now.body.now) × (length packet.now.body.now ≤ bytes_of self.old.unit) }
         requires tag { packet.now.head.tag ≤ 7 }
-        ensures answer { told result whole.new ≡ fed_at self.old.unit self.old.held (packet_of packet.now.head packet.now.body.now) }
-        ensures whole { LiesThere result whole.old whole.new }
+        ensures answer { fed_of result whole.new ≡ feed_outcome_at self.old.unit self.old.held (packet_of packet.now.head packet.now.body.now) }
+        ensures whole { KeepsMessageUnlessWhole result whole.old whole.new }
         ensures after { self.new ≡ record self.old { held = held_with self.old.unit self.old.held (packet_of packet.now.head packet.now.body.now) } }
     {
         feed_to(self.unit, &mut self.places, packet, whole)
@@ -128,7 +128,7 @@ impl Inbox {
 
 /// A tick passes for each of these.
 fn tick_all(places: &mut [Assembly])
-    ensures { places.new ≡ map ticked places.old }
+    ensures { places.new ≡ map assembly_after_tick places.old }
 {
     for place in places.iter_mut() {
         place.tick();
@@ -139,14 +139,14 @@ fn tick_all(places: &mut [Assembly])
 #[tactic(auto, using(crate::proofs::Places::places))]
 fn feed_to(unit: Unit, places: &mut [Assembly], packet: &Packet<'_>, whole: &mut Message) -> Taken
     requires places { length places.old ≡ 8 }
-    requires unit { AreOf unit places.old }
+    requires unit { HaveUnit unit places.old }
     requires body { (1 ≤ length packet.now.body.now) × (length packet.now.body.now ≤ bytes_of unit) }
     requires tag { packet.now.head.tag ≤ 7 }
-    requires same { IsOfSame (packets_of (held_at (held_in places.old) packet.now.head.tag)) packet.now.head }
-    ensures answer { told result whole.new ≡ fed_at unit (held_in places.old) (packet_of packet.now.head packet.now.body.now) }
-    ensures whole { LiesThere result whole.old whole.new }
+    requires same { IsOfHeldMessage (packets_of (held_at (held_in places.old) packet.now.head.tag)) packet.now.head }
+    ensures answer { fed_of result whole.new ≡ feed_outcome_at unit (held_in places.old) (packet_of packet.now.head packet.now.body.now) }
+    ensures whole { KeepsMessageUnlessWhole result whole.old whole.new }
     ensures after { held_in places.new ≡ held_with unit (held_in places.old) (packet_of packet.now.head packet.now.body.now) }
-    ensures unit { AreOf unit places.new }
+    ensures unit { HaveUnit unit places.new }
 {
     places[usize::from(packet.head.tag)].take(packet, whole)
 }

@@ -23,14 +23,14 @@ abbrev pub new_reader : «Unit» → ReaderOf
 new_reader u = record { unit = u; stage = stages.Idle; count = 0; high = 0; low = 0; packet = [] }
 
 -- inside the data, the packet so far has fewer bytes than the byte count
-abbrev pub HasRoom : Stage → (held count : ℕ) → Type 0
-HasRoom stages.Filling held count = held < count
-HasRoom stages.Escaped held count = held < count
-HasRoom s held count = Prim.Unit {0}
+abbrev pub HasDataRoom : Stage → (held count : ℕ) → Type 0
+HasDataRoom stages.Filling held count = held < count
+HasDataRoom stages.Escaped held count = held < count
+HasDataRoom s held count = Prim.Unit {0}
 
 -- besides, the byte count is of a packet that fits the unit
 abbrev pub IsBounded : «Unit» → Stage → (held count : ℕ) → Type 0
-IsBounded u s held count = (count ≤ HEAD_SIZE + bytes_of u) × HasRoom s held count
+IsBounded u s held count = (count ≤ HEAD_SIZE + bytes_of u) × HasDataRoom s held count
 
 -- the reader in another stage
 abbrev pub reader_at : Stage → ReaderOf → ReaderOf

@@ -52,11 +52,11 @@ packet_of u (version ∷ dest ∷ source ∷ flags ∷ body) =
 packet_of u _ = Err Short
 
 -- the first fault of bytes that are no packet: none before it holds, and it does
-abbrev pub IsFirstFault : «Unit» → List ℕ → WireFault → Type 0
-IsFirstFault u bytes Short = length bytes < HEAD_SIZE
-IsFirstFault u bytes Version = (HEAD_SIZE ≤ length bytes) × (slice_index bytes 0 % 16 ≢ 1)
-IsFirstFault u bytes Empty = (length bytes ≡ HEAD_SIZE) × (slice_index bytes 0 % 16 ≡ 1)
-IsFirstFault u bytes TooLong = (HEAD_SIZE + bytes_of u < length bytes) × (slice_index bytes 0 % 16 ≡ 1)
+abbrev pub IsFirstWireFault : «Unit» → List ℕ → WireFault → Type 0
+IsFirstWireFault u bytes Short = length bytes < HEAD_SIZE
+IsFirstWireFault u bytes Version = (HEAD_SIZE ≤ length bytes) × (slice_index bytes 0 % 16 ≢ 1)
+IsFirstWireFault u bytes Empty = (length bytes ≡ HEAD_SIZE) × (slice_index bytes 0 % 16 ≡ 1)
+IsFirstWireFault u bytes TooLong = (HEAD_SIZE + bytes_of u < length bytes) × (slice_index bytes 0 % 16 ≡ 1)
 
 -- the written spelling of a packet: reserved bits are 0
 abbrev pub packet_bytes : Head → List ℕ → List ℕ

@@ -3,7 +3,7 @@
 ghost use Rattle.std.specs.Prelude.{◌≡◌, ◌<◌, ◌≤◌, length, IfOk, IfErr, ℕ, List, IsOk};
 ghost use Rattle.std.specs.Result.{result_map_both};
 ghost use Rattle.mctp_wire.specs.declared.layout.Head.{Head};
-ghost use Rattle.mctp_wire.specs.Packet.{IsPacket, IsHead, IsFirstFault, IsRead, flags_of, packet_of, packet_bytes};
+ghost use Rattle.mctp_wire.specs.Packet.{IsPacket, IsHead, IsFirstWireFault, IsRead, flags_of, packet_of, packet_bytes};
 
 use crate::fault::WireFault;
 use crate::layout::{Head, MAX_BODY, Packet, RawPacket};
@@ -42,7 +42,7 @@ pub fn decode(unit: Unit, bytes: &[u8]) -> Result<Packet<'_>, WireFault>
     ensures only { (h : Head) (body : List ℕ) → IsPacket unit bytes.now h body → IsOk result }
     ensures value { result_map_both (λ p. (p.head, p.body.now)) (λ e. e) result ≡ packet_of unit bytes.now }
     ensures read { IfOk result (λ p. IsRead p) }
-    ensures fault { IfErr result (λ e. IsFirstFault unit bytes.now e) }
+    ensures fault { IfErr result (λ e. IsFirstWireFault unit bytes.now e) }
 {
     let [version, dest, source, flags, body @ ..] = bytes else {
         return Err(WireFault::Short);

@@ -12,8 +12,8 @@ bit true = 1
 bit false = 0
 
 -- what a head's small fields may hold: five bits of instance identifier, six bits of PLDM type
-abbrev pub IsHead : PldmHead → Type 0
-IsHead h = (h.instance ≤ 31) × (h.pldm_type ≤ 63)
+abbrev pub IsPldmHead : PldmHead → Type 0
+IsPldmHead h = (h.instance ≤ 31) × (h.pldm_type ≤ 63)
 
 -- The bytes are a PLDM message with this head and body. The first byte is the message type of PLDM. The second holds
 -- Rq in bit 7, D in bit 6, which is clear, a reserved bit that may hold anything, and the instance identifier. The
@@ -44,12 +44,12 @@ pldm_of (kind ∷ flags ∷ version_and_type ∷ command ∷ body) =
 pldm_of _ = Err Short
 
 -- the first fault of bytes that are no PLDM message: none before it holds, and it does
-abbrev pub IsFirstFault : List ℕ → PldmFault → Type 0
-IsFirstFault bytes Short = length bytes < HEADER_SIZE
-IsFirstFault bytes NotPldm = (HEADER_SIZE ≤ length bytes) × (slice_index bytes 0 ≢ 1)
-IsFirstFault bytes Datagram =
+abbrev pub IsFirstPldmFault : List ℕ → PldmFault → Type 0
+IsFirstPldmFault bytes Short = length bytes < HEADER_SIZE
+IsFirstPldmFault bytes NotPldm = (HEADER_SIZE ≤ length bytes) × (slice_index bytes 0 ≢ 1)
+IsFirstPldmFault bytes Datagram =
     (HEADER_SIZE ≤ length bytes) × (slice_index bytes 0 ≡ 1) × (slice_index bytes 1 / 64 % 2 ≡ 1)
-IsFirstFault bytes HeaderVersion =
+IsFirstPldmFault bytes HeaderVersion =
     (HEADER_SIZE ≤ length bytes) × (slice_index bytes 0 ≡ 1) × (slice_index bytes 1 / 64 % 2 ≡ 0)
     × (slice_index bytes 2 / 64 ≢ 0)
 
@@ -59,7 +59,7 @@ pldm_bytes h body = 1 ∷ (128 * bit h.rq + h.instance) ∷ h.pldm_type ∷ h.co
 
 -- what is written is a PLDM message with that head and that body
 abbrev pub WritesMessages : Type 0
-WritesMessages = (h : PldmHead) (body : List ℕ) → IsHead h → IsPldm (pldm_bytes h body) h body
+WritesMessages = (h : PldmHead) (body : List ℕ) → IsPldmHead h → IsPldm (pldm_bytes h body) h body
 
 -- bytes are a PLDM message with one head and one body at most, and those are what is read
 abbrev pub ReadsMessages : Type 0

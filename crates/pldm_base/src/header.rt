@@ -2,7 +2,7 @@
 
 ghost use Rattle.std.specs.Prelude.{◌≡◌, ◌≤◌, IfErr, IfOk, IsOk, List, length, ℕ};
 ghost use Rattle.std.specs.Result.{result_map_both};
-ghost use Rattle.pldm_base.specs.Header.{IsFirstFault, IsHead, IsPldm, pldm_bytes, pldm_of};
+ghost use Rattle.pldm_base.specs.Header.{IsFirstPldmFault, IsPldmHead, IsPldm, pldm_bytes, pldm_of};
 ghost use Rattle.pldm_base.specs.declared.header.PldmHead.{PldmHead};
 
 use crate::base::MAX_REPLY;
@@ -79,7 +79,7 @@ pub fn decode(bytes: &[u8]) -> Result<(PldmHead, &[u8]), PldmFault>
     ensures found { IfOk result (λ m. IsPldm bytes.now m.0 m.1.now) }
     ensures only { (head : PldmHead) (body : List ℕ) → IsPldm bytes.now head body → IsOk result }
     ensures value { result_map_both (λ m. (m.0, m.1.now)) (λ e. e) result ≡ pldm_of bytes.now }
-    ensures fault { IfErr result (λ e. IsFirstFault bytes.now e) }
+    ensures fault { IfErr result (λ e. IsFirstPldmFault bytes.now e) }
 {
     let [message_type, flags, version_and_type, command, body @ ..] = bytes else {
         return Err(PldmFault::Short);
@@ -105,7 +105,7 @@ pub fn decode(bytes: &[u8]) -> Result<(PldmHead, &[u8]), PldmFault>
 /// Writes a PLDM message, its reserved bit 0.
 pub fn encode(head: &PldmHead, body: &[u8]) -> RawMessage
     requires body { length body.now ≤ MAX_REPLY }
-    requires head { IsHead head.now }
+    requires head { IsPldmHead head.now }
     ensures { result.items ≡ pldm_bytes head.now body.now }
 {
     let mut out = RawMessage::new();

@@ -5,9 +5,9 @@ use Rattle.std.proofs.lemmas.Bool.{eq-eqb, ne_eqb}
 use Rattle.std.proofs.lemmas.Bool.Decides.{eqb_tells}
 use Rattle.std.proofs.lemmas.List.{get_or-set_other}
 use Rattle.mctp_reasm.specs.Pieces.{MessageOf}
-use Rattle.pldm_exch.specs.Rests.{AreRests, fallen, no_rests}
-use Rattle.pldm_exch.specs.Caller.{CallTickOf, CallerState, IsCaller, IsOpen, Open, answer_body, answer_heard, begun, caller_tick, closed_by, fresh, heard_as, older, opened, request_message, rest_at, sends_at, ticked}
-use Rattle.pldm_exch.specs.Laws.{AreAnswered, CallerStep, CallersStayLawful, EightRequestsRest, Exchange, IsSending, OpenRequestsRepeat, RestsChange, RestsOutlastSendings, after_ticks, caller_after, caller_run, each_tick, exchanged, repeats_under, tick_at, ticks_in}
+use Rattle.pldm_exch.specs.Rests.{AreRests, rests_after_tick, no_rests}
+use Rattle.pldm_exch.specs.Caller.{CallTickOf, CallerState, IsCaller, IsOpen, Open, answer_body, answer_outcome, begin_outcome, caller_tick, closed_by, new_caller, answer_outcome_for, open_after_tick, open_request, request_message, rest_at, sends_at, caller_tick_for}
+use Rattle.pldm_exch.specs.Laws.{AreAnswered, CallerStep, CallersStayLawful, EightRequestsRest, Exchange, IsSending, OpenRequestsRepeat, RestsChange, RestsOutlastSendings, after_ticks, caller_after, caller_run, each_tick, caller_after_exchange, repeats_under, tick_at, ticks_in}
 use Rattle.pldm_exch.specs.Laws.{Abandon, Begin, Hear, Tick}
 use Rattle.pldm_exch.proofs.Callers.{abandoned_is, begun_is, below_8, bool_cases, fresh_is, heard_is, tick_is}
 use Rattle.pldm_exch.proofs.Resting.{rest_fallen, rest_set, rests_fall}
@@ -42,12 +42,12 @@ set_keeps rests t u low lt h = elim (eqb_tells u t) [
   | inr other ↦ let same = get_or-set_other rests t u 40 0 other.1 in omega (arith, same)
 ]
 
-ticked_keeps : (c : CallerState) (o : Option Open) (u : ℕ) → u < 8 → IsCaller c → IfSome o (IsOpen c) → rest_at c u ≤ rest_at (ticked c o).0 u + 1
+ticked_keeps : (c : CallerState) (o : Option Open) (u : ℕ) → u < 8 → IsCaller c → IfSome o (IsOpen c) → rest_at c u ≤ rest_at (caller_tick_for c o).0 u + 1
 ticked_keeps c None u low h open_is = let fell = rest_fallen c.rests u low h.rests in omega (arith, fell)
 ticked_keeps c (Some o) u low h open_is =
     let fell = rest_fallen c.rests u low h.rests in
     let lt : o.tag < 8 = rw open_is.tag (below_8 ((c.number + 31) % 32)) in
-    let set = set_keeps (fallen c.rests) o.tag u low lt (rests_fall c.rests h.rests) in
+    let set = set_keeps (rests_after_tick c.rests) o.tag u low lt (rests_fall c.rests h.rests) in
     elim (bool_cases (sends_at (o.age + 1))) [
       | inl due ↦ rw due (omega (arith, fell, set))
       | inr other ↦ elim (eqb_tells (o.age + 1) 18) [
@@ -60,11 +60,11 @@ closed_rests : (c : CallerState) (o : Open) (answer : Option (List ℕ)) → (cl
 closed_rests c o None = refl
 closed_rests c o (Some body) = refl
 
-heard_rests_as : (c : CallerState) (o : Option Open) (m : MessageOf) → (heard_as c o m).0.rests ≡ c.rests
+heard_rests_as : (c : CallerState) (o : Option Open) (m : MessageOf) → (answer_outcome_for c o m).0.rests ≡ c.rests
 heard_rests_as c None m = refl
 heard_rests_as c (Some o) m = closed_rests c o (answer_body o m)
 
-heard_rests : (c : CallerState) (m : MessageOf) → (answer_heard c m).0.rests ≡ c.rests
+heard_rests : (c : CallerState) (m : MessageOf) → (answer_outcome c m).0.rests ≡ c.rests
 heard_rests c m = heard_rests_as c c.asked m
 
 -- a call lowers no rest, and a tick none by more than one
@@ -97,15 +97,15 @@ open_tag : (c : CallerState) (o : Open) → IsOpen c o → o.message.tag ≡ o.t
 open_tag c o h = ap (λ m. m.tag) h.message ∙ (ap (λ n. n % 8) h.identifier ∙ sym h.tag)
 
 -- a sending sets the rest
-sent_rest : (c : CallerState) (o : Option Open) (m : MessageOf) → IsCaller c → IfSome o (IsOpen c) → (ticked c o).1 ≡ CallTickOf.Send m → (m.tag < 8) × (rest_at (ticked c o).0 m.tag ≡ 40)
+sent_rest : (c : CallerState) (o : Option Open) (m : MessageOf) → IsCaller c → IfSome o (IsOpen c) → (caller_tick_for c o).1 ≡ CallTickOf.Send m → (m.tag < 8) × (rest_at (caller_tick_for c o).0 m.tag ≡ 40)
 unfolding message_in
 sent_rest c None m h open_is e = absurd (cc)
 sent_rest c (Some o) m h open_is e = elim (bool_cases (sends_at (o.age + 1))) [
   | inl due ↦
       let low : o.tag < 8 = rw open_is.tag (below_8 ((c.number + 31) % 32)) in
-      let sent : (ticked c (Some o)).1 ≡ CallTickOf.Send o.message = rw due refl in
+      let sent : (caller_tick_for c (Some o)).1 ≡ CallTickOf.Send o.message = rw due refl in
       let tag : m.tag ≡ o.tag = ap (λ t. (message_in m t).tag) (sym e ∙ sent) ∙ open_tag c o open_is in
-      rw (due, tag) (low, rest_set (fallen c.rests) o.tag low (rests_fall c.rests h.rests))
+      rw (due, tag) (low, rest_set (rests_after_tick c.rests) o.tag low (rests_fall c.rests h.rests))
   | inr other ↦ elim (eqb_tells (o.age + 1) 18) [
     | inl last ↦ let no = rw (other, last.0) at e in absurd (cc)
     | inr more ↦ let no = rw (other, more.0) at e in absurd (cc)
@@ -134,15 +134,15 @@ set_at rests t u lt h = elim (eqb_tells u t) [
   | inr other ↦ rw other.0 (get_or-set_other rests t u 40 0 other.1)
 ]
 
-ticked_at : (c : CallerState) (o : Option Open) (u : ℕ) → u < 8 → IsCaller c → IfSome o (IsOpen c) → rest_at (ticked c o).0 u ≡ (if repeats_under o u then 40 else rest_at c u - 1)
+ticked_at : (c : CallerState) (o : Option Open) (u : ℕ) → u < 8 → IsCaller c → IfSome o (IsOpen c) → rest_at (caller_tick_for c o).0 u ≡ (if repeats_under o u then 40 else rest_at c u - 1)
 ticked_at c None u low h open_is = rest_fallen c.rests u low h.rests
 ticked_at c (Some o) u low h open_is =
     let fell = rest_fallen c.rests u low h.rests in
     let lt : o.tag < 8 = rw open_is.tag (below_8 ((c.number + 31) % 32)) in
     elim (bool_cases (sends_at (o.age + 1))) [
       | inl due ↦ elim (eqb_tells o.tag u) [
-        | inl same ↦ rw (due, same.0) (set_at (fallen c.rests) o.tag u lt (rests_fall c.rests h.rests) ∙ (rw (eq-eqb u o.tag (sym same.1)) refl))
-        | inr other ↦ rw (due, other.0) (set_at (fallen c.rests) o.tag u lt (rests_fall c.rests h.rests) ∙ (rw (ne_eqb u o.tag (λ e. other.1 (sym e))) fell))
+        | inl same ↦ rw (due, same.0) (set_at (rests_after_tick c.rests) o.tag u lt (rests_fall c.rests h.rests) ∙ (rw (eq-eqb u o.tag (sym same.1)) refl))
+        | inr other ↦ rw (due, other.0) (set_at (rests_after_tick c.rests) o.tag u lt (rests_fall c.rests h.rests) ∙ (rw (ne_eqb u o.tag (λ e. other.1 (sym e))) fell))
       ]
       | inr waits ↦ elim (eqb_tells o.tag u) [
         | inl same ↦ elim (eqb_tells (o.age + 1) 18) [ inl last ↦ rw (waits, last.0, same.0) fell | inr more ↦ rw (waits, more.0, same.0) fell ]
@@ -158,7 +158,7 @@ change = record {
 }
 
 -- repeats
-tick_asked : (c : CallerState) (o : Open) → o.age + 1 ≤ 17 → (ticked c (Some o)).0.asked ≡ Some (older o)
+tick_asked : (c : CallerState) (o : Open) → o.age + 1 ≤ 17 → (caller_tick_for c (Some o)).0.asked ≡ Some (open_after_tick o)
 tick_asked c o young = elim (bool_cases (sends_at (o.age + 1))) [
   | inl due ↦ rw due refl
   | inr other ↦ rw (other, ne_eqb (o.age + 1) 18 (λ e. absurd (omega (arith, e, young)))) refl
@@ -169,9 +169,9 @@ open_after c o zero e fresh young = e ∙ ap (λ age. Some (record o { age = age
 open_after c o (suc n) e fresh young =
     let before = open_after c o n e fresh (omega (arith, young)) in
     let next : n + 1 ≡ suc n = omega arith in
-    ap (λ x. (ticked (after_ticks n c) x).0.asked) before ∙ (tick_asked (after_ticks n c) (record o { age = n }) (omega (arith, young)) ∙ ap (λ age. Some (record o { age = age })) next)
+    ap (λ x. (caller_tick_for (after_ticks n c) x).0.asked) before ∙ (tick_asked (after_ticks n c) (record o { age = n }) (omega (arith, young)) ∙ ap (λ age. Some (record o { age = age })) next)
 
-tick_says : (c : CallerState) (o : Open) → (ticked c (Some o)).1 ≡ tick_at o.age o.message
+tick_says : (c : CallerState) (o : Open) → (caller_tick_for c (Some o)).1 ≡ tick_at o.age o.message
 tick_says c o = elim (eqb_tells (o.age + 1) 6) [
   | inl first ↦ rw first.0 refl
   | inr other ↦ elim (eqb_tells (o.age + 1) 12) [
@@ -183,38 +183,38 @@ tick_says c o = elim (eqb_tells (o.age + 1) 6) [
 pub repeat : OpenRequestsRepeat
 repeat c pldm_type command body n young =
     let m : MessageOf = request_message c.own c.peer c.number pldm_type command body in
-    let first : CallerState = (begun c pldm_type command body).0 in
-    let before = open_after first (opened c.number pldm_type command m) n refl refl young in
-    ap (λ x. (ticked (after_ticks n first) x).1) before ∙ tick_says (after_ticks n first) (record { tag = c.number % 8; identifier = c.number; pldm_type = pldm_type; command = command; message = m; age = n })
+    let first : CallerState = (begin_outcome c pldm_type command body).0 in
+    let before = open_after first (open_request c.number pldm_type command m) n refl refl young in
+    ap (λ x. (caller_tick_for (after_ticks n first) x).1) before ∙ tick_says (after_ticks n first) (record { tag = c.number % 8; identifier = c.number; pldm_type = pldm_type; command = command; message = m; age = n })
 
 -- the rests after so many requests, one begun and answered in each tick
 rounds : ℕ → ℕ → List ℕ → List ℕ
 rounds zero n rests = rests
 rounds (suc zero) n rests = slice_set rests (n % 8) 40
-rounds (suc (suc more)) n rests = rounds (suc more) ((n + 1) % 32) (fallen (slice_set rests (n % 8) 40))
+rounds (suc (suc more)) n rests = rounds (suc more) ((n + 1) % 32) (rests_after_tick (slice_set rests (n % 8) 40))
 
 closed_number : (c : CallerState) (o : Open) (answer : Option (List ℕ)) → (closed_by c o answer).0.number ≡ c.number
 closed_number c o None = refl
 closed_number c o (Some body) = refl
 
-heard_number_as : (c : CallerState) (o : Option Open) (m : MessageOf) → (heard_as c o m).0.number ≡ c.number
+heard_number_as : (c : CallerState) (o : Option Open) (m : MessageOf) → (answer_outcome_for c o m).0.number ≡ c.number
 heard_number_as c None m = refl
 heard_number_as c (Some o) m = closed_number c o (answer_body o m)
 
-exchanged_rests : (c : CallerState) (x : Exchange) → (exchanged c x).rests ≡ slice_set c.rests (c.number % 8) 40
-exchanged_rests c x = heard_rests (begun c x.pldm_type x.command x.body).0 x.answer
+exchanged_rests : (c : CallerState) (x : Exchange) → (caller_after_exchange c x).rests ≡ slice_set c.rests (c.number % 8) 40
+exchanged_rests c x = heard_rests (begin_outcome c x.pldm_type x.command x.body).0 x.answer
 
-exchanged_number : (c : CallerState) (x : Exchange) → (exchanged c x).number ≡ (c.number + 1) % 32
-exchanged_number c x = let d : CallerState = (begun c x.pldm_type x.command x.body).0 in heard_number_as d d.asked x.answer
+exchanged_number : (c : CallerState) (x : Exchange) → (caller_after_exchange c x).number ≡ (c.number + 1) % 32
+exchanged_number c x = let d : CallerState = (begin_outcome c x.pldm_type x.command x.body).0 in heard_number_as d d.asked x.answer
 
 each_rests : (c : CallerState) (xs : List Exchange) → AreAnswered c xs → (each_tick c xs).rests ≡ rounds (length xs) c.number c.rests
 unfolding rounds
 each_rests c [] h = refl
 each_rests c (x ∷ []) h = exchanged_rests c x
 each_rests c (x ∷ y ∷ xs) h =
-    let d : CallerState = exchanged c x in
-    let rests : (caller_tick d).0.rests ≡ fallen (slice_set c.rests (c.number % 8) 40) = ap (λ o. (ticked d o).0.rests) h.1 ∙ ap fallen (exchanged_rests c x) in
-    let number : (caller_tick d).0.number ≡ (c.number + 1) % 32 = ap (λ o. (ticked d o).0.number) h.1 ∙ exchanged_number c x in
+    let d : CallerState = caller_after_exchange c x in
+    let rests : (caller_tick d).0.rests ≡ rests_after_tick (slice_set c.rests (c.number % 8) 40) = ap (λ o. (caller_tick_for d o).0.rests) h.1 ∙ ap rests_after_tick (exchanged_rests c x) in
+    let number : (caller_tick d).0.number ≡ (c.number + 1) % 32 = ap (λ o. (caller_tick_for d o).0.number) h.1 ∙ exchanged_number c x in
     each_rests (caller_tick d).0 (y ∷ xs) h.2 ∙ (ap (λ n. rounds (length (y ∷ xs)) n (caller_tick d).0.rests) number ∙ ap (rounds (length (y ∷ xs)) ((c.number + 1) % 32)) rests)
 
 eight_rounds : rounds 8 0 no_rests ≡ 33 ∷ 34 ∷ 35 ∷ 36 ∷ 37 ∷ 38 ∷ 39 ∷ 40 ∷ []
@@ -222,4 +222,4 @@ unfolding rounds
 eight_rounds = refl
 
 pub eight : EightRequestsRest
-eight own peer xs long h = each_rests (fresh own peer) xs h ∙ (ap (λ n. rounds n 0 no_rests) long ∙ eight_rounds)
+eight own peer xs long h = each_rests (new_caller own peer) xs h ∙ (ap (λ n. rounds n 0 no_rests) long ∙ eight_rounds)

@@ -4,14 +4,14 @@ use Rattle.std.proofs.lemmas.Bool.{cases_lt, lt-ltb, le-ltb, le-leb, lt-leb}
 use Rattle.std.proofs.lemmas.Bool.Decides.{eqb_tells}
 use Rattle.std.proofs.lemmas.List.{get_or-set_same, get_or-set_other}
 use Rattle.mctp_reasm.specs.Pieces.{MessageOf}
-use Rattle.pldm_exch.specs.Kept.{AreKept, AreKeptFrom, AskedOf, IsKept, Kept, answerer_tick, asked_as, identifier_of, kept_as, kept_at, kept_tick, kept_with, none_kept}
+use Rattle.pldm_exch.specs.Kept.{AreKeptAnswers, AreKeptFrom, AskedOf, IsKeptAnswer, KeptAnswer, answerer_tick, asked_by_kept, identifier_of, kept_as, kept_at, kept_tick, kept_with, none_kept}
 use Rattle.pldm_exch.specs.Laws.{AnswersAreKept, AnswersStayLawful, KeptChange, RepeatsAnswerTheRequest, kept_after}
 
 -- what is true of all kept answers stays true
-pub none_are : AreKept none_kept
+pub none_are : AreKeptAnswers none_kept
 none_are = record { places = refl; each = (tt, (tt, (tt, (tt, (tt, (tt, (tt, (tt, tt)))))))) }
 
-tick_from : (tag : ℕ) (kept : List (Option Kept)) → AreKeptFrom tag kept → AreKeptFrom tag (answerer_tick kept)
+tick_from : (tag : ℕ) (kept : List (Option KeptAnswer)) → AreKeptFrom tag kept → AreKeptFrom tag (answerer_tick kept)
 tick_from tag [] h = tt
 tick_from tag (None ∷ ks) h = (tt, tick_from (tag + 1) ks h.1)
 tick_from tag (Some k ∷ ks) h = elim (cases_lt k.age 24) [
@@ -19,24 +19,24 @@ tick_from tag (Some k ∷ ks) h = elim (cases_lt k.age 24) [
   | inr le ↦ rw (le-ltb k.age 24 le) (tt, tick_from (tag + 1) ks h.1)
 ]
 
-length_tick : (kept : List (Option Kept)) → length (answerer_tick kept) ≡ length kept
+length_tick : (kept : List (Option KeptAnswer)) → length (answerer_tick kept) ≡ length kept
 length_tick [] = refl
 length_tick (k ∷ ks) = ap suc (length_tick ks)
 
-pub tick_are : (kept : List (Option Kept)) → AreKept kept → AreKept (answerer_tick kept)
+pub tick_are : (kept : List (Option KeptAnswer)) → AreKeptAnswers kept → AreKeptAnswers (answerer_tick kept)
 tick_are kept h = record { places = length_tick kept ∙ h.places; each = tick_from 0 kept h.each }
 
-length_put : (kept : List (Option Kept)) (t : ℕ) (k : Option Kept) → length (slice_set kept t k) ≡ length kept
+length_put : (kept : List (Option KeptAnswer)) (t : ℕ) (k : Option KeptAnswer) → length (slice_set kept t k) ≡ length kept
 length_put [] t k = refl
 length_put (x ∷ xs) zero k = refl
 length_put (x ∷ xs) (suc t) k = ap suc (length_put xs t k)
 
-put_from : (tag t : ℕ) (kept : List (Option Kept)) (k : Kept) → AreKeptFrom tag kept → IsKept (tag + t) k → AreKeptFrom tag (slice_set kept t (Some k))
+put_from : (tag t : ℕ) (kept : List (Option KeptAnswer)) (k : KeptAnswer) → AreKeptFrom tag kept → IsKeptAnswer (tag + t) k → AreKeptFrom tag (slice_set kept t (Some k))
 put_from tag t [] k h is = tt
 put_from tag zero (x ∷ xs) k h is = let sum : tag + 0 ≡ tag = omega arith in (rw sum at is, h.1)
 put_from tag (suc t) (x ∷ xs) k h is = let sum : tag + suc t ≡ tag + 1 + t = omega arith in (h.0, put_from (tag + 1) t xs k h.1 (rw sum at is))
 
-pub put_are : (kept : List (Option Kept)) (m : MessageOf) (identifier : Option ℕ) → identifier_of m ≡ identifier → AreKept kept → AreKept (kept_as kept m identifier)
+pub put_are : (kept : List (Option KeptAnswer)) (m : MessageOf) (identifier : Option ℕ) → identifier_of m ≡ identifier → AreKeptAnswers kept → AreKeptAnswers (kept_as kept m identifier)
 put_are kept m None e h = h
 put_are kept m (Some identifier) e h =
     let sum : 0 + m.tag ≡ m.tag = omega arith in
@@ -45,7 +45,7 @@ put_are kept m (Some identifier) e h =
       each = put_from 0 m.tag kept (record { identifier = identifier; reply = m; age = 0 }) h.each (record { tag = sym sum; identifier = e; age = omega arith });
     }
 
-pub keep_are : (kept : List (Option Kept)) (m : MessageOf) → AreKept kept → AreKept (kept_with kept m)
+pub keep_are : (kept : List (Option KeptAnswer)) (m : MessageOf) → AreKeptAnswers kept → AreKeptAnswers (kept_with kept m)
 keep_are kept m h = put_are kept m (identifier_of m) refl h
 
 pub stay_lawful : AnswersStayLawful
@@ -56,20 +56,20 @@ answer_in : MessageOf → AskedOf → MessageOf
 answer_in m (AskedOf.Again answer) = answer
 answer_in m AskedOf.New = m
 
-again_as : (place : ℕ) (o : Option Kept) (identifier : Option ℕ) (answer : MessageOf) → IfSome o (IsKept place) → asked_as o identifier ≡ AskedOf.Again answer
+again_as : (place : ℕ) (o : Option KeptAnswer) (identifier : Option ℕ) (answer : MessageOf) → IfSome o (IsKeptAnswer place) → asked_by_kept o identifier ≡ AskedOf.Again answer
     → (answer.tag ≡ place) × (identifier_of answer ≡ identifier)
 unfolding answer_in
 again_as place None identifier answer h e = absurd (cc)
 again_as place (Some k) None answer h e = absurd (cc)
 again_as place (Some k) (Some identifier) answer h e = elim (eqb_tells k.identifier identifier) [
   | inl same ↦
-      let again : asked_as (Some k) (Some identifier) ≡ AskedOf.Again k.reply = rw same.0 refl in
+      let again : asked_by_kept (Some k) (Some identifier) ≡ AskedOf.Again k.reply = rw same.0 refl in
       let is : answer ≡ k.reply = ap (answer_in answer) (sym e ∙ again) in
       (ap (λ m. m.tag) is ∙ h.tag, ap identifier_of is ∙ (h.identifier ∙ ap Some same.1))
   | inr other ↦ let no = rw other.0 at e in absurd (cc)
 ]
 
-kept_from : (place t : ℕ) (kept : List (Option Kept)) → AreKeptFrom place kept → IfSome (get_or kept t None) (IsKept (place + t))
+kept_from : (place t : ℕ) (kept : List (Option KeptAnswer)) → AreKeptFrom place kept → IfSome (get_or kept t None) (IsKeptAnswer (place + t))
 kept_from place t [] h = tt
 kept_from place zero (k ∷ ks) h = let sum : place + 0 ≡ place = omega arith in rw sum h.0
 kept_from place (suc t) (k ∷ ks) h = let sum : place + suc t ≡ place + 1 + t = omega arith in rw sum (kept_from (place + 1) t ks h.1)
@@ -80,12 +80,12 @@ repeats kept request answer h e =
     again_as request.tag (kept_at kept request.tag) (identifier_of request) answer (rw sum at (kept_from 0 request.tag kept h.each)) e
 
 -- how long an answer is kept
-tick_at : (kept : List (Option Kept)) (t : ℕ) → kept_at (answerer_tick kept) t ≡ kept_tick (kept_at kept t)
+tick_at : (kept : List (Option KeptAnswer)) (t : ℕ) → kept_at (answerer_tick kept) t ≡ kept_tick (kept_at kept t)
 tick_at [] t = refl
 tick_at (k ∷ ks) zero = refl
 tick_at (k ∷ ks) (suc t) = tick_at ks t
 
-kept_for : (kept : List (Option Kept)) (t identifier n : ℕ) (m : MessageOf) → kept_at kept t ≡ Some (record { identifier = identifier; reply = m; age = 0 })
+kept_for : (kept : List (Option KeptAnswer)) (t identifier n : ℕ) (m : MessageOf) → kept_at kept t ≡ Some (record { identifier = identifier; reply = m; age = 0 })
     → kept_at (kept_after n kept) t ≡ (if nat_le n 24 then Some (record { identifier = identifier; reply = m; age = n }) else None)
 kept_for kept t identifier zero m e = e
 kept_for kept t identifier (suc n) m e =
@@ -109,7 +109,7 @@ are_kept kept m identifier n h low e =
 pub change : KeptChange
 change = record {
   keep = λ kept m identifier t h low e.
-      let k : Option Kept = Some (record { identifier = identifier; reply = m; age = 0 }) in
+      let k : Option KeptAnswer = Some (record { identifier = identifier; reply = m; age = 0 }) in
       let long : m.tag < length kept = omega (arith, h.places, low) in
       ap (λ i. kept_at (kept_as kept m i) t) e
       ∙ elim (eqb_tells t m.tag) [

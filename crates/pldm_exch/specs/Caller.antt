@@ -6,7 +6,7 @@ use Rattle.mctp_reasm.specs.Pieces.{MessageOf}
 use Rattle.pldm_base.specs.Header.{IsPldm, pldm_bytes, pldm_of}
 use Rattle.pldm_base.specs.declared.header.PldmFault.{PldmFault}
 use Rattle.pldm_base.specs.declared.header.PldmHead.{PldmHead}
-use Rattle.pldm_exch.specs.Rests.{AreRests, fallen, no_rests}
+use Rattle.pldm_exch.specs.Rests.{AreRests, rests_after_tick, no_rests}
 use Rattle.pldm_exch.specs.declared.caller.CallTick.{CallTick}
 use Rattle.pldm_exch.specs.declared.caller.CallTick.TheVariants as ticks
 
@@ -20,8 +20,8 @@ pub record Open : Type 0 where
   pub age : ℕ
 
 -- the command and the request data of a request that waits
-abbrev pub asking : Open → ℕ × List ℕ
-asking o = (o.command, drop 4 o.message.bytes)
+abbrev pub request_of_open : Open → ℕ × List ℕ
+request_of_open o = (o.command, drop 4 o.message.bytes)
 
 -- the node that asks and its peer; the number of the next request, counted modulo 32; the rest of each tag; the open
 -- request; whether the last request was answered, or there was none
@@ -34,13 +34,13 @@ pub record CallerState : Type 0 where
   pub answered : Bool
 
 -- what an answer brings: the command that it answers, and its body
-pub record Heard : Type 0 where
+pub record ReplyInOf : Type 0 where
   pub command : ℕ
   pub reply : List ℕ
 
 -- nothing was asked yet
-abbrev pub fresh : ℕ → ℕ → CallerState
-fresh own peer = record { own = own; peer = peer; number = 0; rests = no_rests; asked = None; answered = true }
+abbrev pub new_caller : ℕ → ℕ → CallerState
+new_caller own peer = record { own = own; peer = peer; number = 0; rests = no_rests; asked = None; answered = true }
 
 -- the ticks until a tag may be used again
 abbrev pub rest_at : CallerState → ℕ → ℕ
@@ -78,26 +78,26 @@ request_message own peer n pldm_type command body =
     }
 
 -- that message as an open request
-abbrev pub opened : (n pldm_type command : ℕ) → MessageOf → Open
-opened n pldm_type command m =
+abbrev pub open_request : (n pldm_type command : ℕ) → MessageOf → Open
+open_request n pldm_type command m =
     record { tag = n % 8; identifier = n; pldm_type = pldm_type; command = command; message = m; age = 0 }
 
 -- A request begins: its message is sent, and its tag rests.
-abbrev pub begun : CallerState → (pldm_type command : ℕ) → List ℕ → CallerState × MessageOf
-begun c pldm_type command body =
+abbrev pub begin_outcome : CallerState → (pldm_type command : ℕ) → List ℕ → CallerState × MessageOf
+begin_outcome c pldm_type command body =
     let m : MessageOf = request_message c.own c.peer c.number pldm_type command body in (
       record c {
         number = (c.number + 1) % 32;
         rests = slice_set c.rests (next_tag c) 40;
-        asked = Some (opened c.number pldm_type command m);
+        asked = Some (open_request c.number pldm_type command m);
         answered = false;
       },
       m,
     )
 
 -- The open request is given up without an answer.
-abbrev pub abandoned : CallerState → CallerState
-abandoned c = record c { asked = None }
+abbrev pub caller_after_abandon : CallerState → CallerState
+caller_after_abandon c = record c { asked = None }
 
 -- the head is that of an answer to this request: Rq is clear, and identifier, type and command are the request's
 abbrev pub is_answer_head : Open → PldmHead → Bool
@@ -122,18 +122,18 @@ IsAnswerTo o m body =
     × IsPldm m.bytes (record { rq = false; instance = o.identifier; pldm_type = o.pldm_type; command = o.command }) body
 
 -- a request is closed by its answer
-abbrev pub closed_by : CallerState → Open → Option (List ℕ) → CallerState × Option Heard
+abbrev pub closed_by : CallerState → Open → Option (List ℕ) → CallerState × Option ReplyInOf
 closed_by c o None = (c, None)
 closed_by c o (Some body) =
     (record c { asked = None; answered = true }, Some (record { command = o.command; reply = body }))
 
-abbrev pub heard_as : CallerState → Option Open → MessageOf → CallerState × Option Heard
-heard_as c None m = (c, None)
-heard_as c (Some o) m = closed_by c o (answer_body o m)
+abbrev pub answer_outcome_for : CallerState → Option Open → MessageOf → CallerState × Option ReplyInOf
+answer_outcome_for c None m = (c, None)
+answer_outcome_for c (Some o) m = closed_by c o (answer_body o m)
 
 -- A message is heard: an answer to the open request closes it, and any other message changes nothing.
-abbrev pub answer_heard : CallerState → MessageOf → CallerState × Option Heard
-answer_heard c m = heard_as c c.asked m
+abbrev pub answer_outcome : CallerState → MessageOf → CallerState × Option ReplyInOf
+answer_outcome c m = answer_outcome_for c c.asked m
 
 -- what a tick asks of the node: nothing, or that this message is sent again; or the open request was given up
 pub data CallTickOf : Type 0 where
@@ -145,23 +145,23 @@ pub data CallTickOf : Type 0 where
 abbrev pub sends_at : ℕ → Bool
 sends_at age = (age == 6) || (age == 12)
 
-abbrev pub older : Open → Open
-older o = record o { age = o.age + 1 }
+abbrev pub open_after_tick : Open → Open
+open_after_tick o = record o { age = o.age + 1 }
 
-abbrev pub ticked : CallerState → Option Open → CallerState × CallTickOf
-ticked c None = (record c { rests = fallen c.rests }, CallTickOf.Nothing)
-ticked c (Some o) =
+abbrev pub caller_tick_for : CallerState → Option Open → CallerState × CallTickOf
+caller_tick_for c None = (record c { rests = rests_after_tick c.rests }, CallTickOf.Nothing)
+caller_tick_for c (Some o) =
     if sends_at (o.age + 1) then (
-      record c { rests = slice_set (fallen c.rests) o.tag 40; asked = Some (older o) },
+      record c { rests = slice_set (rests_after_tick c.rests) o.tag 40; asked = Some (open_after_tick o) },
       CallTickOf.Send o.message,
     )
-    else if o.age + 1 == 18 then (record c { rests = fallen c.rests; asked = None }, CallTickOf.GaveUp)
-    else (record c { rests = fallen c.rests; asked = Some (older o) }, CallTickOf.Nothing)
+    else if o.age + 1 == 18 then (record c { rests = rests_after_tick c.rests; asked = None }, CallTickOf.GaveUp)
+    else (record c { rests = rests_after_tick c.rests; asked = Some (open_after_tick o) }, CallTickOf.Nothing)
 
 -- A tick: all rests fall, and the open request grows older. At 6 and at 12 ticks the same message is sent again, and
 -- its tag rests anew; at 18 the request is given up without an answer.
 abbrev pub caller_tick : CallerState → CallerState × CallTickOf
-caller_tick c = ticked c c.asked
+caller_tick c = caller_tick_for c c.asked
 
 -- what it asks, without the message
 abbrev pub tick_word : CallTickOf → CallTick

@@ -3,8 +3,8 @@ use Rattle.std.specs.Prelude.{ℕ, List, map, Option}
 use Rattle.mctp_wire.specs.declared.unit.Unit.{«Unit»}
 use Rattle.mctp_reasm.specs.Held.{Held, held_tick}
 use Rattle.mctp_reasm.specs.Inboxes.{none_held}
-use Rattle.pldm_exch.specs.Caller.{CallerState, caller_tick, fresh}
-use Rattle.pldm_exch.specs.Kept.{Kept, answerer_tick, none_kept}
+use Rattle.pldm_exch.specs.Caller.{CallerState, caller_tick, new_caller}
+use Rattle.pldm_exch.specs.Kept.{KeptAnswer, answerer_tick, none_kept}
 
 -- The node that asks: the ticks that it is still deaf, its requests, and for each tag what it holds of a reply.
 pub record AskerOf : Type 0 where
@@ -16,12 +16,12 @@ pub record AskerOf : Type 0 where
 -- a request.
 pub record TakerOf : Type 0 where
   pub deaf : ℕ
-  pub kept : List (Option Kept)
+  pub kept : List (Option KeptAnswer)
   pub requests : List (Option Held)
 
 -- a node that asks, before its first request
 abbrev pub asker_new : (own peer deaf : ℕ) → AskerOf
-asker_new own peer deaf = record { deaf = deaf; caller = fresh own peer; replies = none_held }
+asker_new own peer deaf = record { deaf = deaf; caller = new_caller own peer; replies = none_held }
 
 -- a node that answers, before its first answer
 abbrev pub taker_new : (deaf : ℕ) → TakerOf
@@ -42,7 +42,7 @@ pub record AnsweringOf : Type 0 where
   pub unit : «Unit»
   pub own : ℕ
   pub peer : ℕ
-  pub kept : List (Option Kept)
+  pub kept : List (Option KeptAnswer)
   pub requests : List (Option Held)
 
 -- the end of a node that is deaf for so long
@@ -54,7 +54,7 @@ taker_of deaf t = record { deaf = deaf; kept = t.kept; requests = t.requests }
 
 -- before the first request, and before the first answer
 abbrev pub asking_new : «Unit» → (own peer : ℕ) → AskingOf
-asking_new u own peer = record { unit = u; own = own; peer = peer; caller = fresh own peer; replies = none_held }
+asking_new u own peer = record { unit = u; own = own; peer = peer; caller = new_caller own peer; replies = none_held }
 
 abbrev pub answering_new : «Unit» → (own peer : ℕ) → AnsweringOf
 answering_new u own peer = record { unit = u; own = own; peer = peer; kept = none_kept; requests = none_held }

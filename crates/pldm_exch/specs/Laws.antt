@@ -1,8 +1,8 @@
 -- What layers above rely on: callers and answerers over any number of calls and ticks.
 use Rattle.std.specs.Prelude.{◌≡◌, ◌<◌, ◌≤◌, ℕ, zero, suc, ◌+◌, ◌-◌, ◌==◌, ◌&&◌, Bool, true, false, nat_le, if◌then◌else◌, List, [], ◌∷◌, length, Option, Some, None}
 use Rattle.mctp_reasm.specs.Pieces.{MessageOf}
-use Rattle.pldm_exch.specs.Caller.{CallTickOf, CallerState, IsCaller, Open, abandoned, answer_heard, begun, caller_tick, fresh, may_begin, next_tag, rest_at, sends_at}
-use Rattle.pldm_exch.specs.Kept.{AreKept, AskedOf, Kept, answerer_tick, identifier_of, kept_at, kept_tick, kept_with, none_kept, request_heard}
+use Rattle.pldm_exch.specs.Caller.{CallTickOf, CallerState, IsCaller, Open, caller_after_abandon, answer_outcome, begin_outcome, caller_tick, new_caller, may_begin, next_tag, rest_at, sends_at}
+use Rattle.pldm_exch.specs.Kept.{AreKeptAnswers, AskedOf, KeptAnswer, answerer_tick, identifier_of, kept_at, kept_tick, kept_with, none_kept, asked_for}
 
 -- a call of a caller that may change it
 pub data CallerStep : Type 0 where
@@ -13,9 +13,9 @@ pub data CallerStep : Type 0 where
 
 -- the caller after a call
 abbrev pub caller_after : CallerState → CallerStep → CallerState
-caller_after c (Begin pldm_type command body) = (begun c pldm_type command body).0
-caller_after c (Hear m) = (answer_heard c m).0
-caller_after c Abandon = abandoned c
+caller_after c (Begin pldm_type command body) = (begin_outcome c pldm_type command body).0
+caller_after c (Hear m) = (answer_outcome c m).0
+caller_after c Abandon = caller_after_abandon c
 caller_after c Tick = (caller_tick c).0
 
 -- the caller after these calls, one after another
@@ -31,7 +31,7 @@ ticks_in (_ ∷ ss) = ticks_in ss
 
 -- the call sends this message
 abbrev pub IsSending : CallerState → CallerStep → MessageOf → Type 0
-IsSending c (Begin pldm_type command body) m = (begun c pldm_type command body).1 ≡ m
+IsSending c (Begin pldm_type command body) m = (begin_outcome c pldm_type command body).1 ≡ m
 IsSending c (Hear _) m = ⊥
 IsSending c Abandon m = ⊥
 IsSending c Tick m = (caller_tick c).1 ≡ CallTickOf.Send m
@@ -39,7 +39,7 @@ IsSending c Tick m = (caller_tick c).1 ≡ CallTickOf.Send m
 -- What is true of a fresh caller is true of it after any calls: above all, an open request is the last that began, and
 -- at most 17 ticks old.
 pub record CallersStayLawful : Type 0 where
-  pub first : (own peer : ℕ) → IsCaller (fresh own peer)
+  pub first : (own peer : ℕ) → IsCaller (new_caller own peer)
   pub after : (c : CallerState) (s : CallerStep) → IsCaller c → IsCaller (caller_after c s)
   pub always : (c : CallerState) (ss : List CallerStep) → IsCaller c → IsCaller (caller_run c ss)
 
@@ -59,8 +59,8 @@ repeats_under (Some o) tag = (o.tag == tag) && sends_at (o.age + 1)
 -- else changes one.
 pub record RestsChange : Type 0 where
   pub begin : (c : CallerState) (pldm_type command : ℕ) (body : List ℕ) (tag : ℕ) → IsCaller c
-      → rest_at (begun c pldm_type command body).0 tag ≡ (if tag == next_tag c then 40 else rest_at c tag)
-  pub hear : (c : CallerState) (m : MessageOf) (tag : ℕ) → rest_at (answer_heard c m).0 tag ≡ rest_at c tag
+      → rest_at (begin_outcome c pldm_type command body).0 tag ≡ (if tag == next_tag c then 40 else rest_at c tag)
+  pub hear : (c : CallerState) (m : MessageOf) (tag : ℕ) → rest_at (answer_outcome c m).0 tag ≡ rest_at c tag
   pub tick : (c : CallerState) (tag : ℕ) → IsCaller c → tag < 8
       → rest_at (caller_tick c).0 tag ≡ (if repeats_under c.asked tag then 40 else rest_at c tag - 1)
 
@@ -82,7 +82,7 @@ tick_at age m =
 abbrev pub OpenRequestsRepeat : Type 0
 OpenRequestsRepeat =
     (c : CallerState) (pldm_type command : ℕ) (body : List ℕ) (n : ℕ) → n ≤ 17
-    → (caller_tick (after_ticks n (begun c pldm_type command body).0)).1 ≡ tick_at n (begun c pldm_type command body).1
+    → (caller_tick (after_ticks n (begin_outcome c pldm_type command body).0)).1 ≡ tick_at n (begin_outcome c pldm_type command body).1
 
 -- a request and its answer
 pub record Exchange : Type 0 where
@@ -92,52 +92,52 @@ pub record Exchange : Type 0 where
   pub answer : MessageOf
 
 -- the caller after a request and its answer
-abbrev pub exchanged : CallerState → Exchange → CallerState
-exchanged c x = (answer_heard (begun c x.pldm_type x.command x.body).0 x.answer).0
+abbrev pub caller_after_exchange : CallerState → Exchange → CallerState
+caller_after_exchange c x = (answer_outcome (begin_outcome c x.pldm_type x.command x.body).0 x.answer).0
 
 -- the caller after these requests, one begun and answered in each tick
 abbrev pub each_tick : CallerState → List Exchange → CallerState
 each_tick c [] = c
-each_tick c (x ∷ []) = exchanged c x
-each_tick c (x ∷ y ∷ xs) = each_tick (caller_tick (exchanged c x)).0 (y ∷ xs)
+each_tick c (x ∷ []) = caller_after_exchange c x
+each_tick c (x ∷ y ∷ xs) = each_tick (caller_tick (caller_after_exchange c x)).0 (y ∷ xs)
 
 -- each of them may begin, and is answered
 abbrev pub AreAnswered : CallerState → List Exchange → Type 0
 AreAnswered c [] = Unit {0}
 AreAnswered c (x ∷ xs) =
-    (may_begin c ≡ true) × ((exchanged c x).asked ≡ None) × AreAnswered (caller_tick (exchanged c x)).0 xs
+    (may_begin c ≡ true) × ((caller_after_exchange c x).asked ≡ None) × AreAnswered (caller_tick (caller_after_exchange c x)).0 xs
 
 -- Eight requests that were begun and answered in eight ticks, one in each, leave the rests 33 to 40.
 abbrev pub EightRequestsRest : Type 0
 EightRequestsRest =
-    (own peer : ℕ) (xs : List Exchange) → length xs ≡ 8 → AreAnswered (fresh own peer) xs
-    → (each_tick (fresh own peer) xs).rests ≡ 33 ∷ 34 ∷ 35 ∷ 36 ∷ 37 ∷ 38 ∷ 39 ∷ 40 ∷ []
+    (own peer : ℕ) (xs : List Exchange) → length xs ≡ 8 → AreAnswered (new_caller own peer) xs
+    → (each_tick (new_caller own peer) xs).rests ≡ 33 ∷ 34 ∷ 35 ∷ 36 ∷ 37 ∷ 38 ∷ 39 ∷ 40 ∷ []
 
 -- What is true of no kept answers stays true: eight places, answers of their tags, none older than 24 ticks.
 pub record AnswersStayLawful : Type 0 where
-  pub first : AreKept none_kept
-  pub keep : (kept : List (Option Kept)) (m : MessageOf) → AreKept kept → AreKept (kept_with kept m)
-  pub tick : (kept : List (Option Kept)) → AreKept kept → AreKept (answerer_tick kept)
+  pub first : AreKeptAnswers none_kept
+  pub keep : (kept : List (Option KeptAnswer)) (m : MessageOf) → AreKeptAnswers kept → AreKeptAnswers (kept_with kept m)
+  pub tick : (kept : List (Option KeptAnswer)) → AreKeptAnswers kept → AreKeptAnswers (answerer_tick kept)
 
 -- What comes again answers the very request: it carries its tag and its identifier.
 abbrev pub RepeatsAnswerTheRequest : Type 0
 RepeatsAnswerTheRequest =
-    (kept : List (Option Kept)) (request answer : MessageOf) → AreKept kept → request_heard kept request ≡ AskedOf.Again answer
+    (kept : List (Option KeptAnswer)) (request answer : MessageOf) → AreKeptAnswers kept → asked_for kept request ≡ AskedOf.Again answer
     → (answer.tag ≡ request.tag) × (identifier_of answer ≡ identifier_of request)
 
 -- so many ticks
-abbrev pub kept_after : ℕ → List (Option Kept) → List (Option Kept)
+abbrev pub kept_after : ℕ → List (Option KeptAnswer) → List (Option KeptAnswer)
 kept_after zero kept = kept
 kept_after (suc n) kept = answerer_tick (kept_after n kept)
 
 -- An answer is kept for 24 ticks, and no longer.
 abbrev pub AnswersAreKept : Type 0
 AnswersAreKept =
-    (kept : List (Option Kept)) (m : MessageOf) (identifier n : ℕ) → AreKept kept → m.tag < 8 → identifier_of m ≡ Some identifier
+    (kept : List (Option KeptAnswer)) (m : MessageOf) (identifier n : ℕ) → AreKeptAnswers kept → m.tag < 8 → identifier_of m ≡ Some identifier
     → kept_at (kept_after n (kept_with kept m)) m.tag ≡ (if nat_le n 24 then Some (record { identifier = identifier; reply = m; age = n }) else None)
 
 -- How what a tag keeps changes: an answer under it takes its place, and a tick ages it.
 pub record KeptChange : Type 0 where
-  pub keep : (kept : List (Option Kept)) (m : MessageOf) (identifier tag : ℕ) → AreKept kept → m.tag < 8 → identifier_of m ≡ Some identifier
+  pub keep : (kept : List (Option KeptAnswer)) (m : MessageOf) (identifier tag : ℕ) → AreKeptAnswers kept → m.tag < 8 → identifier_of m ≡ Some identifier
       → kept_at (kept_with kept m) tag ≡ (if tag == m.tag then Some (record { identifier = identifier; reply = m; age = 0 }) else kept_at kept tag)
-  pub tick : (kept : List (Option Kept)) (tag : ℕ) → kept_at (answerer_tick kept) tag ≡ kept_tick (kept_at kept tag)
+  pub tick : (kept : List (Option KeptAnswer)) (tag : ℕ) → kept_at (answerer_tick kept) tag ≡ kept_tick (kept_at kept tag)

@@ -7,8 +7,8 @@ abbrev pub no_rests : List ℕ
 no_rests = replicate 8 0
 
 -- a tick: each rest falls by one, until it is 0
-abbrev pub fallen : List ℕ → List ℕ
-fallen rests = map (λ rest. rest - 1) rests
+abbrev pub rests_after_tick : List ℕ → List ℕ
+rests_after_tick rests = map (λ rest. rest - 1) rests
 
 -- eight rests of at most 40
 abbrev pub AreRests : List ℕ → Type 0

@@ -2,19 +2,19 @@
 use Rattle.std.specs.Prelude.{ℕ, ◌≡◌, ◌-◌, ◌==◌, nat_le, Bool, true, false, if◌then◌else◌, List, map, Option, Some, None, Result, Ok, Err}
 use Rattle.mctp_wire.specs.declared.unit.Unit.{«Unit»}
 use Rattle.mctp_reasm.specs.Held.{Held, held_tick}
-use Rattle.mctp_reasm.specs.Inboxes.{fed_at, held_with, packet_for}
+use Rattle.mctp_reasm.specs.Inboxes.{feed_outcome_at, held_with, packet_for}
 use Rattle.mctp_reasm.specs.Pieces.{MessageOf, PacketOf}
 use Rattle.mctp_reasm.specs.declared.outcomes.Fed.{Fed}
 use Rattle.mctp_reasm.specs.declared.outcomes.Fed.TheVariants as outcomes
-use Rattle.pldm_base.specs.Header.{IsHead, pldm_of}
+use Rattle.pldm_base.specs.Header.{IsPldmHead, pldm_of}
 use Rattle.pldm_base.specs.declared.header.PldmFault.{PldmFault}
 use Rattle.pldm_base.specs.declared.header.PldmHead.{PldmHead}
-use Rattle.pldm_exch.specs.Caller.{CallTickOf, CallerState, Heard, answer_heard, caller_tick}
+use Rattle.pldm_exch.specs.Caller.{CallTickOf, CallerState, ReplyInOf, answer_outcome, caller_tick}
 use Rattle.pldm_exch.specs.Ends.{AnsweringOf, AskerOf, AskingOf, TakerOf, asker_of, taker_of}
-use Rattle.pldm_exch.specs.Kept.{AskedOf, Kept, answerer_tick, kept_with, request_heard}
+use Rattle.pldm_exch.specs.Kept.{AskedOf, KeptAnswer, answerer_tick, kept_with, asked_for}
 use Rattle.pldm_exch.specs.Requests.{RequestOf, body_in, reply_message}
-use Rattle.pldm_exch.specs.declared.request.Brought.{Brought}
-use Rattle.pldm_exch.specs.declared.request.Brought.TheVariants as brings
+use Rattle.pldm_exch.specs.declared.request.Received.{Received}
+use Rattle.pldm_exch.specs.declared.request.Received.TheVariants as brings
 
 -- What a packet is for the node that answers: each row has what is held of requests then.
 pub data TakerRow : Type 0 where
@@ -33,20 +33,20 @@ taker_asked requests m head body (AskedOf.Again answer) = TakerRow.Repeats reque
 taker_asked requests m head body AskedOf.New = TakerRow.TakesUp requests m head body
 
 -- a whole message: a PLDM request, or a stray
-abbrev pub taker_read : List (Option Held) → List (Option Kept) → MessageOf → Result (PldmHead × List ℕ) PldmFault → TakerRow
+abbrev pub taker_read : List (Option Held) → List (Option KeptAnswer) → MessageOf → Result (PldmHead × List ℕ) PldmFault → TakerRow
 taker_read requests kept m (Ok r) =
-    if r.0.rq then taker_asked requests m r.0 r.1 (request_heard kept m) else TakerRow.Strays requests m
+    if r.0.rq then taker_asked requests m r.0 r.1 (asked_for kept m) else TakerRow.Strays requests m
 taker_read requests kept m (Err fault) = TakerRow.Strays requests m
 
 -- what its assembly says of the packet
-abbrev pub taker_fed : List (Option Held) → List (Option Kept) → Fed → TakerRow
+abbrev pub taker_fed : List (Option Held) → List (Option KeptAnswer) → Fed → TakerRow
 taker_fed requests kept (outcomes.Whole m) = taker_read requests kept m (pldm_of m.bytes)
 taker_fed requests kept outcomes.Open = TakerRow.Silent requests
 taker_fed requests kept (outcomes.Dropped cause) = TakerRow.Silent requests
 
 abbrev pub taker_packet : «Unit» → TakerOf → Option PacketOf → TakerRow
 taker_packet u t None = TakerRow.Silent t.requests
-taker_packet u t (Some p) = taker_fed (held_with u t.requests p) t.kept (fed_at u t.requests p)
+taker_packet u t (Some p) = taker_fed (held_with u t.requests p) t.kept (feed_outcome_at u t.requests p)
 
 -- What a packet is for the node that answers; a deaf one drops it.
 abbrev pub taker_row : (u : «Unit») (own peer : ℕ) → TakerOf → List ℕ → TakerRow
@@ -58,22 +58,22 @@ pub data AskerRow : Type 0 where
   -- nothing is learnt
   Ignores : (replies : List (Option Held)) → AskerRow
   -- the open request is answered: its command, and the reply
-  Learns : (replies : List (Option Held)) → (caller : CallerState) → (heard : Heard) → AskerRow
+  Learns : (replies : List (Option Held)) → (caller : CallerState) → (heard : ReplyInOf) → AskerRow
 
 -- a whole message: it answers the open request, or is dropped
-abbrev pub asker_answered : List (Option Held) → CallerState → Option Heard → AskerRow
+abbrev pub asker_answered : List (Option Held) → CallerState → Option ReplyInOf → AskerRow
 asker_answered replies caller None = AskerRow.Ignores replies
 asker_answered replies caller (Some heard) = AskerRow.Learns replies caller heard
 
 -- what its assembly says of the packet
 abbrev pub asker_fed : List (Option Held) → CallerState → Fed → AskerRow
-asker_fed replies caller (outcomes.Whole m) = asker_answered replies (answer_heard caller m).0 (answer_heard caller m).1
+asker_fed replies caller (outcomes.Whole m) = asker_answered replies (answer_outcome caller m).0 (answer_outcome caller m).1
 asker_fed replies caller outcomes.Open = AskerRow.Ignores replies
 asker_fed replies caller (outcomes.Dropped cause) = AskerRow.Ignores replies
 
 abbrev pub asker_packet : «Unit» → AskerOf → Option PacketOf → AskerRow
 asker_packet u a None = AskerRow.Ignores a.replies
-asker_packet u a (Some p) = asker_fed (held_with u a.replies p) a.caller (fed_at u a.replies p)
+asker_packet u a (Some p) = asker_fed (held_with u a.replies p) a.caller (feed_outcome_at u a.replies p)
 
 -- What a packet is for the node that asks; a deaf one drops it.
 abbrev pub asker_row : (u : «Unit») (own peer : ℕ) → AskerOf → List ℕ → AskerRow
@@ -128,23 +128,23 @@ abbrev pub answering_row : AnsweringOf → List ℕ → TakerRow
 answering_row t bytes = taker_packet t.unit (taker_of 0 t) (packet_for t.unit t.own t.peer true bytes)
 
 -- the answer that the node that asks learns
-abbrev pub learnt_in : AskerRow → Option Heard
-learnt_in (AskerRow.Ignores replies) = None
-learnt_in (AskerRow.Learns replies caller heard) = Some heard
+abbrev pub reply_in_row : AskerRow → Option ReplyInOf
+reply_in_row (AskerRow.Ignores replies) = None
+reply_in_row (AskerRow.Learns replies caller heard) = Some heard
 
 -- that answer, where it lies in a message: the command that it answers, and the message's body
-abbrev pub heard_in : (command : ℕ) → MessageOf → Heard
-heard_in command m = record { command = command; reply = body_in (pldm_of m.bytes) }
+abbrev pub reply_in_message : (command : ℕ) → MessageOf → ReplyInOf
+reply_in_message command m = record { command = command; reply = body_in (pldm_of m.bytes) }
 
 -- what lies in a place for messages after a packet: the message that it made whole, and else what lay there
-abbrev pub written : Fed → (before : MessageOf) → MessageOf
-written (outcomes.Whole m) before = m
-written outcomes.Open before = before
-written (outcomes.Dropped cause) before = before
+abbrev pub message_after_feed : Fed → (before : MessageOf) → MessageOf
+message_after_feed (outcomes.Whole m) before = m
+message_after_feed outcomes.Open before = before
+message_after_feed (outcomes.Dropped cause) before = before
 
-abbrev pub lies_after : «Unit» → List (Option Held) → Option PacketOf → (before : MessageOf) → MessageOf
-lies_after u held None before = before
-lies_after u held (Some p) before = written (fed_at u held p) before
+abbrev pub message_after_packet : «Unit» → List (Option Held) → Option PacketOf → (before : MessageOf) → MessageOf
+message_after_packet u held None before = before
+message_after_packet u held (Some p) before = message_after_feed (feed_outcome_at u held p) before
 
 -- that node after a packet
 abbrev pub asking_after : AskingOf → AskerRow → AskingOf
@@ -152,31 +152,31 @@ asking_after a (AskerRow.Ignores replies) = record a { replies = replies }
 asking_after a (AskerRow.Learns replies caller heard) = record a { caller = caller; replies = replies }
 
 -- what a packet brings to the node that answers
-pub data BroughtOf : Type 0 where
-  Nothing : BroughtOf
-  Again : (answer : MessageOf) → BroughtOf
-  New : (request : RequestOf) → BroughtOf
-  Strays : (message : MessageOf) → BroughtOf
+pub data ReceivedOf : Type 0 where
+  Nothing : ReceivedOf
+  Again : (answer : MessageOf) → ReceivedOf
+  New : (request : RequestOf) → ReceivedOf
+  Strays : (message : MessageOf) → ReceivedOf
 
 -- that, as the code has it, with the message beside it
-abbrev pub brought_of : Brought → MessageOf → BroughtOf
-brought_of brings.Nothing m = BroughtOf.Nothing
-brought_of brings.Again m = BroughtOf.Again m
-brought_of (brings.New head) m = BroughtOf.New (record { message = m; head = head; body = body_in (pldm_of m.bytes) })
-brought_of brings.Strays m = BroughtOf.Strays m
+abbrev pub received_of : Received → MessageOf → ReceivedOf
+received_of brings.Nothing m = ReceivedOf.Nothing
+received_of brings.Again m = ReceivedOf.Again m
+received_of (brings.New head) m = ReceivedOf.New (record { message = m; head = head; body = body_in (pldm_of m.bytes) })
+received_of brings.Strays m = ReceivedOf.Strays m
 
 -- the head of a new request is that of a PLDM message; where nothing is brought, the message beside it is as it was
-abbrev pub IsBrought : Brought → (before after : MessageOf) → Type 0
-IsBrought brings.Nothing before after = after ≡ before
-IsBrought (brings.New head) before after = IsHead head
-IsBrought _ before after = Prim.Unit {0}
+abbrev pub IsReceived : Received → (before after : MessageOf) → Type 0
+IsReceived brings.Nothing before after = after ≡ before
+IsReceived (brings.New head) before after = IsPldmHead head
+IsReceived _ before after = Prim.Unit {0}
 
 -- what it is by the row
-abbrev pub brought_in : TakerRow → BroughtOf
-brought_in (TakerRow.Silent requests) = BroughtOf.Nothing
-brought_in (TakerRow.Repeats requests answer) = BroughtOf.Again answer
-brought_in (TakerRow.TakesUp requests m head body) = BroughtOf.New (record { message = m; head = head; body = body })
-brought_in (TakerRow.Strays requests m) = BroughtOf.Strays m
+abbrev pub received_in : TakerRow → ReceivedOf
+received_in (TakerRow.Silent requests) = ReceivedOf.Nothing
+received_in (TakerRow.Repeats requests answer) = ReceivedOf.Again answer
+received_in (TakerRow.TakesUp requests m head body) = ReceivedOf.New (record { message = m; head = head; body = body })
+received_in (TakerRow.Strays requests m) = ReceivedOf.Strays m
 
 -- what the node that answers holds of requests after a packet
 abbrev pub requests_in : TakerRow → List (Option Held)

@@ -1,7 +1,7 @@
 //! Answers that are kept for requests that come again.
 
 ghost use Rattle.std.specs.Prelude.{◌≡◌};
-ghost use Rattle.pldm_exch.specs.Kept.{AreKept, answerer_tick, asked_of, kept_tick, kept_with, none_kept, request_heard};
+ghost use Rattle.pldm_exch.specs.Kept.{AreKeptAnswers, answerer_tick, asked_of, kept_tick, kept_with, none_kept, asked_for};
 
 use crate::times::HOLD;
 use mctp_reasm::{Message, TAGS};
@@ -16,9 +16,9 @@ struct Answer {
 }
 
 impl Model for Answer {
-    ghost use Rattle.pldm_exch.specs.Kept.{Kept};
+    ghost use Rattle.pldm_exch.specs.Kept.{KeptAnswer};
 
-    ghost Value = { Kept };
+    ghost Value = { KeptAnswer };
 
     ghost view = { λ a. record { identifier = a.identifier; reply = a.reply; age = a.age } };
 }
@@ -40,13 +40,13 @@ pub struct Answerer {
 
 impl Model for Answerer {
     ghost use Rattle.std.specs.Prelude.{List, Option};
-    ghost use Rattle.pldm_exch.specs.Kept.{AreKept, Kept};
+    ghost use Rattle.pldm_exch.specs.Kept.{AreKeptAnswers, KeptAnswer};
 
-    ghost Value = { List (Option Kept) };
+    ghost Value = { List (Option KeptAnswer) };
 
     ghost view = { λ a. a.places };
 
-    ghost invariant = { λ a. AreKept a.places };
+    ghost invariant = { λ a. AreKeptAnswers a.places };
 }
 
 impl Answerer {
@@ -64,8 +64,8 @@ impl Answerer {
     /// PLDM message has no identifier, and is new.
     #[tactic(auto, using(crate::proofs::Keeping::keeping))]
     pub fn on_request(&self, request: &Message) -> Asked<'_>
-        ensures value { asked_of result ≡ request_heard self.now request.now }
-        ensures lawful { AreKept self.now }
+        ensures value { asked_of result ≡ asked_for self.now request.now }
+        ensures lawful { AreKeptAnswers self.now }
     {
         let Some(answer) = &self.places[request.tag() as usize] else {
             return Asked::New;

@@ -4,9 +4,9 @@ ghost use Rattle.std.specs.Prelude.{◌≡◌, ◌≤◌, List, ℕ, false, is_s
 ghost use Rattle.mctp_reasm.specs.Inboxes.{packet_for};
 ghost use Rattle.mctp_wire.specs.Packet.{IsRead, spelling};
 ghost use Rattle.pldm_base.specs.Limits.{reply_limit};
-ghost use Rattle.pldm_exch.specs.Caller.{abandoned, asking, begun, caller_tick, is_quiet, may_begin, tick_of, tick_word};
+ghost use Rattle.pldm_exch.specs.Caller.{caller_after_abandon, request_of_open, begin_outcome, caller_tick, is_quiet, may_begin, tick_of, tick_word};
 ghost use Rattle.pldm_exch.specs.Ends.{asking_new, asking_older};
-ghost use Rattle.pldm_exch.specs.Sides.{asking_after, asking_row, heard_in, learnt_in, lies_after};
+ghost use Rattle.pldm_exch.specs.Sides.{asking_after, asking_row, reply_in_message, reply_in_row, message_after_packet};
 
 use crate::caller::{CallTick, Caller};
 use mctp_reasm::{Inbox, Message, Taken};
@@ -75,7 +75,7 @@ impl Asker {
 
     /// The command and the request data of the request that waits for its reply.
     pub fn open_request(&self) -> Option<(u8, &[u8])>
-        ensures { option_map {U = ℕ × List ℕ} (λ r. (r.0, r.1.now)) result ≡ option_map asking self.now.caller.asked }
+        ensures { option_map {U = ℕ × List ℕ} (λ r. (r.0, r.1.now)) result ≡ option_map request_of_open self.now.caller.asked }
     {
         self.caller.open_request()
     }
@@ -107,8 +107,8 @@ impl Asker {
     pub fn begin(&mut self, command: u8, body: &[u8]) -> Message
         requires may { may_begin self.old.caller ≡ true }
         requires body { length body.now ≤ reply_limit self.old.unit }
-        ensures request { result ≡ (begun self.old.caller 5 command body.now).1 }
-        ensures after { self.new ≡ record self.old { caller = (begun self.old.caller 5 command body.now).0 } }
+        ensures request { result ≡ (begin_outcome self.old.caller 5 command body.now).1 }
+        ensures after { self.new ≡ record self.old { caller = (begin_outcome self.old.caller 5 command body.now).0 } }
     {
         let unit = self.unit();
         self.caller.begin(unit, TYPE_FIRMWARE_UPDATE, command, body)
@@ -116,7 +116,7 @@ impl Asker {
 
     /// Gives the open request up: it isn't sent again, and its reply is dropped.
     pub fn abandon(&mut self)
-        ensures { self.new ≡ record self.old { caller = abandoned self.old.caller } }
+        ensures { self.new ≡ record self.old { caller = caller_after_abandon self.old.caller } }
     {
         self.caller.abandon();
     }
@@ -125,13 +125,13 @@ impl Asker {
     /// the packet makes whole is written into `message`, which else stays as it is; what is learnt is that message's body. A
     /// packet that is none of the peer's replies changes nothing.
     #[tactic(auto, using(crate::proofs::SideRows::rows))]
-    pub fn hear(&mut self, packet: &Packet<'_>, message: &mut Message) -> Option<u8>
+    pub fn on_reply(&mut self, packet: &Packet<'_>, message: &mut Message) -> Option<u8>
         requires read { IsRead packet.now }
-        ensures learnt { option_map (λ command. heard_in command message.new) result ≡ learnt_in (asking_row self.old (spelling packet.now)) }
-        ensures message { message.new ≡ lies_after self.old.unit self.old.replies (packet_for self.old.unit self.old.own self.old.peer false (spelling packet.now)) message.old }
+        ensures learnt { option_map (λ command. reply_in_message command message.new) result ≡ reply_in_row (asking_row self.old (spelling packet.now)) }
+        ensures message { message.new ≡ message_after_packet self.old.unit self.old.replies (packet_for self.old.unit self.old.own self.old.peer false (spelling packet.now)) message.old }
         ensures after { self.new ≡ asking_after self.old (asking_row self.old (spelling packet.now)) }
     {
-        if !self.inbox.hears(packet) {
+        if !self.inbox.accepts(packet) {
             return None;
         }
         let Taken::Whole = self.inbox.feed(packet, message) else {

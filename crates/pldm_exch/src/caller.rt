@@ -2,7 +2,7 @@
 
 ghost use Rattle.std.specs.Prelude.{◌≡◌, ◌≤◌, ◌%◌, length, List, ℕ, IfSome, IsSome, IsSomeAnd, option_map, is_some, true};
 ghost use Rattle.pldm_base.specs.Limits.{reply_limit};
-ghost use Rattle.pldm_exch.specs.Caller.{IsAnswerTo, IsCaller, abandoned, answer_body, answer_heard, asking, begun, caller_tick, fresh, is_answer_head, is_quiet, may_begin, sends_at, tick_of, tick_word};
+ghost use Rattle.pldm_exch.specs.Caller.{IsAnswerTo, IsCaller, caller_after_abandon, answer_body, answer_outcome, request_of_open, begin_outcome, caller_tick, new_caller, is_answer_head, is_quiet, may_begin, sends_at, tick_of, tick_word};
 ghost use Rattle.pldm_exch.specs.Fields.{open_of};
 
 use crate::rests::Rests;
@@ -116,7 +116,7 @@ impl Caller {
     /// The requests of the node `own` to the node `peer`, before the first.
     #[tactic(auto, using(crate::proofs::Callers::callers))]
     pub fn new(own: u8, peer: u8) -> Caller
-        ensures { result ≡ fresh own peer }
+        ensures { result ≡ new_caller own peer }
     {
         Caller {
             own,
@@ -139,7 +139,7 @@ impl Caller {
     /// The command and the request data of the open request.
     #[tactic(auto, using(crate::proofs::Callers::open_bytes))]
     pub fn open_request(&self) -> Option<(u8, &[u8])>
-        ensures { option_map {U = ℕ × List ℕ} (λ r. (r.0, r.1.now)) result ≡ option_map asking self.now.asked }
+        ensures { option_map {U = ℕ × List ℕ} (λ r. (r.0, r.1.now)) result ≡ option_map request_of_open self.now.asked }
     {
         let Some(open) = &self.asked else {
             return None;
@@ -194,8 +194,8 @@ impl Caller {
         requires may { may_begin self.old ≡ true }
         requires pldm_type { pldm_type ≤ 63 }
         requires body { length body.now ≤ reply_limit unit }
-        ensures request { result ≡ (begun self.old pldm_type command body.now).1 }
-        ensures after { self.new ≡ (begun self.old pldm_type command body.now).0 }
+        ensures request { result ≡ (begin_outcome self.old pldm_type command body.now).1 }
+        ensures after { self.new ≡ (begin_outcome self.old pldm_type command body.now).0 }
     {
         let tag = tag_of(self.number);
         let head = PldmHead {
@@ -225,8 +225,8 @@ impl Caller {
     /// and Rq are clear, and tag, identifier, type and command are the request's. Any other message changes nothing.
     #[tactic(auto, using(crate::proofs::Callers::callers))]
     pub fn on_answer<'m>(&mut self, message: &'m Message) -> Option<ReplyIn<'m>>
-        ensures answer { option_map (λ r. record { command = r.command; reply = r.reply.now }) result ≡ (answer_heard self.old message.now).1 }
-        ensures after { self.new ≡ (answer_heard self.old message.now).0 }
+        ensures answer { option_map (λ r. record { command = r.command; reply = r.reply.now }) result ≡ (answer_outcome self.old message.now).1 }
+        ensures after { self.new ≡ (answer_outcome self.old message.now).0 }
         ensures found { IfSome result (λ r. IsSomeAnd self.old.asked (λ o. IsAnswerTo o message.now r.reply.now × (r.command ≡ o.command))) }
         ensures only { (body : List ℕ) → IsSomeAnd self.old.asked (λ o. IsAnswerTo o message.now body) → IsSome result }
     {
@@ -245,7 +245,7 @@ impl Caller {
     /// Gives the open request up, if there is one: it isn't sent again, and its answer is dropped.
     #[tactic(auto, using(crate::proofs::Callers::callers))]
     pub fn abandon(&mut self)
-        ensures { self.new ≡ abandoned self.old }
+        ensures { self.new ≡ caller_after_abandon self.old }
     {
         let _ = self.asked.take();
     }

@@ -19,6 +19,6 @@ pub use laws::{
     open_requests_repeat, repeats_answer_the_request, rests_change, rests_outlast_sendings,
 };
 pub use mctp_reasm::TAGS;
-pub use request::{Brought, Request, body_of};
+pub use request::{Received, Request, body_of};
 pub use taker::Taker;
 pub use times::{DEAF, LIFE};

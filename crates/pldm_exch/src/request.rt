@@ -1,7 +1,7 @@
 //! Requests, as the answering node receives them.
 
 ghost use Rattle.std.specs.Prelude.{◌≡◌, ◌≤◌, length};
-ghost use Rattle.pldm_base.specs.Header.{IsHead, pldm_of};
+ghost use Rattle.pldm_base.specs.Header.{IsPldmHead, pldm_of};
 ghost use Rattle.pldm_exch.specs.Requests.{body_in};
 
 use mctp_reasm::Message;
@@ -16,20 +16,20 @@ pub struct Request<'m> {
 }
 
 impl<'m> Model for Request<'m> {
-    ghost use Rattle.pldm_base.specs.Header.{IsHead, pldm_of};
+    ghost use Rattle.pldm_base.specs.Header.{IsPldmHead, pldm_of};
     ghost use Rattle.pldm_exch.specs.Requests.{RequestOf, body_in};
 
     ghost Value = { RequestOf };
 
     ghost view = { λ r. record { message = r.message.now; head = r.head; body = body_in (pldm_of r.message.now.bytes) } };
 
-    ghost invariant = { λ r. IsHead r.head };
+    ghost invariant = { λ r. IsPldmHead r.head };
 }
 
 impl<'m> Request<'m> {
     /// The request that lies in this message under this head, as `Brought::New` tells it.
     pub fn new(message: &'m Message, head: PldmHead) -> Request<'m>
-        requires { IsHead head }
+        requires { IsPldmHead head }
         ensures { result ≡ record { message = message.now; head = head; body = body_in (pldm_of message.now.bytes) } }
     {
         Request { message, head }
@@ -63,7 +63,7 @@ pub fn body_of(message: &Message) -> &[u8]
 
 /// What a packet brings to the node that answers, which lays the message that it speaks of beside it.
 #[derive(Clone, Copy, PartialEq, Eq)]
-pub enum Brought {
+pub enum Received {
     /// Nothing is to be done.
     Nothing,
     /// A request came again: its kept answer lies there, which is to be sent again, and nothing else is to be done.

@@ -1,7 +1,7 @@
 //! Rests of tags.
 
 ghost use Rattle.std.specs.Prelude.{◌≡◌, ◌<◌, ◌==◌, get_or, slice_set};
-ghost use Rattle.pldm_exch.specs.Rests.{AreRests, fallen, no_rests};
+ghost use Rattle.pldm_exch.specs.Rests.{AreRests, rests_after_tick, no_rests};
 
 use crate::times::RETIRE;
 use mctp_reasm::TAGS;
@@ -53,7 +53,7 @@ impl Rests {
     /// A tick passes.
     #[tactic(auto, using(crate::proofs::Resting::rests))]
     pub fn tick(&mut self)
-        ensures { self.new ≡ fallen self.old }
+        ensures { self.new ≡ rests_after_tick self.old }
     {
         fall(self.row.as_mut_slice());
     }
@@ -69,7 +69,7 @@ impl Rests {
 
 /// Each of these rests falls by one, until it is 0.
 fn fall(rests: &mut [u8])
-    ensures { rests.new ≡ fallen rests.old }
+    ensures { rests.new ≡ rests_after_tick rests.old }
 {
     for rest in rests.iter_mut() {
         *rest = rest.saturating_sub(1);

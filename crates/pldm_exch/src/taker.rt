@@ -3,13 +3,13 @@
 ghost use Rattle.std.specs.Prelude.{◌≡◌, ◌≤◌, length, true};
 ghost use Rattle.mctp_wire.specs.Packet.{IsRead, spelling};
 ghost use Rattle.mctp_reasm.specs.Pieces.{MessageOf};
-ghost use Rattle.pldm_base.specs.Header.{IsHead, pldm_of};
+ghost use Rattle.pldm_base.specs.Header.{IsPldmHead, pldm_of};
 ghost use Rattle.pldm_exch.specs.Ends.{answering_new, answering_older};
-ghost use Rattle.pldm_exch.specs.Sides.{IsBrought, answered_with, answering_row, brought_in, brought_of, requests_in, taker_read};
+ghost use Rattle.pldm_exch.specs.Sides.{IsReceived, answered_with, answering_row, received_in, received_of, requests_in, taker_read};
 ghost use Rattle.pldm_exch.specs.Requests.{reply_message};
 
 use crate::answerer::{Answerer, Asked};
-use crate::request::{Brought, Request};
+use crate::request::{Received, Request};
 use mctp_reasm::{Inbox, Message, Taken};
 use mctp_wire::{Packet, Unit};
 use pldm_base::{MAX_REPLY, PldmHead};
@@ -71,38 +71,38 @@ impl Taker {
     /// into `message`, which stays as it is where nothing is to be done. A packet that is none of the peer's requests changes
     /// nothing.
     #[tactic(auto, using(crate::proofs::SideRows::rows))]
-    pub fn hear(&mut self, packet: &Packet<'_>, message: &mut Message) -> Brought
+    pub fn on_request(&mut self, packet: &Packet<'_>, message: &mut Message) -> Received
         requires read { IsRead packet.now }
-        ensures brought { brought_of result message.new ≡ brought_in (answering_row self.old (spelling packet.now)) }
-        ensures message { IsBrought result message.old message.new }
+        ensures brought { received_of result message.new ≡ received_in (answering_row self.old (spelling packet.now)) }
+        ensures message { IsReceived result message.old message.new }
         ensures after { self.new ≡ record self.old { requests = requests_in (answering_row self.old (spelling packet.now)) } }
     {
-        if !self.inbox.hears(packet) {
-            return Brought::Nothing;
+        if !self.inbox.accepts(packet) {
+            return Received::Nothing;
         }
         let Taken::Whole = self.inbox.feed(packet, message) else {
-            return Brought::Nothing;
+            return Received::Nothing;
         };
         self.read(message)
     }
 
     /// What a whole message brings: its kept answer takes its place where it came again.
     #[tactic(auto, using(crate::proofs::SideRows::rows))]
-    fn read(&self, message: &mut Message) -> Brought
-        ensures brought { brought_of result message.new ≡ brought_in (taker_read self.now.requests self.now.kept message.old (pldm_of message.old.bytes)) }
-        ensures message { (before : MessageOf) → IsBrought result before message.new }
+    fn read(&self, message: &mut Message) -> Received
+        ensures brought { received_of result message.new ≡ received_in (taker_read self.now.requests self.now.kept message.old (pldm_of message.old.bytes)) }
+        ensures message { (before : MessageOf) → IsReceived result before message.new }
     {
         let Ok((head, _)) = pldm_base::decode(message.bytes()) else {
-            return Brought::Strays;
+            return Received::Strays;
         };
         if !head.rq {
-            return Brought::Strays;
+            return Received::Strays;
         }
         if let Asked::Again(answer) = self.answerer.on_request(message) {
             message.copy_from(answer);
-            return Brought::Again;
+            return Received::Again;
         }
-        Brought::New(head)
+        Received::New(head)
     }
 
     /// Answers a new request with a completion code and fields of at most `MAX_REPLY` bytes: the message to send, which is
@@ -129,7 +129,7 @@ impl Taker {
 /// The reply to a request, as a message.
 fn reply_to(request: &Message, head: &PldmHead, reply: &[u8]) -> Message
     requires reply { length reply.now ≤ MAX_REPLY }
-    requires head { IsHead head.now }
+    requires head { IsPldmHead head.now }
     ensures { result ≡ reply_message request.now head.now reply.now }
 {
     let reply_head = PldmHead { rq: false, ..*head };

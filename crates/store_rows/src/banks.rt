@@ -3,7 +3,7 @@
 use crate::failing::FailStore;
 use fd_core::{Bank, BankFault, Key, Label, MemBank};
 use fw_store::{KeptBank, MemStore};
-use fwup_wire::{Text, Version};
+use fwup_wire::{TypedText, Version};
 use std::alloc::Global;
 use std::test::Fail;
 
@@ -23,7 +23,7 @@ const SECOND: Key = Key {
 fn label(stamp: u32) -> Label {
     Label::new(&Version {
         stamp,
-        text: Text {
+        text: TypedText {
             text_type: 1,
             bytes: b"v",
         },

@@ -6,10 +6,10 @@ ghost use Rattle.fw_store.specs.Opening.{found_in};
 
 use fd_core::{Key, Label};
 use fw_store::{
-    Entry, Failing, Folder, FolderFault, FolderStore, Kept, KnownFolder, MemStore, OpenFault,
+    Failing, Folder, FolderFault, FolderStore, ImageEntry, Kept, KnownFolder, MemStore, OpenFault,
     Store, Stored, active_text, open_store, read_active, read_store,
 };
-use fwup_wire::{Text, Version};
+use fwup_wire::{TypedText, Version};
 use std::alloc::Global;
 use std::test::Fail;
 
@@ -33,7 +33,7 @@ const WORKED: &[u8] =
 fn label(stamp: u32, text_type: u8, bytes: &[u8]) -> Label {
     Label::new(&Version {
         stamp,
-        text: Text { text_type, bytes },
+        text: TypedText { text_type, bytes },
     })
 }
 

@@ -6,7 +6,7 @@ use Rattle.fw_package.specs.Package.{PackageText}
 use Rattle.fwup_wire.specs.Answers.{answer_bytes, answer_in}
 use Rattle.fwup_wire.specs.Commands.{command_code}
 use Rattle.fwup_wire.specs.Values.{CommandOf}
-use Rattle.ua_core.specs.Serve.{ServeRow, agent_answer, answer_by, apply_row, data_of, data_row, is_bad_length, is_past_end, refuses, transfer_row, verify_row, window}
+use Rattle.ua_core.specs.Serve.{ServeRow, agent_answer, answer_by, apply_row, data_of, data_row, is_bad_length, is_past_end, refusal_row, transfer_row, verify_row, window}
 use Rattle.ua_core.specs.Session.{SessionOf, Stage}
 
 -- what a row answers reads as an answer to this command
@@ -18,7 +18,7 @@ either command true x y hx hy = hx
 either command false x y hx hy = hy
 
 served : (image : List ℕ) (offset size : ℕ) (short past : Bool)
-    → Reads 0x15 (if short then refuses 0x83 else if past then refuses 0x82 else ServeRow.Give (window image offset size))
+    → Reads 0x15 (if short then refusal_row 0x83 else if past then refusal_row 0x82 else ServeRow.Give (window image offset size))
 served image offset size true past = refl
 served image offset size false true = refl
 served image offset size false false = refl

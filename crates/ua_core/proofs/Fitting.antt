@@ -11,7 +11,7 @@ use Rattle.fwup_wire.specs.Answers.{answer_bytes}
 use Rattle.fwup_wire.specs.Transfers.{transfer_size}
 use Rattle.fwup_wire.specs.Values.{AnswerOf, CommandOf}
 use Rattle.fwup_wire.specs.declared.transfers.TheConstants.{MIN_TRANSFER}
-use Rattle.ua_core.specs.Serve.{ServeRow, agent_answer, answer_by, apply_row, data_of, data_row, is_bad_length, is_past_end, refuses, transfer_row, verify_row, window}
+use Rattle.ua_core.specs.Serve.{ServeRow, agent_answer, answer_by, apply_row, data_of, data_row, is_bad_length, is_past_end, refusal_row, transfer_row, verify_row, window}
 use Rattle.ua_core.specs.Session.{SessionOf, Stage}
 
 -- what a row answers fits a message
@@ -41,10 +41,10 @@ short_enough true high is = absurd (cc)
 short_enough false high is = is
 
 served : (unit : «Unit») (image : List ℕ) (offset size : ℕ) (bad : Bool) → is_bad_length unit size ≡ bad
-    → Fits unit (if bad then refuses 0x83 else if is_past_end image offset size then refuses 0x82 else ServeRow.Give (window image offset size))
+    → Fits unit (if bad then refusal_row 0x83 else if is_past_end image offset size then refusal_row 0x82 else ServeRow.Give (window image offset size))
 served unit image offset size true is = alone unit
 served unit image offset size false is =
-    either unit (is_past_end image offset size) (refuses 0x82) (ServeRow.Give (window image offset size)) (alone unit)
+    either unit (is_past_end image offset size) (refusal_row 0x82) (ServeRow.Give (window image offset size)) (alone unit)
     (omega (
       arith,
       piece_fits unit (length (window image offset size))
@@ -57,8 +57,8 @@ pieces unit p (Stage.Download t) offset size =
     served unit (component_at p t.at_hand.component).image offset size (is_bad_length unit size) refl
 pieces unit p g offset size = alone unit
 
-told : (unit : «Unit») (b : Bool) (a : AnswerOf) → Fits unit (ServeRow.Say a) → Fits unit (if b then ServeRow.Say a else refuses 0x88)
-told unit b a fits = either unit b (ServeRow.Say a) (refuses 0x88) fits (alone unit)
+told : (unit : «Unit») (b : Bool) (a : AnswerOf) → Fits unit (ServeRow.Say a) → Fits unit (if b then ServeRow.Say a else refusal_row 0x88)
+told unit b a fits = either unit b (ServeRow.Say a) (refusal_row 0x88) fits (alone unit)
 
 transfers : (unit : «Unit») (g : Stage) (result : ℕ) → Fits unit (transfer_row g result)
 transfers unit (Stage.Download t) result = alone unit

@@ -4,14 +4,14 @@ use Rattle.mctp_wire.specs.declared.unit.Unit.{«Unit»}
 use Rattle.fw_package.specs.Choice.{component_at}
 use Rattle.fw_package.specs.Package.{PackageText}
 use Rattle.fwup_wire.specs.Values.{AnswerOf, CommandOf}
-use Rattle.ua_core.specs.Laws.{RefusalsKeepTheSession, RefusalsRecordNothing, RefusalsStirNothing}
-use Rattle.ua_core.specs.Serve.{ServeRow, after_by, answer_by, apply_row, data_of, data_row, idle_after, is_bad_length, is_past_end, recorded_with, refuses, serve_row, transfer_row, verify_row, window}
+use Rattle.ua_core.specs.Laws.{RefusalsKeepTheSession, RefusalsRecordNothing, RefusalsKeepSessionIdle}
+use Rattle.ua_core.specs.Serve.{ServeRow, after_by, answer_by, apply_row, data_of, data_row, idle_after, is_bad_length, is_past_end, recorded_with, refusal_row, serve_row, transfer_row, verify_row, window}
 use Rattle.ua_core.specs.Session.{Stage, TaskOf}
 use Rattle.ua_core.specs.declared.state.Cause.TheVariants as causes
 
 -- what refuses does nothing else
 abbrev IsRefusal : ServeRow → Type 0
-IsRefusal r = (code : ℕ) → answer_by r ≡ AnswerOf.Refused code → r ≡ refuses code
+IsRefusal r = (code : ℕ) → answer_by r ≡ AnswerOf.Refused code → r ≡ refusal_row code
 
 says : (a : AnswerOf) → IsRefusal (ServeRow.Say a)
 says a code e = ap ServeRow.Say e
@@ -25,10 +25,10 @@ gives bytes code e = absurd (cc)
 
 data_refused : (unit : «Unit») (image : List ℕ) (offset size : ℕ) → IsRefusal (data_of unit image offset size)
 data_refused unit image offset size =
-    either (is_bad_length unit size) (refuses 0x83)
-    (if is_past_end image offset size then refuses 0x82 else ServeRow.Give (window image offset size))
+    either (is_bad_length unit size) (refusal_row 0x83)
+    (if is_past_end image offset size then refusal_row 0x82 else ServeRow.Give (window image offset size))
     (says (AnswerOf.Refused 0x83))
-    (either (is_past_end image offset size) (refuses 0x82) (ServeRow.Give (window image offset size))
+    (either (is_past_end image offset size) (refusal_row 0x82) (ServeRow.Give (window image offset size))
     (says (AnswerOf.Refused 0x82)) (gives (window image offset size)))
 
 pieces : (unit : «Unit») (p : PackageText) (g : Stage) (offset size : ℕ) → IsRefusal (data_row unit p g offset size)
@@ -36,8 +36,8 @@ pieces unit p (Stage.Update t) offset size = says (AnswerOf.Refused 0x89)
 pieces unit p (Stage.Download t) offset size = data_refused unit (component_at p t.at_hand.component).image offset size
 pieces unit p g offset size = says (AnswerOf.Refused 0x88)
 
-told : (b : Bool) (a : AnswerOf) → IsRefusal (if b then ServeRow.Say a else refuses 0x88)
-told b a = either b (ServeRow.Say a) (refuses 0x88) (says a) (says (AnswerOf.Refused 0x88))
+told : (b : Bool) (a : AnswerOf) → IsRefusal (if b then ServeRow.Say a else refusal_row 0x88)
+told b a = either b (ServeRow.Say a) (refusal_row 0x88) (says a) (says (AnswerOf.Refused 0x88))
 
 transfers : (g : Stage) (result : ℕ) → IsRefusal (transfer_row g result)
 transfers (Stage.Download t) result = λ code e. absurd (cc)
@@ -77,5 +77,5 @@ refusals_keep p s c code e = ap (after_by s) (refusals s.unit p s.stage c code e
 pub refusals_record : RefusalsRecordNothing
 refusals_record p s c code e = ap (recorded_with s) (refusals s.unit p s.stage c code e)
 
-pub refusals_stir : RefusalsStirNothing
+pub refusals_stir : RefusalsKeepSessionIdle
 refusals_stir p s idle c code e = ap (idle_after idle) (refusals s.unit p s.stage c code e)

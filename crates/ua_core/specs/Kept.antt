@@ -25,14 +25,14 @@ stage_of (states.Failed cause) j i left todo made = Stage.Failed cause
 
 -- There is room for the records that this start may still make: eight of them until the components are passed, then one for
 -- the component at hand and for each that comes after it.
-abbrev pub HasRoom : SessionState → (records rest made room : ℕ) → Type 0
-HasRoom states.Query records rest made room = records + 8 ≤ room
-HasRoom states.Params records rest made room = records + 8 ≤ room
-HasRoom states.ClearOld records rest made room = records + 8 ≤ room
-HasRoom states.Request records rest made room = records + 8 ≤ room
-HasRoom states.Pass records rest made room = records + (1 + rest) ≤ room
-HasRoom states.Update records rest made room = (records + (1 + rest) ≤ room) × (made + rest ≤ 7)
-HasRoom states.Download records rest made room = (records + (1 + rest) ≤ room) × (made + rest ≤ 7)
-HasRoom states.Verify records rest made room = (records + (1 + rest) ≤ room) × (made + rest ≤ 7)
-HasRoom states.Apply records rest made room = (records + (1 + rest) ≤ room) × (made + rest ≤ 7)
-HasRoom _ records rest made room = Unit {0}
+abbrev pub HasRecordRoom : SessionState → (records rest made room : ℕ) → Type 0
+HasRecordRoom states.Query records rest made room = records + 8 ≤ room
+HasRecordRoom states.Params records rest made room = records + 8 ≤ room
+HasRecordRoom states.ClearOld records rest made room = records + 8 ≤ room
+HasRecordRoom states.Request records rest made room = records + 8 ≤ room
+HasRecordRoom states.Pass records rest made room = records + (1 + rest) ≤ room
+HasRecordRoom states.Update records rest made room = (records + (1 + rest) ≤ room) × (made + rest ≤ 7)
+HasRecordRoom states.Download records rest made room = (records + (1 + rest) ≤ room) × (made + rest ≤ 7)
+HasRecordRoom states.Verify records rest made room = (records + (1 + rest) ≤ room) × (made + rest ≤ 7)
+HasRecordRoom states.Apply records rest made room = (records + (1 + rest) ≤ room) × (made + rest ≤ 7)
+HasRecordRoom _ records rest made room = Unit {0}

@@ -2,10 +2,10 @@
 use Rattle.std.specs.Prelude.{[], All, Contains, IsSome, List, Ok, Result, Some, length, map, take, ◌++◌, ◌∷◌, ◌≡◌, ◌+◌, ℕ}
 use Rattle.fw_package.specs.Choice.{component_at, plan_of, record_number}
 use Rattle.fw_package.specs.Package.{PackageText}
-use Rattle.fwup_wire.specs.Values.{AnswerOf, CommandOf, DescriptorOf}
+use Rattle.fwup_wire.specs.Values.{AnswerOf, CommandOf, DeviceDescriptorOf}
 use Rattle.fwup_wire.specs.declared.answer.Malformed.{Malformed}
 use Rattle.ua_core.specs.Learn.{agent_learn}
-use Rattle.ua_core.specs.Lent.{key_of, told_descriptor}
+use Rattle.ua_core.specs.Lent.{key_of, package_descriptor}
 use Rattle.ua_core.specs.Serve.{agent_after, agent_answer, agent_idle, record_of, recorded_by, window}
 use Rattle.ua_core.specs.Session.{JobOf, SessionOf, Stage, TaskOf}
 use Rattle.ua_core.specs.Wish.{agent_wish}
@@ -27,53 +27,53 @@ abbrev pub IsTask : PackageText → TaskOf → Type 0
 IsTask p t = IsPlanned p t.job × IsOfPlan t.job t.at_hand × All (IsOfPlan t.job) t.todo
 
 -- what holds at each stage
-abbrev pub StandsInPlan : PackageText → Stage → Type 0
-StandsInPlan p (Stage.Params j) = IsPlanned p j
-StandsInPlan p (Stage.ClearOld j) = IsPlanned p j
-StandsInPlan p (Stage.Request j) = IsPlanned p j
-StandsInPlan p (Stage.Pass j i left todo) = IsPlanned p j × IsOfPlan j i × All (IsOfPlan j) left × All (IsOfPlan j) todo
-StandsInPlan p (Stage.Update t) = IsTask p t
-StandsInPlan p (Stage.Download t) = IsTask p t
-StandsInPlan p (Stage.Verify t) = IsTask p t
-StandsInPlan p (Stage.Apply t) = IsTask p t
-StandsInPlan p (Stage.AllApplied j) = IsPlanned p j
-StandsInPlan p (Stage.Activate j) = IsPlanned p j
-StandsInPlan p _ = Unit {0}
+abbrev pub IsStageInPlan : PackageText → Stage → Type 0
+IsStageInPlan p (Stage.Params j) = IsPlanned p j
+IsStageInPlan p (Stage.ClearOld j) = IsPlanned p j
+IsStageInPlan p (Stage.Request j) = IsPlanned p j
+IsStageInPlan p (Stage.Pass j i left todo) = IsPlanned p j × IsOfPlan j i × All (IsOfPlan j) left × All (IsOfPlan j) todo
+IsStageInPlan p (Stage.Update t) = IsTask p t
+IsStageInPlan p (Stage.Download t) = IsTask p t
+IsStageInPlan p (Stage.Verify t) = IsTask p t
+IsStageInPlan p (Stage.Apply t) = IsTask p t
+IsStageInPlan p (Stage.AllApplied j) = IsPlanned p j
+IsStageInPlan p (Stage.Activate j) = IsPlanned p j
+IsStageInPlan p _ = Unit {0}
 
 -- a device's command keeps the session in the plan
 abbrev pub ServesInPlan : Type 0
-ServesInPlan = (p : PackageText) (s : SessionOf) (c : CommandOf) → StandsInPlan p s.stage → StandsInPlan p (agent_after p s c).stage
+ServesInPlan = (p : PackageText) (s : SessionOf) (c : CommandOf) → IsStageInPlan p s.stage → IsStageInPlan p (agent_after p s c).stage
 
 -- and so does an answer
 abbrev pub LearnsInPlan : Type 0
-LearnsInPlan = (p : PackageText) (s : SessionOf) (a : Result AnswerOf Malformed) → StandsInPlan p s.stage → StandsInPlan p (agent_learn p s a).stage
+LearnsInPlan = (p : PackageText) (s : SessionOf) (a : Result AnswerOf Malformed) → IsStageInPlan p s.stage → IsStageInPlan p (agent_learn p s a).stage
 
 -- the record that the device's descriptors choose is the job's
-abbrev pub HasChosen : PackageText → List DescriptorOf → Stage → Type 0
-HasChosen p ds (Stage.Params j) = record_number p (map told_descriptor ds) ≡ Some j.chosen
+abbrev pub HasChosen : PackageText → List DeviceDescriptorOf → Stage → Type 0
+HasChosen p ds (Stage.Params j) = record_number p (map package_descriptor ds) ≡ Some j.chosen
 HasChosen p ds _ = Unit {0}
 
 abbrev pub ChoosesRecord : Type 0
-ChoosesRecord = (p : PackageText) (s : SessionOf) (ds : List DescriptorOf) → s.stage ≡ Stage.Query
+ChoosesRecord = (p : PackageText) (s : SessionOf) (ds : List DeviceDescriptorOf) → s.stage ≡ Stage.Query
     → HasChosen p ds (agent_learn p s (Ok (AnswerOf.QueryDeviceIdentifiers ds))).stage
 
 -- two components of a plan with the same key are one
-abbrev pub PlansKeysOnce : Type 0
-PlansKeysOnce = (p : PackageText) (j : JobOf) (n m : ℕ) → IsPlanned p j → Contains (map number_of j.plan) n → Contains (map number_of j.plan) m
+abbrev pub PlanHasKeysOnce : Type 0
+PlanHasKeysOnce = (p : PackageText) (j : JobOf) (n m : ℕ) → IsPlanned p j → Contains (map number_of j.plan) n → Contains (map number_of j.plan) m
     → key_of (component_at p n) ≡ key_of (component_at p m) → n ≡ m
 
 -- a stage that waits for nothing of the update's own
-abbrev pub IsLoose : Stage → Type 0
-IsLoose Stage.Idle = Unit {0}
-IsLoose Stage.Query = Unit {0}
-IsLoose Stage.Done = Unit {0}
-IsLoose Stage.Cancelling = Unit {0}
-IsLoose (Stage.Failed _) = Unit {0}
-IsLoose _ = ⊥
+abbrev pub IsOutsideUpdate : Stage → Type 0
+IsOutsideUpdate Stage.Idle = Unit {0}
+IsOutsideUpdate Stage.Query = Unit {0}
+IsOutsideUpdate Stage.Done = Unit {0}
+IsOutsideUpdate Stage.Cancelling = Unit {0}
+IsOutsideUpdate (Stage.Failed _) = Unit {0}
+IsOutsideUpdate _ = ⊥
 
 -- a command that leads to such a stage makes no record
-abbrev pub LooseRecordsNothing : Type 0
-LooseRecordsNothing = (p : PackageText) (s : SessionOf) (c : CommandOf) → IsLoose (agent_after p s c).stage → (agent_after p s c).records ≡ s.records
+abbrev pub OutsideUpdateRecordsNothing : Type 0
+OutsideUpdateRecordsNothing = (p : PackageText) (s : SessionOf) (c : CommandOf) → IsOutsideUpdate (agent_after p s c).stage → (agent_after p s c).records ≡ s.records
 
 -- the records grow by what is recorded
 abbrev pub RecordsGrow : Type 0
@@ -121,20 +121,20 @@ abbrev pub WishStands : Type 0
 WishStands = (p : PackageText) (s : SessionOf) (c : CommandOf) → IsSome (agent_wish p s) → agent_after p s c ≡ s
 
 -- a command that is answered by a code alone, with which the session refuses it
-abbrev pub IsRefused : PackageText → SessionOf → CommandOf → ℕ → Type 0
-IsRefused p s c code = agent_answer p s c ≡ AnswerOf.Refused code
+abbrev pub IsRefusedByAgent : PackageText → SessionOf → CommandOf → ℕ → Type 0
+IsRefusedByAgent p s c code = agent_answer p s c ≡ AnswerOf.Refused code
 
 -- a command that is refused leaves the session as it is
 abbrev pub RefusalsKeepTheSession : Type 0
-RefusalsKeepTheSession = (p : PackageText) (s : SessionOf) (c : CommandOf) (code : ℕ) → IsRefused p s c code → agent_after p s c ≡ s
+RefusalsKeepTheSession = (p : PackageText) (s : SessionOf) (c : CommandOf) (code : ℕ) → IsRefusedByAgent p s c code → agent_after p s c ≡ s
 
 -- it records nothing
 abbrev pub RefusalsRecordNothing : Type 0
-RefusalsRecordNothing = (p : PackageText) (s : SessionOf) (c : CommandOf) (code : ℕ) → IsRefused p s c code → recorded_by p s c ≡ []
+RefusalsRecordNothing = (p : PackageText) (s : SessionOf) (c : CommandOf) (code : ℕ) → IsRefusedByAgent p s c code → recorded_by p s c ≡ []
 
 -- and the ticks for which nothing moved go on
-abbrev pub RefusalsStirNothing : Type 0
-RefusalsStirNothing = (p : PackageText) (s : SessionOf) (idle : ℕ) (c : CommandOf) (code : ℕ) → IsRefused p s c code
+abbrev pub RefusalsKeepSessionIdle : Type 0
+RefusalsKeepSessionIdle = (p : PackageText) (s : SessionOf) (idle : ℕ) (c : CommandOf) (code : ℕ) → IsRefusedByAgent p s c code
     → agent_idle p s idle c ≡ idle
 
 -- pieces put behind each other continue the image: what stands past its end is cut off

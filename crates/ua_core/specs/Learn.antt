@@ -3,22 +3,22 @@ use Rattle.std.specs.Prelude.{Bool, Err, List, None, Ok, Option, Result, Some, [
 use Rattle.fw_package.specs.Choice.{component_at, plan_of, record_number}
 use Rattle.fw_package.specs.Package.{ComponentOf, PackageText}
 use Rattle.fw_package.specs.declared.fault.PlanFault.{PlanFault}
-use Rattle.fwup_wire.specs.Values.{AnswerOf, DescriptorOf, ParametersOf}
+use Rattle.fwup_wire.specs.Values.{AnswerOf, DeviceDescriptorOf, ParametersOf}
 use Rattle.fwup_wire.specs.declared.answer.Malformed.{Malformed}
 use Rattle.fwup_wire.specs.declared.values.Key.{Key}
-use Rattle.ua_core.specs.Lent.{is_forced, key_of, told_descriptor}
+use Rattle.ua_core.specs.Lent.{is_forced, key_of, package_descriptor}
 use Rattle.ua_core.specs.Session.{JobOf, SessionOf, Stage, TaskOf, at_stage}
 use Rattle.ua_core.specs.declared.planned.Planned.{Planned}
 use Rattle.ua_core.specs.declared.state.Cause.{Cause}
 use Rattle.ua_core.specs.declared.state.Cause.TheVariants as causes
 
 -- what an answer does: nothing, as where the same command is asked again; or another stage, or another component
-pub data LearnRow : Type 0 where
-  Stay : LearnRow
-  Go : (g : Stage) → LearnRow
+pub data SessionLearnRow : Type 0 where
+  Stay : SessionLearnRow
+  Go : (g : Stage) → SessionLearnRow
 
-abbrev pub fails : Cause → LearnRow
-fails cause = LearnRow.Go (Stage.Failed cause)
+abbrev pub failure_row : Cause → SessionLearnRow
+failure_row cause = SessionLearnRow.Go (Stage.Failed cause)
 
 -- a component of a plan, before the device told of its own
 abbrev pub unlearnt : ℕ → Planned
@@ -34,16 +34,16 @@ abbrev pub job_of : PackageText → Option ℕ → Result JobOf Cause
 job_of p None = Err causes.NoRecord
 job_of p (Some number) = planned number (plan_of p number)
 
-abbrev pub job_for : PackageText → List DescriptorOf → Result JobOf Cause
-job_for p ds = job_of p (record_number p (map told_descriptor ds))
+abbrev pub job_for : PackageText → List DeviceDescriptorOf → Result JobOf Cause
+job_for p ds = job_of p (record_number p (map package_descriptor ds))
 
-abbrev pub begun : Result JobOf Cause → Stage
-begun (Err cause) = Stage.Failed cause
-begun (Ok j) = Stage.Params j
+abbrev pub first_stage : Result JobOf Cause → Stage
+first_stage (Err cause) = Stage.Failed cause
+first_stage (Ok j) = Stage.Params j
 
-abbrev pub query_row : PackageText → Result AnswerOf Malformed → LearnRow
-query_row p (Ok (AnswerOf.QueryDeviceIdentifiers ds)) = LearnRow.Go (begun (job_for p ds))
-query_row p a = fails causes.Answer
+abbrev pub query_row : PackageText → Result AnswerOf Malformed → SessionLearnRow
+query_row p (Ok (AnswerOf.QueryDeviceIdentifiers ds)) = SessionLearnRow.Go (first_stage (job_for p ds))
+query_row p a = failure_row causes.Answer
 
 -- Params: the index of each component in the device, 0 where the device doesn't name it
 abbrev pub same_key : Key → Key → Bool
@@ -56,26 +56,26 @@ index_of (device ∷ devices) key = if same_key device.key key then device.index
 abbrev pub with_index : PackageText → List ParametersOf → Planned → Planned
 with_index p devices i = record { component = i.component; index = index_of devices (key_of (component_at p i.component)) }
 
-abbrev pub params_row : PackageText → JobOf → Result AnswerOf Malformed → LearnRow
+abbrev pub params_row : PackageText → JobOf → Result AnswerOf Malformed → SessionLearnRow
 params_row p j (Ok (AnswerOf.GetFirmwareParameters devices)) =
-    LearnRow.Go (Stage.ClearOld (record { chosen = j.chosen; plan = map (with_index p devices) j.plan }))
-params_row p j a = fails causes.Answer
+    SessionLearnRow.Go (Stage.ClearOld (record { chosen = j.chosen; plan = map (with_index p devices) j.plan }))
+params_row p j a = failure_row causes.Answer
 
 -- ClearOld: there was an update to end, or none
-abbrev pub clear_row : JobOf → Result AnswerOf Malformed → LearnRow
-clear_row j (Ok AnswerOf.CancelUpdate) = LearnRow.Go (Stage.Request j)
-clear_row j (Ok (AnswerOf.Refused code)) = if code == 0x80 then LearnRow.Go (Stage.Request j) else fails causes.Answer
-clear_row j a = fails causes.Answer
+abbrev pub clear_row : JobOf → Result AnswerOf Malformed → SessionLearnRow
+clear_row j (Ok AnswerOf.CancelUpdate) = SessionLearnRow.Go (Stage.Request j)
+clear_row j (Ok (AnswerOf.Refused code)) = if code == 0x80 then SessionLearnRow.Go (Stage.Request j) else failure_row causes.Answer
+clear_row j a = failure_row causes.Answer
 
 -- Request: the first component is next. A device that isn't ready is asked again
 abbrev pub first_pass : JobOf → List Planned → Stage
 first_pass j [] = Stage.Failed causes.NothingToUpdate
 first_pass j (i ∷ is) = Stage.Pass j i is []
 
-abbrev pub request_row : JobOf → Result AnswerOf Malformed → LearnRow
-request_row j (Ok AnswerOf.RequestUpdate) = LearnRow.Go (first_pass j j.plan)
-request_row j (Ok (AnswerOf.Refused code)) = if code == 4 then LearnRow.Stay else fails causes.Answer
-request_row j a = fails causes.Answer
+abbrev pub request_row : JobOf → Result AnswerOf Malformed → SessionLearnRow
+request_row j (Ok AnswerOf.RequestUpdate) = SessionLearnRow.Go (first_pass j j.plan)
+request_row j (Ok (AnswerOf.Refused code)) = if code == 4 then SessionLearnRow.Stay else failure_row causes.Answer
+request_row j a = failure_row causes.Answer
 
 -- Pass: the next component; after the last, the update of the first that is to be done. To do are those that can be updated,
 -- and those that only their comparison stamp speaks against (codes 1 and 2) and whose update is forced.
@@ -93,26 +93,26 @@ next_pass j (i ∷ is) todo = Stage.Pass j i is todo
 abbrev pub with_passed : ComponentOf → ℕ → Planned → List Planned → List Planned
 with_passed c code i todo = if is_to_do c code then todo ++ i ∷ [] else todo
 
-abbrev pub pass_row : PackageText → JobOf → Planned → List Planned → List Planned → Result AnswerOf Malformed → LearnRow
+abbrev pub pass_row : PackageText → JobOf → Planned → List Planned → List Planned → Result AnswerOf Malformed → SessionLearnRow
 pass_row p j i left todo (Ok (AnswerOf.PassComponentTable response)) =
-    LearnRow.Go (next_pass j left (with_passed (component_at p i.component) response.code i todo))
-pass_row p j i left todo a = fails causes.Answer
+    SessionLearnRow.Go (next_pass j left (with_passed (component_at p i.component) response.code i todo))
+pass_row p j i left todo a = failure_row causes.Answer
 
 -- Update: the device takes the component or refuses it. One that isn't ready, or still ends what went before, is asked again
-abbrev pub update_row : TaskOf → Result AnswerOf Malformed → LearnRow
+abbrev pub update_row : TaskOf → Result AnswerOf Malformed → SessionLearnRow
 update_row t (Ok (AnswerOf.UpdateComponent response)) =
-    if response.compatibility == 0 then LearnRow.Go (Stage.Download t) else fails causes.Refused
-update_row t (Ok (AnswerOf.Refused code)) = if (code == 4) || (code == 0x84) then LearnRow.Stay else fails causes.Answer
-update_row t a = fails causes.Answer
+    if response.compatibility == 0 then SessionLearnRow.Go (Stage.Download t) else failure_row causes.Refused
+update_row t (Ok (AnswerOf.Refused code)) = if (code == 4) || (code == 0x84) then SessionLearnRow.Stay else failure_row causes.Answer
+update_row t a = failure_row causes.Answer
 
 -- Activate: a device that still ends what went before is asked again
-abbrev pub activate_row : Result AnswerOf Malformed → LearnRow
-activate_row (Ok (AnswerOf.ActivateFirmware _)) = LearnRow.Go Stage.Done
-activate_row (Ok (AnswerOf.Refused code)) = if code == 0x84 then LearnRow.Stay else fails causes.Answer
-activate_row a = fails causes.Answer
+abbrev pub activate_row : Result AnswerOf Malformed → SessionLearnRow
+activate_row (Ok (AnswerOf.ActivateFirmware _)) = SessionLearnRow.Go Stage.Done
+activate_row (Ok (AnswerOf.Refused code)) = if code == 0x84 then SessionLearnRow.Stay else failure_row causes.Answer
+activate_row a = failure_row causes.Answer
 
 -- the row of each stage. Where nothing was wished, nothing is learnt
-abbrev pub learn_row : PackageText → Stage → Result AnswerOf Malformed → LearnRow
+abbrev pub learn_row : PackageText → Stage → Result AnswerOf Malformed → SessionLearnRow
 learn_row p Stage.Query a = query_row p a
 learn_row p (Stage.Params j) a = params_row p j a
 learn_row p (Stage.ClearOld j) a = clear_row j a
@@ -120,21 +120,21 @@ learn_row p (Stage.Request j) a = request_row j a
 learn_row p (Stage.Pass j i left todo) a = pass_row p j i left todo a
 learn_row p (Stage.Update t) a = update_row t a
 learn_row p (Stage.Activate _) a = activate_row a
-learn_row p Stage.Cancelling a = LearnRow.Go Stage.Idle
-learn_row p _ a = LearnRow.Stay
+learn_row p Stage.Cancelling a = SessionLearnRow.Go Stage.Idle
+learn_row p _ a = SessionLearnRow.Stay
 
 -- what a row does
-abbrev pub learn_by : SessionOf → LearnRow → SessionOf
-learn_by s LearnRow.Stay = s
-learn_by s (LearnRow.Go g) = at_stage s g
+abbrev pub learn_by : SessionOf → SessionLearnRow → SessionOf
+learn_by s SessionLearnRow.Stay = s
+learn_by s (SessionLearnRow.Go g) = at_stage s g
 
 abbrev pub agent_learn : PackageText → SessionOf → Result AnswerOf Malformed → SessionOf
 agent_learn p s a = learn_by s (learn_row p s.stage a)
 
 -- and with the ticks for which nothing moved
-abbrev pub idle_by : ℕ → LearnRow → ℕ
-idle_by idle LearnRow.Stay = idle
-idle_by idle (LearnRow.Go _) = 0
+abbrev pub idle_by : ℕ → SessionLearnRow → ℕ
+idle_by idle SessionLearnRow.Stay = idle
+idle_by idle (SessionLearnRow.Go _) = 0
 
 abbrev pub learn_idle : PackageText → SessionOf → ℕ → Result AnswerOf Malformed → ℕ
 learn_idle p s idle a = idle_by idle (learn_row p s.stage a)

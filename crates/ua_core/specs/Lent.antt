@@ -3,7 +3,7 @@ use Rattle.std.specs.Prelude.{Bool, List, None, Option, Some, [], if◌then◌el
 use Rattle.std.specs.Borrow.{Bor}
 use Rattle.fw_package.specs.Package.{ComponentOf, PackageText}
 use Rattle.fw_package.specs.Package.{DescriptorOf as DescriptorKnown, TextOf as TextKept}
-use Rattle.fwup_wire.specs.Values.{DescriptorOf, TextOf, VersionOf}
+use Rattle.fwup_wire.specs.Values.{DeviceDescriptorOf, TypedTextOf, VersionOf}
 use Rattle.fwup_wire.specs.declared.values.Key.{Key}
 
 -- the package that stands for none
@@ -11,9 +11,9 @@ abbrev pub no_package : PackageText
 no_package = record { header_size = 0; records = []; components = [] }
 
 -- the package that is lent, if one is
-abbrev pub lent : Option (Bor PackageText) → PackageText
-lent None = no_package
-lent (Some p) = p.now
+abbrev pub borrowed_package : Option (Bor PackageText) → PackageText
+borrowed_package None = no_package
+borrowed_package (Some p) = p.now
 
 -- the package of this number, from 1 on
 abbrev pub package_at : List PackageText → ℕ → PackageText
@@ -37,7 +37,7 @@ abbrev pub sent_size : ComponentOf → ℕ
 sent_size c = if nat_lt 0xFFFFFFFF (length c.image) then 0xFFFFFFFF else length c.image
 
 -- A text as it is sent: what a message carries of it. No planned text is longer.
-abbrev pub sent_text : TextKept → TextOf
+abbrev pub sent_text : TextKept → TypedTextOf
 sent_text t = record { text_type = t.kind; bytes = take 200 t.bytes }
 
 -- what the component's new image calls itself
@@ -49,5 +49,5 @@ abbrev pub key_of : ComponentOf → Key
 key_of c = record { classification = c.classification; identifier = c.identifier }
 
 -- a device's descriptor, as a package is asked for it
-abbrev pub told_descriptor : DescriptorOf → DescriptorKnown
-told_descriptor d = record { kind = d.kind; bytes = d.bytes }
+abbrev pub package_descriptor : DeviceDescriptorOf → DescriptorKnown
+package_descriptor d = record { kind = d.kind; bytes = d.bytes }

@@ -24,16 +24,16 @@ pub data ServeRow : Type 0 where
   Record : (t : TaskOf) → ServeRow
 
 -- a code alone, and nothing changes
-abbrev pub refuses : ℕ → ServeRow
-refuses code = ServeRow.Say (AnswerOf.Refused code)
+abbrev pub refusal_row : ℕ → ServeRow
+refusal_row code = ServeRow.Say (AnswerOf.Refused code)
 
 -- the agent didn't expect the command: COMMAND_NOT_EXPECTED
-abbrev pub unexpected : ServeRow
-unexpected = refuses 0x88
+abbrev pub unexpected_row : ServeRow
+unexpected_row = refusal_row 0x88
 
 -- a good result that was taken before is told again; another is not expected
-abbrev pub told_again : ℕ → AnswerOf → ServeRow
-told_again result a = if result == 0 then ServeRow.Say a else unexpected
+abbrev pub repeated_result_row : ℕ → AnswerOf → ServeRow
+repeated_result_row result a = if result == 0 then ServeRow.Say a else unexpected_row
 
 -- a piece of so many bytes is too short or too long to be served
 abbrev pub is_bad_length : «Unit» → ℕ → Bool
@@ -47,36 +47,36 @@ is_past_end image offset size = nat_lt (length image + MIN_TRANSFER) (offset + s
 -- DATA_OUT_OF_RANGE)
 abbrev pub data_of : «Unit» → List ℕ → ℕ → ℕ → ServeRow
 data_of unit image offset size =
-    if is_bad_length unit size then refuses 0x83
-    else if is_past_end image offset size then refuses 0x82
+    if is_bad_length unit size then refusal_row 0x83
+    else if is_past_end image offset size then refusal_row 0x82
     else ServeRow.Give (window image offset size)
 
 -- while the device's answer to UpdateComponent is awaited, data are to be asked for again: RETRY_REQUEST_FW_DATA
 abbrev pub data_row : «Unit» → PackageText → Stage → ℕ → ℕ → ServeRow
-data_row unit p (Stage.Update _) offset size = refuses 0x89
+data_row unit p (Stage.Update _) offset size = refusal_row 0x89
 data_row unit p (Stage.Download t) offset size = data_of unit (component_at p t.at_hand.component).image offset size
-data_row unit p _ offset size = unexpected
+data_row unit p _ offset size = unexpected_row
 
 abbrev pub transfer_row : Stage → ℕ → ServeRow
 transfer_row (Stage.Download t) result =
     ServeRow.Move (if result == 0 then Stage.Verify t else Stage.Failed causes.Transfer) AnswerOf.TransferComplete
-transfer_row (Stage.Verify _) result = told_again result AnswerOf.TransferComplete
-transfer_row _ result = unexpected
+transfer_row (Stage.Verify _) result = repeated_result_row result AnswerOf.TransferComplete
+transfer_row _ result = unexpected_row
 
 abbrev pub verify_row : Stage → ℕ → ServeRow
 verify_row (Stage.Verify t) result =
     ServeRow.Move (if result == 0 then Stage.Apply t else Stage.Failed causes.Verify) AnswerOf.VerifyComplete
-verify_row (Stage.Apply _) result = told_again result AnswerOf.VerifyComplete
-verify_row _ result = unexpected
+verify_row (Stage.Apply _) result = repeated_result_row result AnswerOf.VerifyComplete
+verify_row _ result = unexpected_row
 
 abbrev pub apply_row : Stage → ℕ → ServeRow
 apply_row (Stage.Update t) result =
-    if (result == 0) && nat_lt 0 t.made then ServeRow.Say AnswerOf.ApplyComplete else unexpected
+    if (result == 0) && nat_lt 0 t.made then ServeRow.Say AnswerOf.ApplyComplete else unexpected_row
 apply_row (Stage.Apply t) result =
     if result == 0 then ServeRow.Record t else ServeRow.Move (Stage.Failed causes.Apply) AnswerOf.ApplyComplete
-apply_row (Stage.AllApplied _) result = told_again result AnswerOf.ApplyComplete
-apply_row (Stage.Activate _) result = told_again result AnswerOf.ApplyComplete
-apply_row _ result = unexpected
+apply_row (Stage.AllApplied _) result = repeated_result_row result AnswerOf.ApplyComplete
+apply_row (Stage.Activate _) result = repeated_result_row result AnswerOf.ApplyComplete
+apply_row _ result = unexpected_row
 
 -- the row of each command. A device's other commands are none to the agent: ERROR_UNSUPPORTED_PLDM_CMD
 abbrev pub serve_row : «Unit» → PackageText → Stage → CommandOf → ServeRow
@@ -84,7 +84,7 @@ serve_row unit p g (CommandOf.RequestFirmwareData offset size) = data_row unit p
 serve_row unit p g (CommandOf.TransferComplete result) = transfer_row g result
 serve_row unit p g (CommandOf.VerifyComplete result) = verify_row g result
 serve_row unit p g (CommandOf.ApplyComplete result _) = apply_row g result
-serve_row unit p g _ = refuses 5
+serve_row unit p g _ = refusal_row 5
 
 -- the next component, or none
 abbrev pub task_after : TaskOf → List Planned → Stage

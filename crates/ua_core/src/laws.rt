@@ -1,6 +1,6 @@
 //! What holds of every session, whatever the device says.
 
-ghost use Rattle.ua_core.specs.Laws.{AppliesAll, ChoosesRecord, LearnsAllAppliedNowhere, LearnsInPlan, LearnsNoRecord, LooseRecordsNothing, PlansKeysOnce, RecordsGoodApply, RecordsGrow, RecordsInApply, RefusalsKeepTheSession, RefusalsRecordNothing, RefusalsStirNothing, ServesInPlan, WindowContinues, WishStands};
+ghost use Rattle.ua_core.specs.Laws.{AppliesAll, ChoosesRecord, LearnsAllAppliedNowhere, LearnsInPlan, LearnsNoRecord, OutsideUpdateRecordsNothing, PlanHasKeysOnce, RecordsGoodApply, RecordsGrow, RecordsInApply, RefusalsKeepTheSession, RefusalsRecordNothing, RefusalsKeepSessionIdle, ServesInPlan, WindowContinues, WishStands};
 
 /// The records grow where the device applied the component at hand, by that component, and nowhere else; no answer adds one, and
 /// no command that leads to Idle, Query, Done, Cancelling or Failed.
@@ -8,7 +8,7 @@ pub fn records_what_is_applied()
     ensures grow { RecordsGrow }
     ensures applying { RecordsInApply }
     ensures applied { RecordsGoodApply }
-    ensures loose { LooseRecordsNothing }
+    ensures loose { OutsideUpdateRecordsNothing }
     ensures learnt { LearnsNoRecord }
 {}
 
@@ -28,7 +28,7 @@ pub fn wish_stands()
 pub fn refusals_change_nothing()
     ensures kept { RefusalsKeepTheSession }
     ensures recorded { RefusalsRecordNothing }
-    ensures idle { RefusalsStirNothing }
+    ensures idle { RefusalsKeepSessionIdle }
 {}
 
 /// The components at hand and to do are those that the package plans for the device, whose keys are different.
@@ -36,7 +36,7 @@ pub fn stays_in_plan()
     ensures serves { ServesInPlan }
     ensures learns { LearnsInPlan }
     ensures chosen { ChoosesRecord }
-    ensures keys { PlansKeysOnce }
+    ensures keys { PlanHasKeysOnce }
 {
     fw_package::plans_named_images();
 }

@@ -6,15 +6,15 @@ ghost use Rattle.std.specs.Result.{result_map_both};
 ghost use Rattle.fw_package.specs.Choice.{component_at, plan_of, record_at, record_number};
 ghost use Rattle.fw_package.specs.Lent.{component_seen};
 ghost use Rattle.fw_package.specs.Package.{descriptor_of, text_of as package_text_of};
-ghost use Rattle.fwup_wire.specs.Lent.{text_of, version_of};
+ghost use Rattle.fwup_wire.specs.Lent.{typed_text_of, version_of};
 ghost use Rattle.ua_core.specs.Learn.{job_for, planned};
-ghost use Rattle.ua_core.specs.Lent.{is_forced, key_of, no_package, package_at, sent_size, sent_text, sent_version, told_descriptor};
+ghost use Rattle.ua_core.specs.Lent.{is_forced, key_of, no_package, package_at, sent_size, sent_text, sent_version, package_descriptor};
 
-use crate::planned::Job;
+use crate::planned::UpdateJob;
 use crate::plans::unlearnt;
 use crate::state::Cause;
 use fw_package::{Component, Descriptor, Package};
-use fwup_wire::{Descriptors, Key, NO_STAMP, Text, Version};
+use fwup_wire::{DeviceDescriptors, Key, NO_STAMP, TypedText, Version};
 use std::marker::Model;
 
 /// The package that a session is lent, if there is one.
@@ -25,11 +25,11 @@ pub struct Lent<'a> {
 
 impl<'a> Model for Lent<'a> {
     ghost use Rattle.fw_package.specs.Package.{PackageText};
-    ghost use Rattle.ua_core.specs.Lent.{lent};
+    ghost use Rattle.ua_core.specs.Lent.{borrowed_package};
 
     ghost Value = { PackageText };
 
-    ghost view = { λ l. lent l.package };
+    ghost view = { λ l. borrowed_package l.package };
 }
 
 /// The most bytes of a text that a message carries. A plan has no longer one.
@@ -59,7 +59,7 @@ const NO_COMPONENT: Component<'static> = Component {
 };
 
 /// A text that isn't there.
-const NO_TEXT: Text<'static> = Text {
+const NO_TEXT: TypedText<'static> = TypedText {
     text_type: 0,
     bytes: &[],
 };
@@ -95,7 +95,7 @@ impl<'a> Lent<'a> {
     }
 
     /// The record for the device with these descriptors, and its components, or why there is nothing to send.
-    pub(crate) fn job_for(&self, descriptors: &Descriptors<'_>) -> Result<Job, Cause>
+    pub(crate) fn job_for(&self, descriptors: &DeviceDescriptors<'_>) -> Result<UpdateJob, Cause>
         ensures { result_map_both (λ j. record { chosen = j.chosen; plan = j.plan.items }) (λ e. e) result ≡ job_for self.now descriptors.now }
     {
         let Some(package) = self.package else {
@@ -132,8 +132,8 @@ impl<'a> Lent<'a> {
     }
 
     /// The set text of a record.
-    pub(crate) fn set_text(&self, number: usize) -> Text<'a>
-        ensures value { text_of result ≡ sent_text (record_at self.now number).set_text }
+    pub(crate) fn set_text(&self, number: usize) -> TypedText<'a>
+        ensures value { typed_text_of result ≡ sent_text (record_at self.now number).set_text }
         ensures short { length result.bytes.now ≤ TEXT_LIMIT }
     {
         match self.package {
@@ -146,8 +146,8 @@ impl<'a> Lent<'a> {
 }
 
 /// The number of the first record that is for the device with these descriptors.
-fn record_for(package: &Package<'_>, descriptors: &Descriptors<'_>) -> Option<usize>
-    ensures number { result ≡ record_number «package».now (map told_descriptor descriptors.now) }
+fn record_for(package: &Package<'_>, descriptors: &DeviceDescriptors<'_>) -> Option<usize>
+    ensures number { result ≡ record_number «package».now (map package_descriptor descriptors.now) }
     ensures there { IfSome result (λ n. n < length «package».now.records) }
 {
     let known = known(descriptors);
@@ -155,7 +155,7 @@ fn record_for(package: &Package<'_>, descriptors: &Descriptors<'_>) -> Option<us
 }
 
 /// The components of a record, if there are such that can be sent.
-fn planned(package: &Package<'_>, chosen: usize) -> Result<Job, Cause>
+fn planned(package: &Package<'_>, chosen: usize) -> Result<UpdateJob, Cause>
     requires { chosen < length «package».now.records }
     ensures { result_map_both (λ j. record { chosen = j.chosen; plan = j.plan.items }) (λ e. e) result ≡ planned chosen (plan_of «package».now chosen) }
 {
@@ -165,7 +165,7 @@ fn planned(package: &Package<'_>, chosen: usize) -> Result<Job, Cause>
     if plan.is_empty() {
         return Err(Cause::NothingToUpdate);
     }
-    Ok(Job {
+    Ok(UpdateJob {
         chosen,
         plan: unlearnt(plan.as_slice()),
     })
@@ -173,8 +173,8 @@ fn planned(package: &Package<'_>, chosen: usize) -> Result<Job, Cause>
 
 /// A device's descriptors, as a package is asked for them: they stand in front.
 #[tactic(auto, using(crate::proofs::Known::known_step))]
-fn known<'a>(descriptors: &Descriptors<'a>) -> [Descriptor<'a>; DESCRIPTOR_LIMIT]
-    ensures { map descriptor_of (take (length descriptors.now) result) ≡ map told_descriptor descriptors.now }
+fn known<'a>(descriptors: &DeviceDescriptors<'a>) -> [Descriptor<'a>; DESCRIPTOR_LIMIT]
+    ensures { map descriptor_of (take (length descriptors.now) result) ≡ map package_descriptor descriptors.now }
 {
     let mut known = [NO_DESCRIPTOR; DESCRIPTOR_LIMIT];
     let mut count = 0;
@@ -230,11 +230,11 @@ pub(crate) fn size(component: Component<'_>) -> u32
 
 /// A text of a package, as it is sent: no more than a message carries.
 #[tactic(auto, using(std::proofs::lemmas::List::take_min))]
-fn as_sent<'a>(text: fw_package::Text<'a>) -> Text<'a>
-    ensures value { text_of result ≡ sent_text (package_text_of text.entry) }
+fn as_sent<'a>(text: fw_package::Text<'a>) -> TypedText<'a>
+    ensures value { typed_text_of result ≡ sent_text (package_text_of text.entry) }
     ensures short { length result.bytes.now ≤ TEXT_LIMIT }
 {
-    Text {
+    TypedText {
         text_type: text.kind,
         bytes: &text.bytes[..TEXT_LIMIT.min(text.bytes.len())],
     }

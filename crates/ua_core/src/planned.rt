@@ -20,7 +20,7 @@ pub type PlannedList = ArrayVec<Planned, PLAN_LIMIT>;
 
 /// What is fixed once the device is known.
 #[derive(Drop)]
-pub struct Job {
+pub struct UpdateJob {
     /// The number of the package's record for the device.
     pub chosen: usize,
     /// The components to be sent.

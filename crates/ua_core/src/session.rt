@@ -6,7 +6,7 @@ ghost use Rattle.ua_core.specs.Session.{state_of};
 
 use crate::fault::{NotReady, StartFault};
 use crate::mark::Mark;
-use crate::planned::{Job, Planned, PlannedList, Recorded};
+use crate::planned::{Planned, PlannedList, Recorded, UpdateJob};
 use crate::position::{IDLE_LIMIT, Position};
 use crate::state::{Cause, SessionState};
 use fw_package::PLAN_LIMIT;
@@ -29,7 +29,7 @@ pub struct Session {
     /// The number of the package that the update was started with, from 1 on; 0 before the first start. It counts in each state.
     package: usize,
     /// The package's record for the device, and the components to be sent. It counts from PARAMS to ACTIVATE.
-    job: Job,
+    job: UpdateJob,
     /// The component that is being passed, or updated. It counts from PASS to APPLY.
     at_hand: Planned,
     /// Those that are still to be passed, behind the one at hand. They count in PASS.
@@ -45,7 +45,7 @@ pub struct Session {
 
 impl Model for Session {
     ghost use Rattle.std.specs.Prelude.{◌+◌, ◌<◌, ◌≤◌, length, vec_capacity};
-    ghost use Rattle.ua_core.specs.Kept.{HasRoom, stage_of};
+    ghost use Rattle.ua_core.specs.Kept.{HasRecordRoom, stage_of};
     ghost use Rattle.ua_core.specs.Session.{TimedOf};
 
     ghost Value = { TimedOf };
@@ -61,7 +61,7 @@ impl Model for Session {
     } };
 
     ghost invariant = { λ s. (s.position.idle < 240) × (length s.left.items + length s.todo.items ≤ 7)
-        × HasRoom s.position.state (length s.records.items) (length s.left.items + length s.todo.items) s.made (vec_capacity s.records) };
+        × HasRecordRoom s.position.state (length s.records.items) (length s.left.items + length s.todo.items) s.made (vec_capacity s.records) };
 }
 
 impl Session {
@@ -73,7 +73,7 @@ impl Session {
             unit,
             position: Position::new(SessionState::Idle),
             package: 0,
-            job: Job {
+            job: UpdateJob {
                 chosen: 0,
                 plan: PlannedList::new(),
             },

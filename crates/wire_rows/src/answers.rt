@@ -2,9 +2,9 @@
 
 use fwup_wire::code::{command, completion, response, text_type};
 use fwup_wire::{
-    Answer, ComponentParameters, Descriptor, DescriptorList, Descriptors, Key, MAX_TRANSFER,
-    MIN_TRANSFER, OfferResponse, ParameterList, Parameters, TableResponse, Text, Version,
-    read_answer, transfer_size, write_answer,
+    Answer, ComponentParameters, DescriptorList, DeviceDescriptor, DeviceDescriptors, Key,
+    MAX_TRANSFER, MIN_TRANSFER, OfferResponse, ParameterList, Parameters, TableResponse, TypedText,
+    Version, read_answer, transfer_size, write_answer,
 };
 use mctp_wire::Unit;
 
@@ -17,16 +17,16 @@ const TWO_DESCRIPTORS: [u8; 20] = [
 ];
 
 /// The two, read, each with the bytes of the list that it ends.
-static DESCRIPTORS_READ: [(Descriptor<'static>, &[u8]); 2] = [
+static DESCRIPTORS_READ: [(DeviceDescriptor<'static>, &[u8]); 2] = [
     (
-        Descriptor {
+        DeviceDescriptor {
             kind: 0,
             bytes: &[0x34, 0x12],
         },
         &ONE_DESCRIPTOR,
     ),
     (
-        Descriptor {
+        DeviceDescriptor {
             kind: 0x0201,
             bytes: &[0x78, 0x56, 0x34, 0x12],
         },
@@ -58,7 +58,7 @@ const THREE_COMPONENTS: [u8; 136] = [
 ];
 
 /// No text.
-const NO_TEXT: Text<'static> = Text {
+const NO_TEXT: TypedText<'static> = TypedText {
     text_type: text_type::UNKNOWN,
     bytes: &[],
 };
@@ -66,7 +66,7 @@ const NO_TEXT: Text<'static> = Text {
 /// The text `1.0` of stamp 1.
 const ONE: Version<'static> = Version {
     stamp: 1,
-    text: Text {
+    text: TypedText {
         text_type: text_type::ASCII,
         bytes: b"1.0",
     },
@@ -99,7 +99,7 @@ static PARAMETERS_READ: [(ComponentParameters<'static>, &[u8]); 3] = [
             active: ONE,
             pending: Version {
                 stamp: 2,
-                text: Text {
+                text: TypedText {
                     text_type: text_type::ASCII,
                     bytes: b"v2",
                 },
@@ -152,7 +152,7 @@ static WHOLE: [(u8, &[u8]); 15] = [
 ];
 
 /// Whether a list has this many entries, the first of those above.
-fn are_descriptors(told: &Descriptors<'_>, count: usize) -> bool {
+fn are_descriptors(told: &DeviceDescriptors<'_>, count: usize) -> bool {
     for (one, (other, _)) in told.iter().zip(&DESCRIPTORS_READ) {
         if one != *other {
             return false;

@@ -2,8 +2,8 @@
 
 use fwup_wire::code::text_type;
 use fwup_wire::{
-    Command, ComponentOffer, Key, TableEntry, Text, TransferFlag, UpdateRequest, Version, read,
-    write,
+    Command, ComponentOffer, Key, TableEntry, TransferFlag, TypedText, UpdateRequest, Version,
+    read, write,
 };
 use pldm_base::Reply;
 use pldm_base::completion::ERROR_INVALID_LENGTH;
@@ -13,7 +13,7 @@ const KEY: Key = Key {
     identifier: 1,
 };
 
-const TEXT: Text<'static> = Text {
+const TEXT: TypedText<'static> = TypedText {
     text_type: text_type::ASCII,
     bytes: b"v2",
 };
@@ -40,7 +40,7 @@ static ROWS: [Row<'static>; 15] = [
             components: 1,
             outstanding: 1,
             package_data_length: 0,
-            image_set: Text {
+            image_set: TypedText {
                 text_type: text_type::ASCII,
                 bytes: b"A",
             },
@@ -206,7 +206,7 @@ fn is_writable(size: usize) -> bool {
         components: 1,
         outstanding: 1,
         package_data_length: 0,
-        image_set: Text {
+        image_set: TypedText {
             text_type: text_type::ASCII,
             bytes: text.get(..size).unwrap_or(&[]),
         },

@@ -2,7 +2,7 @@
 
 use crate::tests::setup::{DEVICE, Small};
 use fw_script::report;
-use fw_world::{Entry, Event, Image, SentPackets};
+use fw_world::{Entry, HistoryEvent, Image, SentPackets};
 use std::alloc::{AllocError, Global};
 
 /// `report`: the proofs of the tests need nothing of its contract.
@@ -75,9 +75,11 @@ fn histories_alike(one: &Small<'_>, other: &Small<'_>) -> bool {
 fn entries_alike(one: &Entry<'_>, other: &Entry<'_>) -> bool {
     one.device == other.device
         && match (&one.event, &other.event) {
-            (Event::Applied(one), Event::Applied(other)) => images_alike(one, other),
-            (Event::Activated(one), Event::Activated(other)) => images_alike(one, other),
-            (Event::Recorded(one), Event::Recorded(other)) => {
+            (HistoryEvent::Applied(one), HistoryEvent::Applied(other)) => images_alike(one, other),
+            (HistoryEvent::Activated(one), HistoryEvent::Activated(other)) => images_alike(
+                one, other,
+            ),
+            (HistoryEvent::Recorded(one), HistoryEvent::Recorded(other)) => {
                 (one.package, one.component) == (other.package, other.component)
             }
             _ => false,

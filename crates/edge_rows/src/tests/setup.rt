@@ -10,12 +10,12 @@ ghost use Rattle.fw_steps.specs.Headline.{AreNewNodes, IsNewNode};
 
 use crate::tests::packages::is_image;
 use arrayvec::ArrayVec;
-use fd_core::{Bank, Component, Device, FailBank, Key, Label, MemBank, State};
+use fd_core::{Bank, BankComponent, Device, FailBank, Key, Label, MemBank, State};
 use fw_edge::{Driven, EdgeFault, Link, drive};
 use fw_node::DeviceNode;
 use fw_package::Package;
-use fw_world::{Event, Step, StepFault, World};
-use fwup_wire::{Descriptor, DescriptorList, Text, Version};
+use fw_world::{HistoryEvent, Step, StepFault, World};
+use fwup_wire::{DescriptorList, DeviceDescriptor, TypedText, Version};
 use mctp_ctl::Endpoint;
 use mctp_wire::Unit;
 use std::alloc::{AllocError, Global};
@@ -47,7 +47,7 @@ fn endpoint(eid: u8) -> Endpoint
 /// The worked device's descriptors: type 0, data 34 12.
 fn descriptors() -> DescriptorList {
     let mut descriptors = DescriptorList::new();
-    descriptors.push(&Descriptor {
+    descriptors.push(&DeviceDescriptor {
         kind: 0,
         bytes: &[0x34, 0x12],
     });
@@ -58,7 +58,7 @@ fn descriptors() -> DescriptorList {
 fn label() -> Label {
     Label::new(&Version {
         stamp: 1,
-        text: Text {
+        text: TypedText {
             text_type: 1,
             bytes: b"1.0",
         },
@@ -78,7 +78,7 @@ fn device(alloc: Global, unit: Unit, call: u64) -> Result<Device<FailBank>, Allo
         return Err(AllocError);
     };
     let mut components = ArrayVec::new();
-    components.push(Component { key: KEY, index: 0 });
+    components.push(BankComponent { key: KEY, index: 0 });
     let bank = FailBank::new(bank, call);
     Ok(Device::new(unit, descriptors(), components, bank))
 }
@@ -218,10 +218,10 @@ pub fn tells(world: &Small<'_>, story: &[u8]) -> bool {
 }
 
 /// The letter of what happened.
-fn letter_of(event: &Event<'_>) -> u8 {
+fn letter_of(event: &HistoryEvent<'_>) -> u8 {
     match event {
-        Event::Applied(_) => b'A',
-        Event::Recorded(_) => b'R',
-        Event::Activated(_) => b'V',
+        HistoryEvent::Applied(_) => b'A',
+        HistoryEvent::Recorded(_) => b'R',
+        HistoryEvent::Activated(_) => b'V',
     }
 }

@@ -6,7 +6,7 @@ use crate::device::setup::{
     device, follows, has_applied, label, number, offer, worked,
 };
 use arrayvec::ArrayVec;
-use fd_core::{Bank, BankFault, Component, Device, Key, MemBank};
+use fd_core::{Bank, BankComponent, BankFault, Device, Key, MemBank};
 use mctp_wire::Unit;
 use std::alloc::Global;
 
@@ -22,8 +22,8 @@ fn twofold(alloc: Global) -> Result<Device<MemBank>, BankFault> {
     bank.add(KEY, &label(1, b"1.0"), &[0xAA])?;
     bank.add(OTHER, &label(1, b"1.0"), &[0xBB])?;
     let mut components = ArrayVec::new();
-    components.push(Component { key: KEY, index: 0 });
-    components.push(Component {
+    components.push(BankComponent { key: KEY, index: 0 });
+    components.push(BankComponent {
         key: OTHER,
         index: 1,
     });
@@ -141,7 +141,8 @@ fn is_told(alloc: Global) -> bool {
     let Ok(mut device) = worked(alloc) else {
         return false;
     };
-    follows(&mut device, &TOLD) && device.keys() == [Component { key: KEY, index: 0 }].as_slice()
+    follows(&mut device, &TOLD)
+        && device.keys() == [BankComponent { key: KEY, index: 0 }].as_slice()
 }
 
 #[test]

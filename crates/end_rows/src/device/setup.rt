@@ -5,13 +5,15 @@ ghost use Rattle.fd_core.specs.Images.{key_of};
 
 use arrayvec::ArrayVec;
 use fd_core::{
-    Bank, BankFault, Component, Device, Key, Label, MAX_IMAGE, MemBank, Progress, Verdict,
+    Bank, BankComponent, BankFault, Device, Key, Label, MAX_IMAGE, MemBank, Progress, Verdict,
 };
 use fwup_wire::code::command::{
     ACTIVATE_FIRMWARE, APPLY_COMPLETE, GET_STATUS, PASS_COMPONENT_TABLE, REQUEST_UPDATE,
     TRANSFER_COMPLETE, UPDATE_COMPONENT, VERIFY_COMPLETE,
 };
-use fwup_wire::{Answer, Command, Descriptor, DescriptorList, MAX_TRANSFER, Text, Version, read};
+use fwup_wire::{
+    Answer, Command, DescriptorList, DeviceDescriptor, MAX_TRANSFER, TypedText, Version, read,
+};
 use mctp_wire::Unit;
 use pldm_base::Reply;
 use std::alloc::Global;
@@ -95,7 +97,7 @@ pub fn offer(stamp: u32, size: u32, force: bool) -> [u8; 21] {
 /// The worked device's descriptors: type 0, data 34 12.
 pub fn descriptors() -> DescriptorList {
     let mut descriptors = DescriptorList::new();
-    descriptors.push(&Descriptor {
+    descriptors.push(&DeviceDescriptor {
         kind: 0,
         bytes: &[0x34, 0x12],
     });
@@ -106,7 +108,7 @@ pub fn descriptors() -> DescriptorList {
 pub fn label(stamp: u32, text: &[u8]) -> Label {
     Label::new(&Version {
         stamp,
-        text: Text {
+        text: TypedText {
             text_type: 1,
             bytes: text,
         },
@@ -134,7 +136,7 @@ fn device_at<B: Bank>(unit: Unit, bank: B) -> Device<B>
     requires { map key_of (B.rows bank) ≡ KEY ∷ [] }
 {
     let mut components = ArrayVec::new();
-    components.push(Component { key: KEY, index: 0 });
+    components.push(BankComponent { key: KEY, index: 0 });
     Device::new(unit, descriptors(), components, bank)
 }
 

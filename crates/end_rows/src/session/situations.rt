@@ -3,7 +3,7 @@
 use crate::session::packages::{Draft, Item};
 use fwup_wire::code::command::GET_FIRMWARE_PARAMETERS;
 use fwup_wire::{
-    Answer, Command, Descriptor, DescriptorList, OfferResponse, TableResponse, read_answer,
+    Answer, Command, DescriptorList, DeviceDescriptor, OfferResponse, TableResponse, read_answer,
 };
 use mctp_wire::Unit;
 use std::alloc::Global;
@@ -47,11 +47,11 @@ pub fn learn(session: &mut Session, answer: &Answer<'_>, lent: &Lent<'_>) {
 /// The session learns the descriptor 0000 with data 34 12, and another.
 pub fn learn_descriptors(session: &mut Session, lent: &Lent<'_>, bytes: &[u8; 2]) {
     let mut list = DescriptorList::new();
-    list.push(&Descriptor {
+    list.push(&DeviceDescriptor {
         kind: 1,
         bytes: &[7],
     });
-    list.push(&Descriptor { kind: 0, bytes });
+    list.push(&DeviceDescriptor { kind: 0, bytes });
     learn(session, &Answer::QueryDeviceIdentifiers(list.lent()), lent);
 }
 

@@ -1,11 +1,11 @@
 //! How a device takes commands, one function a command.
 
 ghost use Rattle.std.specs.Prelude.{◌≡◌, ◌≤◌, true, false};
-ghost use Rattle.fd_core.specs.Banks.{Rose};
+ghost use Rattle.fd_core.specs.Banks.{CountsFailure};
 ghost use Rattle.fd_core.specs.Commands.{IsShort, IsTaken, answer_works, cancel_take, declined as offer_declined, may_activate, offer_take, request_take, return_take, switch_take, table_take, taken_up as offer_taken_up};
 ghost use Rattle.fwup_wire.specs.Answers.{IsAnswerWritable};
 ghost use Rattle.fwup_wire.specs.Values.{AnswerOf};
-ghost use Rattle.fwup_wire.specs.Lent.{answer_of, entry_of, offer_of, request_of};
+ghost use Rattle.fwup_wire.specs.Lent.{answer_of, table_entry_of, offer_of, update_request_of};
 
 use crate::bank::Bank;
 use crate::device::Device;
@@ -33,7 +33,7 @@ impl<B: Bank> Device<B> {
         request: &UpdateRequest<'_>,
         quiet: bool,
     ) -> Answer<'static>
-        ensures taken { IsTaken self.old self.new (answer_of result) (request_take self.old.device (request_of request.now) quiet) }
+        ensures taken { IsTaken self.old self.new (answer_of result) (request_take self.old.device (update_request_of request.now) quiet) }
         ensures faults { self.new.faults ≡ self.old.faults }
         ensures writable { IsAnswerWritable (answer_of result) }
         ensures short { IsShort (answer_of result) }
@@ -62,7 +62,7 @@ impl<B: Bank> Device<B> {
 
     /// PassComponentTable.
     pub(super) fn pass_component_table(&mut self, entry: &TableEntry<'_>) -> Answer<'static>
-        ensures taken { IsTaken self.old self.new (answer_of result) (table_take self.old.device (entry_of entry.now)) }
+        ensures taken { IsTaken self.old self.new (answer_of result) (table_take self.old.device (table_entry_of entry.now)) }
         ensures faults { self.new.faults ≡ self.old.faults }
         ensures writable { IsAnswerWritable (answer_of result) }
         ensures short { IsShort (answer_of result) }
@@ -103,7 +103,7 @@ impl<B: Bank> Device<B> {
     ) -> Answer<'static>
         ensures taken { IsTaken self.old self.new (answer_of result) (offer_take self.old.device (offer_of offer.now) quiet (answer_works (answer_of result))) }
         ensures worked { answer_works (answer_of result) ≡ true → self.new.faults ≡ self.old.faults }
-        ensures failed { answer_works (answer_of result) ≡ false → Rose self.old.faults self.new.faults }
+        ensures failed { answer_works (answer_of result) ≡ false → CountsFailure self.old.faults self.new.faults }
         ensures writable { IsAnswerWritable (answer_of result) }
         ensures short { IsShort (answer_of result) }
     {
@@ -154,7 +154,7 @@ impl<B: Bank> Device<B> {
     pub(super) fn activate_firmware(&mut self) -> Answer<'static>
         ensures taken { IsTaken self.old self.new (answer_of result) (switch_take self.old.device (answer_works (answer_of result))) }
         ensures worked { answer_works (answer_of result) ≡ true → self.new.faults ≡ self.old.faults }
-        ensures failed { answer_works (answer_of result) ≡ false → Rose self.old.faults self.new.faults }
+        ensures failed { answer_works (answer_of result) ≡ false → CountsFailure self.old.faults self.new.faults }
         ensures writable { IsAnswerWritable (answer_of result) }
         ensures short { IsShort (answer_of result) }
     {

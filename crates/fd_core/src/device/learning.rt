@@ -4,7 +4,7 @@ ghost use Rattle.std.specs.Prelude.{◌≡◌, Some, false, not, option_map, tru
 ghost use Rattle.fd_core.specs.States.{progress_of};
 ghost use Rattle.fd_core.specs.declared.states.Progress.TheVariants.{InProgress, Succeeded};
 ghost use Rattle.std.specs.Result.{result_ok};
-ghost use Rattle.fd_core.specs.Banks.{Rose};
+ghost use Rattle.fd_core.specs.Banks.{CountsFailure};
 ghost use Rattle.fd_core.specs.Wishes.{device_learn, has_failed, idle_learnt};
 ghost use Rattle.fwup_wire.specs.Lent.{answer_of};
 
@@ -23,7 +23,7 @@ impl<B: Bank> Device<B> {
         ensures idle { self.new.idle ≡ idle_learnt self.old.idle self.old.device (option_map (λ a. answer_of a.now) (result_ok answer.entry)) (not (has_failed self.new.device.phase)) }
         ensures again { has_failed self.old.device.phase ≡ true → self.new.faults ≡ self.old.faults }
         ensures worked { has_failed self.new.device.phase ≡ false → self.new.faults ≡ self.old.faults }
-        ensures failed { has_failed self.old.device.phase ≡ false → has_failed self.new.device.phase ≡ true → Rose self.old.faults self.new.faults }
+        ensures failed { has_failed self.old.device.phase ≡ false → has_failed self.new.device.phase ≡ true → CountsFailure self.old.faults self.new.faults }
     {
         match self.course.state {
             State::Download | State::Verify | State::Apply => {}
@@ -44,7 +44,7 @@ impl<B: Bank> Device<B> {
         ensures after { self.new.device ≡ device_learn self.old.device (option_map (λ a. answer_of a.now) (result_ok answer.entry)) (not (has_failed self.new.device.phase)) }
         ensures idle { self.new.idle ≡ idle_learnt self.old.idle self.old.device (option_map (λ a. answer_of a.now) (result_ok answer.entry)) (not (has_failed self.new.device.phase)) }
         ensures worked { has_failed self.new.device.phase ≡ false → self.new.faults ≡ self.old.faults }
-        ensures failed { has_failed self.old.device.phase ≡ false → has_failed self.new.device.phase ≡ true → Rose self.old.faults self.new.faults }
+        ensures failed { has_failed self.old.device.phase ≡ false → has_failed self.new.device.phase ≡ true → CountsFailure self.old.faults self.new.faults }
     {
         let (State::Download, Ok(Answer::RequestFirmwareData(bytes))) = (self.course.state, answer)
         else {

@@ -10,10 +10,12 @@ ghost use Rattle.fwup_wire.specs.Lent.{version_of};
 use crate::bank::Bank;
 use crate::device::Device;
 use crate::labels::Label;
-use crate::parts::Component;
+use crate::parts::BankComponent;
 use crate::states::{Progress, State};
 use fwup_wire::code::text_type;
-use fwup_wire::{ComponentParameters, Descriptors, ParameterList, Status, Text, Version};
+use fwup_wire::{
+    ComponentParameters, DeviceDescriptors, ParameterList, Status, TypedText, Version,
+};
 
 /// The aux state of a state that has no work to do.
 const NO_WORK: u8 = 3;
@@ -32,7 +34,7 @@ pub(super) const APPLICATION_FAILED: u8 = 0xB0;
 
 impl<B: Bank> Device<B> {
     /// The device's descriptors.
-    pub(super) fn identifiers(&self) -> Descriptors<'_>
+    pub(super) fn identifiers(&self) -> DeviceDescriptors<'_>
         ensures value { result ≡ self.now.device.descriptors }
         ensures fits { length (descriptors_bytes result) ≤ 246 }
     {
@@ -81,7 +83,7 @@ fn aux(progress: Progress, failure: u8) -> (u8, u8)
 
 /// The parameters of a bank's components, in this order.
 #[tactic(auto, using(crate::proofs::Parameters::one_longer))]
-pub(super) fn parameters<B: Bank>(bank: &B, components: &[Component]) -> ParameterList
+pub(super) fn parameters<B: Bank>(bank: &B, components: &[BankComponent]) -> ParameterList
     requires { length components.now ≤ 3 }
     ensures value { result ≡ all_parameters (B.rows bank.now) components.now }
     ensures fits { length (all_parameters_bytes result) ≤ 241 }
@@ -106,7 +108,7 @@ fn version<'a>(image: Option<(&'a Label, &'a [u8])>) -> Version<'a>
     match image {
         None => Version {
             stamp: 0,
-            text: Text {
+            text: TypedText {
                 text_type: text_type::UNKNOWN,
                 bytes: &[],
             },

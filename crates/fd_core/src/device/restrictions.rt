@@ -1,12 +1,12 @@
 //! Compares an offered component with what runs, and tells what has been applied.
 
 ghost use Rattle.std.specs.Prelude.{◌≡◌, ◌<◌, is_some, true};
-ghost use Rattle.fd_core.specs.Commands.{flag_at, has_applied, in_table, lacks, offer_restriction, restriction, stamp_rule};
+ghost use Rattle.fd_core.specs.Commands.{flag_at, has_applied, in_table, lacks_listed, offer_restriction, restriction, stamp_rule};
 ghost use Rattle.fd_core.specs.Images.{row_of};
 ghost use Rattle.fwup_wire.specs.Lent.{offer_of};
 
 use crate::bank::Bank;
-use crate::parts::{Component, Listed};
+use crate::parts::{BankComponent, Listed};
 use fwup_wire::code::response::{
     COMPARISON_STAMP_IDENTICAL, COMPARISON_STAMP_LOWER, NO_RESTRICTION, NOT_SUPPORTED,
 };
@@ -83,7 +83,7 @@ pub(super) fn offer_code<B: Bank>(bank: &B, table: &[Listed], offer: &ComponentO
 
 /// Whether a component that nothing stands against isn't applied.
 pub(super) fn misses_one<B: Bank>(bank: &B, table: &[Listed]) -> bool
-    ensures { result ≡ lacks (B.rows bank.now) table.now }
+    ensures { result ≡ lacks_listed (B.rows bank.now) table.now }
 {
     for listed in table {
         if listed.code == NO_RESTRICTION && bank.applied(listed.key).is_none() {
@@ -94,7 +94,7 @@ pub(super) fn misses_one<B: Bank>(bank: &B, table: &[Listed]) -> bool
 }
 
 /// Whether one of the components is applied.
-pub(super) fn has_any<B: Bank>(bank: &B, components: &[Component]) -> bool
+pub(super) fn has_any<B: Bank>(bank: &B, components: &[BankComponent]) -> bool
     ensures { result ≡ has_applied (B.rows bank.now) components.now }
 {
     for component in components {

@@ -1,7 +1,7 @@
 //! What a device asks of the agent.
 
 ghost use Rattle.std.specs.Prelude.{◌≡◌, ◌≤◌, IfSome, max, min, option_map};
-ghost use Rattle.fwup_wire.specs.Commands.{IsSpoken};
+ghost use Rattle.fwup_wire.specs.Commands.{CommandRoundTrips};
 ghost use Rattle.fd_core.specs.Wishes.{device_wish, report_of};
 ghost use Rattle.fwup_wire.specs.Lent.{command_of};
 ghost use Rattle.fwup_wire.specs.Transfers.{transfer_size};
@@ -23,7 +23,7 @@ impl<B: Bank> Device<B> {
     /// The request that the device has for the agent, if it has one: the next bytes of the image, or a report.
     pub fn wish(&self) -> Option<Command<'static>>
         ensures wish { option_map command_of result ≡ device_wish self.now.device }
-        ensures spoken { IfSome (device_wish self.now.device) IsSpoken }
+        ensures spoken { IfSome (device_wish self.now.device) CommandRoundTrips }
     {
         let progress = self.course.progress;
         match self.course.state {

@@ -1,7 +1,7 @@
 //! The areas in which a bank in memory keeps a component's images.
 
 ghost use Rattle.std.specs.Prelude.{◌≡◌, ◌+◌, ◌<◌, ◌≤◌, [], IfOk, None, OnErr, OnOk, length, option_map};
-ghost use Rattle.fd_core.specs.Areas.{activated, appended, applied_spare, begun, forgotten, image_at, is_taken, longer, no_area, numbers_by, row_by, shape_of, spare_of, written};
+ghost use Rattle.fd_core.specs.Areas.{place_after_switch, place_after_put, applied_spare, place_after_begin, place_after_drop, image_at, is_taken, area_with_bytes, no_area, numbers_by, row_by, shape_of, spare_of, written_area};
 ghost use Rattle.fd_core.specs.Images.{same_key};
 
 use crate::labels::Label;
@@ -65,7 +65,7 @@ impl Area {
     /// Appends to the image, in the memory that the area has.
     fn append(&mut self, piece: &[u8])
         requires { length self.old.bytes + length piece.now ≤ self.old.size }
-        ensures { self.new ≡ longer piece.now self.old }
+        ensures { self.new ≡ area_with_bytes piece.now self.old }
     {
         let _ = self.bytes.extend_from_slice(piece);
     }
@@ -92,9 +92,9 @@ pub(super) struct Place {
 
 impl Model for Place {
     ghost use Rattle.std.specs.Prelude.{◌<◌, IfSome};
-    ghost use Rattle.fd_core.specs.Areas.{PlaceOf};
+    ghost use Rattle.fd_core.specs.Areas.{ComponentAreasOf};
 
-    ghost Value = { PlaceOf };
+    ghost Value = { ComponentAreasOf };
 
     ghost view = { λ p. record { key = p.key; areas = p.areas; active = p.active; applied = p.applied } };
 
@@ -189,7 +189,7 @@ impl Place {
     /// # Errors
     /// Where memory is refused. Then nothing changes.
     pub(super) fn begin(&mut self, size: u32, label: &Label) -> Result<(), AllocError>
-        ensures ok { OnOk result (self.new ≡ begun size label.now self.old) }
+        ensures ok { OnOk result (self.new ≡ place_after_begin size label.now self.old) }
         ensures kept { OnErr result (self.new ≡ self.old) }
     {
         let spare = self.spare();
@@ -199,8 +199,8 @@ impl Place {
 
     /// Appends to the image that is written.
     pub(super) fn append(&mut self, piece: &[u8])
-        requires { length (written self.old).bytes + length piece.now ≤ (written self.old).size }
-        ensures { self.new ≡ appended piece.now self.old }
+        requires { length (written_area self.old).bytes + length piece.now ≤ (written_area self.old).size }
+        ensures { self.new ≡ place_after_put piece.now self.old }
     {
         let spare = self.spare();
         let area = &mut self.areas[spare];
@@ -216,7 +216,7 @@ impl Place {
 
     /// What runs next runs.
     pub(super) fn activate(&mut self)
-        ensures { self.new ≡ activated self.old }
+        ensures { self.new ≡ place_after_switch self.old }
     {
         if let Some(number) = self.applied.take() {
             self.active = number;
@@ -225,7 +225,7 @@ impl Place {
 
     /// Nothing runs next.
     pub(super) fn forget(&mut self)
-        ensures { self.new ≡ forgotten self.old }
+        ensures { self.new ≡ place_after_drop self.old }
     {
         self.applied = None;
     }

@@ -7,24 +7,24 @@ use Rattle.fd_core.specs.Images.{RowOf}
 use Rattle.fd_core.specs.States.{Phase, WorkOf}
 use Rattle.fd_core.specs.Wishes.{device_wish}
 use Rattle.fd_core.specs.declared.states.Progress.TheVariants as progress
-use Rattle.ua_core.specs.Laws.{StandsInPlan}
-use Rattle.ua_core.specs.Lent.{key_of, told_descriptor, package_at}
+use Rattle.ua_core.specs.Laws.{IsStageInPlan}
+use Rattle.ua_core.specs.Lent.{key_of, package_descriptor, package_at}
 use Rattle.ua_core.specs.Serve.{window}
 use Rattle.ua_core.specs.Session.{JobOf, Stage, TaskOf}
 use Rattle.ua_core.specs.declared.planned.Recorded.{Recorded}
 use Rattle.fw_message.specs.History.{EntryOf}
-use Rattle.fw_message.specs.Pairs.{HeldOf, PairOf, down_wish}
+use Rattle.fw_message.specs.Pairs.{CellContentOf, PairOf, down_wish}
 use Rattle.fw_message.proofs.Safety.Applied.{AppliedIs, Backed, BackedBut, NoneApplied}
 use Rattle.fw_message.proofs.Safety.Counts.{IsPending}
 use Rattle.fw_message.proofs.Safety.Histories.{IsHistory}
 use Rattle.fw_message.proofs.Safety.Readings.{since}
 
 -- what a cell holds
-abbrev pub reply_of : Option HeldOf → Option AnswerOf
+abbrev pub reply_of : Option CellContentOf → Option AnswerOf
 reply_of None = None
 reply_of (Some h) = h.reply
 
-abbrev pub command_of : Option HeldOf → Option CommandOf
+abbrev pub command_of : Option CellContentOf → Option CommandOf
 command_of None = None
 command_of (Some h) = Some h.command
 
@@ -33,7 +33,7 @@ unanswered c None = Some c
 unanswered c (Some a) = None
 
 -- the command that waits to be taken
-abbrev pub asked_of : Option HeldOf → Option CommandOf
+abbrev pub asked_of : Option CellContentOf → Option CommandOf
 asked_of None = None
 asked_of (Some h) = unanswered h.command h.reply
 
@@ -55,11 +55,11 @@ OwnStands Phase.Idle wish own = Unit {0}
 OwnStands p wish own = Holds wish own
 
 -- from Params to Activate the agent's cell is empty, or open with what the session wishes
-abbrev pub StandsOpen : Option CommandOf → Option HeldOf → Type 0
+abbrev pub StandsOpen : Option CommandOf → Option CellContentOf → Type 0
 StandsOpen wish None = Unit {0}
 StandsOpen wish (Some h) = (h.live ≡ true) × (wish ≡ Some h.command)
 
-abbrev pub CommandStands : Stage → Option CommandOf → Option HeldOf → Type 0
+abbrev pub CommandStands : Stage → Option CommandOf → Option CellContentOf → Type 0
 CommandStands Stage.Idle wish down = Unit {0}
 CommandStands Stage.Query wish down = Unit {0}
 CommandStands Stage.Done wish down = Unit {0}
@@ -199,7 +199,7 @@ is_applied (Some (CommandOf.ApplyComplete r methods)) = r == 0
 is_applied c = false
 
 -- an application is under way that isn't recorded
-abbrev pub IsUnderWay : Phase → Option HeldOf → Type 0
+abbrev pub IsUnderWay : Phase → Option CellContentOf → Type 0
 IsUnderWay p up = (is_sealed p ≡ true) ⊎ (is_applied (asked_of up) ≡ true)
 
 -- Activate
@@ -256,7 +256,7 @@ HasChosen p ds g = Unit {0}
 
 -- descriptors that were told are the device's
 abbrev pub AreTold : List DescriptorOf → Option AnswerOf → Type 0
-AreTold ds (Some (AnswerOf.QueryDeviceIdentifiers xs)) = map told_descriptor xs ≡ ds
+AreTold ds (Some (AnswerOf.QueryDeviceIdentifiers xs)) = map package_descriptor xs ≡ ds
 AreTold ds reply = Unit {0}
 
 -- What holds of a pair and its history.
@@ -267,8 +267,8 @@ pub record IsStanding (ps : List PackageText) (ds : List DescriptorOf) (first : 
   pub together : Together ps ds (since es) m m.session.number m.session.stage
   pub pending : Pending ps es m m.session.number m.session.stage
   pub stray : Stray ps ds (since es) m.device.rows m.device.phase (asked_of m.down)
-  pub plan : StandsInPlan (package_at ps m.session.number) m.session.stage
+  pub plan : IsStageInPlan (package_at ps m.session.number) m.session.stage
   pub chosen : HasChosen (package_at ps m.session.number) ds m.session.stage
-  pub identified : map told_descriptor m.device.descriptors ≡ ds
+  pub identified : map package_descriptor m.device.descriptors ≡ ds
   pub told : AreTold ds (reply_of m.down)
   pub history : IsHistory ps ds first m.device.rows m.session.records es

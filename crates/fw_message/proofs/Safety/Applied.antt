@@ -7,14 +7,14 @@ use Rattle.std.proofs.lemmas.List.Elements.{All-nil, All-cons, All-head, All-tai
 use Rattle.fw_package.specs.Choice.{component_at, image_for}
 use Rattle.fw_package.specs.Package.{DescriptorOf, PackageText}
 use Rattle.fwup_wire.specs.declared.values.Key.{Key}
-use Rattle.fd_core.specs.Images.{ImageOf, Put, RowOf, dropped, put_among, put_applied, puts, rises, same_key, sealed, sealed_if, switched, turned_to}
+use Rattle.fd_core.specs.Images.{ImageOf, KeyedImage, RowOf, rows_after_drop, images_with, images_with_applied, applied_keyed_images, is_key_before, same_key, rows_after_seal, sealed_if, rows_after_switch, row_after_switch_to}
 use Rattle.ua_core.specs.Lent.{key_of, package_at}
 use Rattle.ua_core.specs.declared.planned.Recorded.{Recorded}
 use Rattle.fw_message.specs.History.{HasRecording, IsFrom}
 use Rattle.fw_message.proofs.Safety.Counts.{recorded_component}
 use Rattle.fwup_wire.proofs.SameCommands.{key_means}
 
-abbrev pub put_of : Key → ImageOf → Put
+abbrev pub put_of : Key → ImageOf → KeyedImage
 put_of key image = record { key = key; bytes = image.bytes }
 
 abbrev pub BackedBy : List PackageText → List DescriptorOf → ℕ → List Recorded → Key → Option ImageOf → Type 0
@@ -45,16 +45,16 @@ unfoldable pub AppliedIs : List RowOf → Key → List ℕ → Type 0
 AppliedIs [] key bytes = Unit {0}
 AppliedIs (r ∷ rows) key bytes = OnTrue (same_key r.key key) (AppliedAt r.applied bytes) × AppliedIs rows key bytes
 
-pub none_dropped : (rows : List RowOf) → NoneApplied (dropped rows)
+pub none_dropped : (rows : List RowOf) → NoneApplied (rows_after_drop rows)
 unfolding NoneApplied
 none_dropped [] = tt
 none_dropped (r ∷ rows) = (refl, none_dropped rows)
 
-pub none_turned : (r : RowOf) (o : Option ImageOf) → r.applied ≡ o → (turned_to r o).applied ≡ None
+pub none_turned : (r : RowOf) (o : Option ImageOf) → r.applied ≡ o → (row_after_switch_to r o).applied ≡ None
 none_turned r None e = e
 none_turned r (Some image) e = refl
 
-pub none_switched : (rows : List RowOf) → NoneApplied (switched rows)
+pub none_switched : (rows : List RowOf) → NoneApplied (rows_after_switch rows)
 unfolding NoneApplied
 none_switched [] = tt
 none_switched (r ∷ rows) = (none_turned r r.applied refl, none_switched rows)
@@ -66,7 +66,7 @@ none_backed ps ds n rs [] h = tt
 none_backed ps ds n rs (r ∷ rows) h = (rw h.0 tt, none_backed ps ds n rs rows h.1)
 
 pub sealed_others : (ps : List PackageText) (ds : List DescriptorOf) (n : ℕ) (rs : List Recorded) (rows : List RowOf) (key : Key) (image : ImageOf)
-    → Backed ps ds n rs rows → BackedBut ps ds n rs key (sealed rows key image)
+    → Backed ps ds n rs rows → BackedBut ps ds n rs key (rows_after_seal rows key image)
 unfolding Backed BackedBut
 sealed_others ps ds n rs [] key image h = tt
 sealed_others ps ds n rs (r ∷ rows) key image h = (at_row (same_key r.key key) refl, sealed_others ps ds n rs rows key image h.1)
@@ -76,7 +76,7 @@ sealed_others ps ds n rs (r ∷ rows) key image h = (at_row (same_key r.key key)
     at_row true e = rw e tt
     at_row false e = rw e h.0
 
-pub sealed_applied : (rows : List RowOf) (key : Key) (image : ImageOf) → AppliedIs (sealed rows key image) key image.bytes
+pub sealed_applied : (rows : List RowOf) (key : Key) (image : ImageOf) → AppliedIs (rows_after_seal rows key image) key image.bytes
 unfolding AppliedIs
 sealed_applied [] key image = tt
 sealed_applied (r ∷ rows) key image = (at_row (same_key r.key key) refl, sealed_applied rows key image)
@@ -134,26 +134,26 @@ backed_recorded ps ds n rs r key bytes (x ∷ rows) is k names a b =
     at_row false e a b = backed_more ps ds n rs r x.key x.applied b
 
 -- what is put in is from the package
-among_from : (ps : List PackageText) (ds : List DescriptorOf) (n : ℕ) (rs : List Recorded) (p : Put) (qs : List Put) → IsFrom ps ds rs n p
-    → All (IsFrom ps ds rs n) qs → All (IsFrom ps ds rs n) (put_among p qs)
+among_from : (ps : List PackageText) (ds : List DescriptorOf) (n : ℕ) (rs : List Recorded) (p : KeyedImage) (qs : List KeyedImage) → IsFrom ps ds rs n p
+    → All (IsFrom ps ds rs n) qs → All (IsFrom ps ds rs n) (images_with p qs)
 among_from ps ds n rs p [] h all = All-cons (IsFrom ps ds rs n) p [] h all
 among_from ps ds n rs p (q ∷ qs) h all =
-    cond_both (rises q.key p.key) (q ∷ put_among p qs) (p ∷ q ∷ qs) (All (IsFrom ps ds rs n))
-    (λ e. All-cons (IsFrom ps ds rs n) q (put_among p qs) (All-head (IsFrom ps ds rs n) q qs all) (among_from ps ds n rs p qs h (All-tail (IsFrom ps ds rs n) q qs all)))
+    cond_both (is_key_before q.key p.key) (q ∷ images_with p qs) (p ∷ q ∷ qs) (All (IsFrom ps ds rs n))
+    (λ e. All-cons (IsFrom ps ds rs n) q (images_with p qs) (All-head (IsFrom ps ds rs n) q qs all) (among_from ps ds n rs p qs h (All-tail (IsFrom ps ds rs n) q qs all)))
     (λ e. All-cons (IsFrom ps ds rs n) p (q ∷ qs) h all)
 
-applied_from : (ps : List PackageText) (ds : List DescriptorOf) (n : ℕ) (rs : List Recorded) (key : Key) (o : Option ImageOf) (qs : List Put)
-    → BackedBy ps ds n rs key o → All (IsFrom ps ds rs n) qs → All (IsFrom ps ds rs n) (put_applied key o qs)
+applied_from : (ps : List PackageText) (ds : List DescriptorOf) (n : ℕ) (rs : List Recorded) (key : Key) (o : Option ImageOf) (qs : List KeyedImage)
+    → BackedBy ps ds n rs key o → All (IsFrom ps ds rs n) qs → All (IsFrom ps ds rs n) (images_with_applied key o qs)
 applied_from ps ds n rs key None qs b all = all
 applied_from ps ds n rs key (Some image) qs b all = among_from ps ds n rs (put_of key image) qs b all
 
 pub puts_from : (ps : List PackageText) (ds : List DescriptorOf) (n : ℕ) (rs : List Recorded) (rows : List RowOf) → Backed ps ds n rs rows
-    → All (IsFrom ps ds rs n) (puts rows)
+    → All (IsFrom ps ds rs n) (applied_keyed_images rows)
 unfolding Backed
 puts_from ps ds n rs [] b = All-nil (IsFrom ps ds rs n)
-puts_from ps ds n rs (r ∷ rows) b = applied_from ps ds n rs r.key r.applied (puts rows) b.0 (puts_from ps ds n rs rows b.1)
+puts_from ps ds n rs (r ∷ rows) b = applied_from ps ds n rs r.key r.applied (applied_keyed_images rows) b.0 (puts_from ps ds n rs rows b.1)
 
-pub puts_none : (rows : List RowOf) → NoneApplied rows → puts rows ≡ []
+pub puts_none : (rows : List RowOf) → NoneApplied rows → applied_keyed_images rows ≡ []
 unfolding NoneApplied
 puts_none [] h = refl
 puts_none (r ∷ rows) h = rw h.0 (puts_none rows h.1)

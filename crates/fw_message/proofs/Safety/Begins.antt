@@ -4,13 +4,13 @@ use Rattle.std.proofs.Common.{refl, subst, ap, arith}
 use Rattle.std.proofs.lemmas.Bool.{ltb-true, ltb-false, cond_both}
 use Rattle.mctp_wire.specs.declared.unit.Unit.{«Unit»}
 use Rattle.fw_package.specs.Package.{ComponentOf, DescriptorOf, PackageText}
-use Rattle.fwup_wire.specs.Values.{AnswerOf, CommandOf, EntryOf as ListedOf, OfferOf, RequestOf, VersionOf}
+use Rattle.fwup_wire.specs.Values.{AnswerOf, CommandOf, TableEntryOf as ListedOf, OfferOf, UpdateRequestOf, VersionOf}
 use Rattle.fd_core.specs.Commands.{OfferRow, RequestRow, SwitchRow, TableRow, download_progress, flag_at, in_table, is_flag, offer_by, offer_restriction, offer_row, offer_take, offer_under, request_by, request_row, request_take, restriction, switch_by, switch_row, switch_take, table_by, table_response, table_row, table_take, with_entry, work_begun, declined}
 use Rattle.fd_core.specs.Images.{RowOf}
-use Rattle.fd_core.specs.States.{DeviceState, Phase, UpdateOf, WorkOf, moved, state_of}
+use Rattle.fd_core.specs.States.{DeviceState, Phase, UpdateOf, WorkOf, device_in_phase, state_of}
 use Rattle.fd_core.specs.declared.states.State.{State}
 use Rattle.fd_core.specs.Wishes.{wish_at}
-use Rattle.fd_core.specs.declared.parts.Component.{Component}
+use Rattle.fd_core.specs.declared.parts.BankComponent.{BankComponent}
 use Rattle.fd_core.specs.declared.states.Progress.{Progress}
 use Rattle.fd_core.specs.declared.states.Progress.TheVariants as progress
 use Rattle.ua_core.specs.Lent.{is_forced, key_of, sent_size, sent_version, package_at}
@@ -18,7 +18,7 @@ use Rattle.ua_core.specs.Session.{Stage}
 use Rattle.ua_core.specs.Wish.{stage_wish}
 use Rattle.ua_core.specs.declared.planned.Recorded.{Recorded}
 use Rattle.fw_message.specs.History.{EntryOf}
-use Rattle.fw_message.specs.Pairs.{HeldOf, PairOf, down_taken, noted, with_down}
+use Rattle.fw_message.specs.Pairs.{CellContentOf, PairOf, down_taken, history_with, with_down}
 use Rattle.fw_message.proofs.Safety.Agreement.{AreTold, CommandStands, Holds, IsBegun, IsBegunAt, IsSame, IsStanding, NothingAccepted, OwnStands, Pending, Settled, StageForm, TableTime, Together, Waiting, at_hand, command_of, reply_of}
 use Rattle.fw_message.proofs.Safety.Applied.{NoneApplied, none_dropped}
 use Rattle.fw_message.proofs.Safety.Histories.{history_activated, history_dropped}
@@ -26,13 +26,13 @@ use Rattle.fw_message.proofs.Safety.Loose.{cell}
 use Rattle.fw_message.proofs.Safety.Readings.{since}
 use Rattle.fw_message.proofs.Safety.Takes.{Stood, asking, refused_stands, taken, told_command, told_stands}
 
-holds_empty : (wish : Option CommandOf) (up : Option HeldOf) → up ≡ None → Holds wish (command_of up)
+holds_empty : (wish : Option CommandOf) (up : Option CellContentOf) → up ≡ None → Holds wish (command_of up)
 holds_empty wish up e = rw e tt
 
-nothing_empty : (up : Option HeldOf) → up ≡ None → NothingAccepted (reply_of up)
+nothing_empty : (up : Option CellContentOf) → up ≡ None → NothingAccepted (reply_of up)
 nothing_empty up e = rw e tt
 
-request_begins : (p : Phase) (r : RequestOf) (quiet : Bool) → request_row p r quiet ≡ RequestRow.BeginUpdate → quiet ≡ true
+request_begins : (p : Phase) (r : UpdateRequestOf) (quiet : Bool) → request_row p r quiet ≡ RequestRow.BeginUpdate → quiet ≡ true
 request_begins Phase.Idle r true e = refl
 request_begins Phase.Idle r false e = absurd (cc)
 request_begins p r quiet e = absurd (cc)
@@ -79,7 +79,7 @@ offer_begins rows (Phase.Ready x) o true works u e =
 offer_begins rows (Phase.Ready x) o false works u e = absurd (cc)
 offer_begins rows p o quiet works u e = absurd (cc)
 
-switch_ready : (components : List Component) (rows : List RowOf) (p : Phase) (works : Bool)
+switch_ready : (components : List BankComponent) (rows : List RowOf) (p : Phase) (works : Bool)
     → switch_row components rows p works ≡ SwitchRow.Switch → (u : UpdateOf) × (p ≡ Phase.Ready u)
 switch_ready components rows (Phase.Ready x) works e = (x, refl)
 switch_ready components rows p works e = absurd (cc)
@@ -139,7 +139,7 @@ own_at unit p q have c e h = subst (λ (x : Phase). OwnStands x (wish_at unit x 
 
 module _ (ps : List PackageText) (ds : List DescriptorOf) where
   -- RequestUpdate
-  begun_together : (rs : List Recorded) (m : PairOf) (n : ℕ) (r : RequestOf) (l : Bool) (g : Stage)
+  begun_together : (rs : List Recorded) (m : PairOf) (n : ℕ) (r : UpdateRequestOf) (l : Bool) (g : Stage)
       → CommandStands g (stage_wish m.session.unit (package_at ps n) g) (Some (cell (CommandOf.RequestUpdate r) None l))
       → Together ps ds rs (taken m (CommandOf.RequestUpdate r) l (request_by m.device r RequestRow.BeginUpdate)).after n g
   unfolding down_taken
@@ -223,7 +223,7 @@ module _ (ps : List PackageText) (ds : List DescriptorOf) where
   switched_together rs m n b l g c = absurd (let e = c.1 in cc)
 
   module _ (first : List RowOf) (es : List EntryOf) where
-    request_by_row : (m : PairOf) (r : RequestOf) (l quiet : Bool) → (quiet ≡ true → m.up ≡ None)
+    request_by_row : (m : PairOf) (r : UpdateRequestOf) (l quiet : Bool) → (quiet ≡ true → m.up ≡ None)
         → IsStanding ps ds first es (asking m (CommandOf.RequestUpdate r) l)
         → (row : RequestRow) → request_row m.device.phase r quiet ≡ row
         → Stood ps ds first es (taken m (CommandOf.RequestUpdate r) l (request_by m.device r row))
@@ -245,7 +245,7 @@ module _ (ps : List PackageText) (ds : List DescriptorOf) where
           history = history_dropped ps ds first m.device.rows m.session.records es s.history;
         }
 
-    pub request_stands : (m : PairOf) (r : RequestOf) (l quiet : Bool) → (quiet ≡ true → m.up ≡ None)
+    pub request_stands : (m : PairOf) (r : UpdateRequestOf) (l quiet : Bool) → (quiet ≡ true → m.up ≡ None)
         → IsStanding ps ds first es (asking m (CommandOf.RequestUpdate r) l)
         → Stood ps ds first es (taken m (CommandOf.RequestUpdate r) l (request_take m.device r quiet))
     request_stands m r l quiet q s = request_by_row m r l quiet q s (request_row m.device.phase r quiet) refl
@@ -279,7 +279,7 @@ module _ (ps : List PackageText) (ds : List DescriptorOf) where
         let p = table_learns m.device.rows m.device.phase x u code e in
         let n = with_entry u x.key code in
         let a = AnswerOf.PassComponentTable (table_response code) in
-        cond_both (length n.table == n.components) (moved m.device (Phase.Ready n)) (record m.device { phase = Phase.Learn n })
+        cond_both (length n.table == n.components) (device_in_phase m.device (Phase.Ready n)) (record m.device { phase = Phase.Learn n })
         (λ (v : DeviceState). IsStanding ps ds first es (record m { device = v; down = Some (cell (CommandOf.PassComponentTable x) (Some a) l) }))
         (λ t. table_at m x a l u (Phase.Ready n) (state_of m.device.phase) p tt tt s)
         (λ t. table_at m x a l u (Phase.Learn n) m.device.previous p tt tt s)
@@ -333,8 +333,8 @@ module _ (ps : List PackageText) (ds : List DescriptorOf) where
           own = own_at m.device.unit m.device.phase (Phase.Ready ready.0) (length m.device.stage) (command_of m.up) ready.1 s.own;
           command = told_command ps m (CommandOf.ActivateFirmware b) (AnswerOf.ActivateFirmware 0) l s.command;
           form = tt;
-          together = switched_together (since (noted es after.noted)) m m.session.number b l m.session.stage s.command;
-          pending = no_pending (noted es after.noted) after.after m.session.number (CommandOf.ActivateFirmware b) l m.session.stage s.command;
+          together = switched_together (since (history_with es after.noted)) m m.session.number b l m.session.stage s.command;
+          pending = no_pending (history_with es after.noted) after.after m.session.number (CommandOf.ActivateFirmware b) l m.session.stage s.command;
           stray = tt;
           plan = s.plan;
           chosen = s.chosen;

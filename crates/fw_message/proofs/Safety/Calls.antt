@@ -10,10 +10,10 @@ use Rattle.fd_core.specs.Steps.{device_restart, device_timeout, timeout_reason, 
 use Rattle.fd_core.specs.declared.states.Reason.TheVariants as reasons
 use Rattle.fd_core.specs.declared.states.State.TheVariants as states
 use Rattle.ua_core.specs.Calls.{agent_started, agent_timeout, activated_stage, may_cancel, silent_stage, timeout_stage, times_out as session_times_out}
-use Rattle.ua_core.specs.Laws.{IsLoose}
+use Rattle.ua_core.specs.Laws.{IsOutsideUpdate}
 use Rattle.ua_core.specs.Session.{JobOf, SessionOf, Stage, at_stage}
 use Rattle.fw_message.specs.History.{EntryOf}
-use Rattle.fw_message.specs.Pairs.{HeldOf, PairOf, StepOf, Stepped, activate_with, closed, given_up, may_start, quietly, silenced, step_of, with_down, with_session, with_up}
+use Rattle.fw_message.specs.Pairs.{CellContentOf, PairOf, StepOf, Stepped, activate_with, cell_after_close, cell_after_give_up, may_start, step_without_entries, step_after_give_up, step_of, with_down, with_session, with_up}
 use Rattle.fw_message.specs.declared.side.Side.TheVariants as sides
 use Rattle.fw_message.specs.declared.side.Way.TheVariants as ways
 use Rattle.fw_message.proofs.Safety.Agreement.{IsStanding, StandsOpen}
@@ -21,15 +21,15 @@ use Rattle.fw_message.proofs.Safety.Cells.{closed_up}
 use Rattle.fw_message.proofs.Safety.Down.{Leaves}
 use Rattle.fw_message.proofs.Safety.Loose.{loose_stands, loosened, reset_stands}
 
-loose_silent : (g : Stage) → IsLoose (silent_stage g)
+loose_silent : (g : Stage) → IsOutsideUpdate (silent_stage g)
 loose_silent Stage.Cancelling = tt
 loose_silent g = tt
 
-loose_timeout : (g : Stage) → IsLoose (timeout_stage g)
+loose_timeout : (g : Stage) → IsOutsideUpdate (timeout_stage g)
 loose_timeout Stage.Cancelling = tt
 loose_timeout g = tt
 
-none_open : (down : Option HeldOf) → StandsOpen None down → down ≡ None
+none_open : (down : Option CellContentOf) → StandsOpen None down → down ≡ None
 none_open None h = refl
 none_open (Some h) s = absurd (let e = s.1 in cc)
 
@@ -41,19 +41,19 @@ module _ (ps : List PackageText) (ds : List DescriptorOf) (first : List RowOf) (
   when false t s = tt
 
   -- GiveUp of the agent
-  silent_at : (m : PairOf) (h : HeldOf) → IsStanding ps ds first es (with_down m (Some h))
+  silent_at : (m : PairOf) (h : CellContentOf) → IsStanding ps ds first es (with_down m (Some h))
       → IsStanding ps ds first es (loosened m (silent_stage m.session.stage) m.session.number (Some (record h { live = false })))
   silent_at m h s =
       loose_stands ps ds first es (with_down m (Some h)) (silent_stage m.session.stage) m.session.number (Some (record h { live = false }))
       (loose_silent m.session.stage) s.stray s.told s
 
-  gives_up : (m : PairOf) (down : Option HeldOf) → IsStanding ps ds first es (with_down m down)
-      → Leaves ps ds first es (silenced (with_down m down) (given_up down))
+  gives_up : (m : PairOf) (down : Option CellContentOf) → IsStanding ps ds first es (with_down m down)
+      → Leaves ps ds first es (step_after_give_up (with_down m down) (cell_after_give_up down))
   gives_up m None s = tt
   gives_up m (Some h) s = at_live h.live
     where
       at_live : (l : Bool)
-          → Leaves ps ds first es (silenced (with_down m (Some h)) (if l then Some (Some (record h { live = false })) else None))
+          → Leaves ps ds first es (step_after_give_up (with_down m (Some h)) (if l then Some (Some (record h { live = false })) else None))
       at_live true = silent_at m h s
       at_live false = tt
 
@@ -63,7 +63,7 @@ module _ (ps : List PackageText) (ds : List DescriptorOf) (first : List RowOf) (
   -- Start
   pub starts : (m : PairOf) (number : ℕ) → IsStanding ps ds first es m → Leaves ps ds first es (step_of ps m (StepOf.Start number))
   starts m number s =
-      when (may_start ps m.session number) (quietly (with_session m (agent_started m.session number))) (loose_stands ps ds first es m Stage.Query number m.down tt s.stray s.told s)
+      when (may_start ps m.session number) (step_without_entries (with_session m (agent_started m.session number))) (loose_stands ps ds first es m Stage.Query number m.down tt s.stray s.told s)
 
   -- Cancel
   pub cancels : (m : PairOf) → IsStanding ps ds first es m → Leaves ps ds first es (step_of ps m StepOf.Cancel)
@@ -90,7 +90,7 @@ module _ (ps : List PackageText) (ds : List DescriptorOf) (first : List RowOf) (
         history = s.history;
       }
 
-  activates_with : (m : PairOf) (j : JobOf) (down : Option HeldOf) → down ≡ None
+  activates_with : (m : PairOf) (j : JobOf) (down : Option CellContentOf) → down ≡ None
       → IsStanding ps ds first es (record m { session = at_stage m.session (Stage.AllApplied j); down = down })
       → IsStanding ps ds first es (record m { session = at_stage m.session (Stage.Activate j); down = down })
   activates_with m j None e s = activates_none m j s
@@ -107,17 +107,17 @@ module _ (ps : List PackageText) (ds : List DescriptorOf) (first : List RowOf) (
   -- TimeOut
   pub session_ends : (m : PairOf) → IsStanding ps ds first es m → Leaves ps ds first es (step_of ps m (StepOf.TimeOut sides.Agent))
   session_ends m s =
-      when (session_times_out m.session.stage) (quietly (with_session m (agent_timeout m.session)))
+      when (session_times_out m.session.stage) (step_without_entries (with_session m (agent_timeout m.session)))
       (loose_stands ps ds first es m (timeout_stage m.session.stage) m.session.number m.down (loose_timeout m.session.stage) s.stray s.told s)
 
   pub device_ends : (m : PairOf) → IsStanding ps ds first es m → Leaves ps ds first es (step_of ps m (StepOf.TimeOut sides.Device))
   device_ends m s =
-      when (device_times_out m.device.phase) (quietly (record m { device = device_timeout m.device }))
+      when (device_times_out m.device.phase) (step_without_entries (record m { device = device_timeout m.device }))
       (reset_stands ps ds first es m [] (state_of m.device.phase) (timeout_reason m.device.phase) s)
 
   -- Restart
-  restarts : (m : PairOf) (down : Option HeldOf) → IsStanding ps ds first es (with_down m down)
-      → IsStanding ps ds first es (loosened m Stage.Idle m.session.number (closed down))
+  restarts : (m : PairOf) (down : Option CellContentOf) → IsStanding ps ds first es (with_down m down)
+      → IsStanding ps ds first es (loosened m Stage.Idle m.session.number (cell_after_close down))
   restarts m None s = loose_stands ps ds first es (with_down m None) Stage.Idle m.session.number None tt s.stray s.told s
   restarts m (Some h) s =
       loose_stands ps ds first es (with_down m (Some h)) Stage.Idle m.session.number (Some (record h { live = false })) tt s.stray s.told s
@@ -125,8 +125,8 @@ module _ (ps : List PackageText) (ds : List DescriptorOf) (first : List RowOf) (
   pub agent_restarts : (m : PairOf) → IsStanding ps ds first es m → Leaves ps ds first es (step_of ps m (StepOf.Restart sides.Agent))
   agent_restarts m s = restarts m m.down s
 
-  closes_up : (m : PairOf) (up : Option HeldOf) → IsStanding ps ds first es (with_up m up)
-      → IsStanding ps ds first es (with_up m (closed up))
+  closes_up : (m : PairOf) (up : Option CellContentOf) → IsStanding ps ds first es (with_up m up)
+      → IsStanding ps ds first es (with_up m (cell_after_close up))
   closes_up m None s = s
   closes_up m (Some h) s = closed_up ps ds first es m h false s
 

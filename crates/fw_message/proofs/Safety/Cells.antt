@@ -13,7 +13,7 @@ use Rattle.ua_core.specs.Wish.{stage_wish}
 use Rattle.ua_core.specs.declared.planned.Recorded.{Recorded}
 use Rattle.fw_message.specs.History.{EntryOf}
 use Rattle.ua_core.specs.Lent.{package_at}
-use Rattle.fw_message.specs.Pairs.{HeldOf, PairOf, StepOf, asked, dropped_cell, fresh_cell, given_up, put_down, put_up, step_of, with_down, with_up}
+use Rattle.fw_message.specs.Pairs.{CellContentOf, PairOf, StepOf, cell_after_ask, dropped_cell, fresh_cell, cell_after_give_up, put_down, put_up, step_of, with_down, with_up}
 use Rattle.fw_message.specs.declared.side.Way.TheVariants as ways
 use Rattle.fw_message.proofs.Safety.Agreement.{Application, CommandStands, IsBegunAt, IsStanding, OwnStands, Pending, Together, Transfer, UpdateOffered, Verification, at_hand, command_of, is_applied, is_offered, is_sealed, reply_of}
 use Rattle.fw_message.proofs.Safety.Down.{Leaves}
@@ -131,7 +131,7 @@ module _ (ps : List PackageText) (ds : List DescriptorOf) where
   module _ (first : List RowOf) (es : List EntryOf) where
     -- Ask Up
     asks : (m : PairOf) (wish : Option CommandOf) → wish ≡ device_wish m.device → IsStanding ps ds first es (with_up m None)
-        → Leaves ps ds first es (put_up (with_up m None) (asked None wish))
+        → Leaves ps ds first es (put_up (with_up m None) (cell_after_ask None wish))
     asks m None e s = tt
     asks m (Some c) e s =
         record {
@@ -148,8 +148,8 @@ module _ (ps : List PackageText) (ds : List DescriptorOf) where
           history = s.history;
         }
 
-    asks_at : (m : PairOf) (up : Option HeldOf) → IsStanding ps ds first es (with_up m up)
-        → Leaves ps ds first es (put_up (with_up m up) (asked up (device_wish m.device)))
+    asks_at : (m : PairOf) (up : Option CellContentOf) → IsStanding ps ds first es (with_up m up)
+        → Leaves ps ds first es (put_up (with_up m up) (cell_after_ask up (device_wish m.device)))
     asks_at m None s = asks m (device_wish m.device) refl s
     asks_at m (Some h) s = tt
 
@@ -173,7 +173,7 @@ module _ (ps : List PackageText) (ds : List DescriptorOf) where
           history = s.history;
         }
 
-    drops_up : (m : PairOf) (up : Option HeldOf) → IsStanding ps ds first es (with_up m up)
+    drops_up : (m : PairOf) (up : Option CellContentOf) → IsStanding ps ds first es (with_up m up)
         → Leaves ps ds first es (put_up (with_up m up) (dropped_cell up))
     drops_up m None s = tt
     drops_up m (Some h) s = at_live h.live
@@ -186,7 +186,7 @@ module _ (ps : List PackageText) (ds : List DescriptorOf) where
     up_drops m s = drops_up m m.up s
 
     -- GiveUp Up
-    pub closed_up : (m : PairOf) (h : HeldOf) (l : Bool) → IsStanding ps ds first es (with_up m (Some h))
+    pub closed_up : (m : PairOf) (h : CellContentOf) (l : Bool) → IsStanding ps ds first es (with_up m (Some h))
         → IsStanding ps ds first es (with_up m (Some (record h { live = l })))
     closed_up m h l s = record {
       own = s.own;
@@ -202,8 +202,8 @@ module _ (ps : List PackageText) (ds : List DescriptorOf) where
       history = s.history;
     }
 
-    gives_up : (m : PairOf) (up : Option HeldOf) → IsStanding ps ds first es (with_up m up)
-        → Leaves ps ds first es (put_up (with_up m up) (given_up up))
+    gives_up : (m : PairOf) (up : Option CellContentOf) → IsStanding ps ds first es (with_up m up)
+        → Leaves ps ds first es (put_up (with_up m up) (cell_after_give_up up))
     gives_up m None s = tt
     gives_up m (Some h) s = at_live h.live
       where
@@ -240,7 +240,7 @@ module _ (ps : List PackageText) (ds : List DescriptorOf) where
     drop_at m c r true s = tt
     drop_at m c r false s = drop_dead m c r s
 
-    drops_down : (m : PairOf) (down : Option HeldOf) → IsStanding ps ds first es (with_down m down)
+    drops_down : (m : PairOf) (down : Option CellContentOf) → IsStanding ps ds first es (with_down m down)
         → Leaves ps ds first es (put_down (with_down m down) (dropped_cell down))
     drops_down m None s = tt
     drops_down m (Some h) s = drop_at m h.command h.reply h.live s

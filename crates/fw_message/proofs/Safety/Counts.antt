@@ -8,10 +8,10 @@ use Rattle.std.specs.Cmp.Lexicographic.{pointwise}
 use Rattle.fw_package.specs.Choice.{component_at}
 use Rattle.fw_package.specs.Package.{ComponentOf, PackageText}
 use Rattle.fwup_wire.specs.declared.values.Key.{Key}
-use Rattle.fd_core.specs.Images.{Put, same_key}
+use Rattle.fd_core.specs.Images.{KeyedImage, same_key}
 use Rattle.ua_core.specs.Lent.{key_of, package_at}
 use Rattle.ua_core.specs.declared.planned.Recorded.{Recorded}
-use Rattle.fw_message.specs.History.{EntryOf, applied_count, recorded_count, one_if, records_put, same_put}
+use Rattle.fw_message.specs.History.{EntryOf, applied_count, recorded_count, one_if, records_image, same_image}
 use Rattle.fwup_wire.proofs.SameCommands.{bytes_means, bytes_self, key_means, key_self}
 
 -- the component that a record is of
@@ -26,8 +26,8 @@ IsPending ps key bytes es = recorded_count ps key bytes es + 1 ≤ applied_count
 unfoldable pub NeverMore : List PackageText → List EntryOf → Type 0
 NeverMore ps es = (key : Key) (bytes : List ℕ) → recorded_count ps key bytes es ≤ applied_count key bytes es
 
-applied_more : (key : Key) (bytes : List ℕ) (es : List EntryOf) (p : Put)
-    → applied_count key bytes (es ++ EntryOf.Applied p ∷ []) ≡ applied_count key bytes es + one_if (same_put key bytes p.key p.bytes)
+applied_more : (key : Key) (bytes : List ℕ) (es : List EntryOf) (p : KeyedImage)
+    → applied_count key bytes (es ++ EntryOf.Applied p ∷ []) ≡ applied_count key bytes es + one_if (same_image key bytes p.key p.bytes)
 unfolding applied_count
 applied_more key bytes [] p = omega arith
 applied_more key bytes (EntryOf.Applied x ∷ es) p = omega (arith, applied_more key bytes es p)
@@ -42,7 +42,7 @@ applied_recorded key bytes (EntryOf.Applied x ∷ es) r = omega (arith, applied_
 applied_recorded key bytes (EntryOf.Recording x ∷ es) r = applied_recorded key bytes es r
 applied_recorded key bytes (EntryOf.Activated x ∷ es) r = applied_recorded key bytes es r
 
-applied_activated : (key : Key) (bytes : List ℕ) (es : List EntryOf) (p : Put)
+applied_activated : (key : Key) (bytes : List ℕ) (es : List EntryOf) (p : KeyedImage)
     → applied_count key bytes (es ++ EntryOf.Activated p ∷ []) ≡ applied_count key bytes es
 unfolding applied_count
 applied_activated key bytes [] p = refl
@@ -50,7 +50,7 @@ applied_activated key bytes (EntryOf.Applied x ∷ es) p = omega (arith, applied
 applied_activated key bytes (EntryOf.Recording x ∷ es) p = applied_activated key bytes es p
 applied_activated key bytes (EntryOf.Activated x ∷ es) p = applied_activated key bytes es p
 
-recorded_applied : (ps : List PackageText) (key : Key) (bytes : List ℕ) (es : List EntryOf) (p : Put)
+recorded_applied : (ps : List PackageText) (key : Key) (bytes : List ℕ) (es : List EntryOf) (p : KeyedImage)
     → recorded_count ps key bytes (es ++ EntryOf.Applied p ∷ []) ≡ recorded_count ps key bytes es
 unfolding recorded_count
 recorded_applied ps key bytes [] p = refl
@@ -58,7 +58,7 @@ recorded_applied ps key bytes (EntryOf.Applied x ∷ es) p = recorded_applied ps
 recorded_applied ps key bytes (EntryOf.Recording x ∷ es) p = omega (arith, recorded_applied ps key bytes es p)
 recorded_applied ps key bytes (EntryOf.Activated x ∷ es) p = recorded_applied ps key bytes es p
 
-recorded_activated : (ps : List PackageText) (key : Key) (bytes : List ℕ) (es : List EntryOf) (p : Put)
+recorded_activated : (ps : List PackageText) (key : Key) (bytes : List ℕ) (es : List EntryOf) (p : KeyedImage)
     → recorded_count ps key bytes (es ++ EntryOf.Activated p ∷ []) ≡ recorded_count ps key bytes es
 unfolding recorded_count
 recorded_activated ps key bytes [] p = refl
@@ -67,14 +67,14 @@ recorded_activated ps key bytes (EntryOf.Recording x ∷ es) p = omega (arith, r
 recorded_activated ps key bytes (EntryOf.Activated x ∷ es) p = recorded_activated ps key bytes es p
 
 recorded_more : (ps : List PackageText) (key : Key) (bytes : List ℕ) (es : List EntryOf) (r : Recorded)
-    → recorded_count ps key bytes (es ++ EntryOf.Recording r ∷ []) ≡ recorded_count ps key bytes es + one_if (records_put ps key bytes r)
+    → recorded_count ps key bytes (es ++ EntryOf.Recording r ∷ []) ≡ recorded_count ps key bytes es + one_if (records_image ps key bytes r)
 unfolding recorded_count
 recorded_more ps key bytes [] r = omega arith
 recorded_more ps key bytes (EntryOf.Applied x ∷ es) r = recorded_more ps key bytes es r
 recorded_more ps key bytes (EntryOf.Recording x ∷ es) r = omega (arith, recorded_more ps key bytes es r)
 recorded_more ps key bytes (EntryOf.Activated x ∷ es) r = recorded_more ps key bytes es r
 
-put_self : (p : Put) → same_put p.key p.bytes p.key p.bytes ≡ true
+put_self : (p : KeyedImage) → same_image p.key p.bytes p.key p.bytes ≡ true
 put_self p = rw (key_self p.key, bytes_self p.bytes) refl
 
 -- a pending application may be recorded
@@ -83,13 +83,13 @@ pub never_recorded : (ps : List PackageText) (es : List EntryOf) (r : Recorded)
     → NeverMore ps (es ++ EntryOf.Recording r ∷ [])
 unfolding IsPending NeverMore
 never_recorded ps es r p h key bytes =
-    counted (key_of (recorded_component ps r)) (recorded_component ps r).image (records_put ps key bytes r) refl p (recorded_more ps key bytes es r)
+    counted (key_of (recorded_component ps r)) (recorded_component ps r).image (records_image ps key bytes r) refl p (recorded_more ps key bytes es r)
   where
-    counted : (k : Key) (b : List ℕ) (t : Bool) → same_put key bytes k b ≡ t → recorded_count ps k b es + 1 ≤ applied_count k b es
-        → recorded_count ps key bytes (es ++ EntryOf.Recording r ∷ []) ≡ recorded_count ps key bytes es + one_if (same_put key bytes k b)
+    counted : (k : Key) (b : List ℕ) (t : Bool) → same_image key bytes k b ≡ t → recorded_count ps k b es + 1 ≤ applied_count k b es
+        → recorded_count ps key bytes (es ++ EntryOf.Recording r ∷ []) ≡ recorded_count ps key bytes es + one_if (same_image key bytes k b)
         → recorded_count ps key bytes (es ++ EntryOf.Recording r ∷ []) ≤ applied_count key bytes (es ++ EntryOf.Recording r ∷ [])
     counted k b true e p more =
-        let one : one_if (same_put key bytes k b) ≡ 1 = rw e refl in
+        let one : one_if (same_image key bytes k b) ≡ 1 = rw e refl in
         let both = and_parts (same_key key k) (pointwise nat_eq bytes b) e in
         let x : key ≡ k = key_means key k both.0 in
         let y : bytes ≡ b = bytes_means bytes b both.1 in
@@ -98,23 +98,23 @@ never_recorded ps es r p h key bytes =
         let same = applied_recorded key bytes es r in
         omega arith
     counted k b false e p more =
-        let none : one_if (same_put key bytes k b) ≡ 0 = rw e refl in
+        let none : one_if (same_image key bytes k b) ≡ 0 = rw e refl in
         let same = applied_recorded key bytes es r in
         let le = h key bytes in
         omega arith
 
 -- an application that is noted is pending, and no harm to the balance
-pub pending_applied : (ps : List PackageText) (es : List EntryOf) (p : Put) → NeverMore ps es
+pub pending_applied : (ps : List PackageText) (es : List EntryOf) (p : KeyedImage) → NeverMore ps es
     → IsPending ps p.key p.bytes (es ++ EntryOf.Applied p ∷ [])
 unfolding IsPending NeverMore
 pending_applied ps es p h =
-    let one : one_if (same_put p.key p.bytes p.key p.bytes) ≡ 1 = rw (put_self p) refl in
+    let one : one_if (same_image p.key p.bytes p.key p.bytes) ≡ 1 = rw (put_self p) refl in
     let more = applied_more p.key p.bytes es p in
     let same = recorded_applied ps p.key p.bytes es p in
     let le = h p.key p.bytes in
     omega arith
 
-pub never_applied : (ps : List PackageText) (es : List EntryOf) (p : Put) → NeverMore ps es → NeverMore ps (es ++ EntryOf.Applied p ∷ [])
+pub never_applied : (ps : List PackageText) (es : List EntryOf) (p : KeyedImage) → NeverMore ps es → NeverMore ps (es ++ EntryOf.Applied p ∷ [])
 unfolding NeverMore
 never_applied ps es p h key bytes =
     let more = applied_more key bytes es p in
@@ -122,7 +122,7 @@ never_applied ps es p h key bytes =
     let le = h key bytes in
     omega arith
 
-pub never_activated : (ps : List PackageText) (es : List EntryOf) (p : Put) → NeverMore ps es
+pub never_activated : (ps : List PackageText) (es : List EntryOf) (p : KeyedImage) → NeverMore ps es
     → NeverMore ps (es ++ EntryOf.Activated p ∷ [])
 unfolding NeverMore
 never_activated ps es p h key bytes =

@@ -12,7 +12,7 @@ use Rattle.ua_core.specs.Wish.{stage_wish}
 use Rattle.ua_core.specs.declared.planned.Recorded.{Recorded}
 use Rattle.fw_message.specs.History.{EntryOf}
 use Rattle.ua_core.specs.Lent.{package_at}
-use Rattle.fw_message.specs.Pairs.{HeldOf, PairOf, StepOf, Stepped, asked, down_wish, fresh_cell, is_empty, put_down, step_of, take_down, take_down_at, with_down}
+use Rattle.fw_message.specs.Pairs.{CellContentOf, PairOf, StepOf, Stepped, cell_after_ask, down_wish, fresh_cell, is_empty, put_down, step_of, take_down, take_down_at, with_down}
 use Rattle.fw_message.proofs.Safety.Agreement.{CommandStands, IsStanding, Stray, Together}
 use Rattle.fw_message.proofs.Safety.Begins.{offer_stands, request_stands, switch_stands, table_stands}
 use Rattle.fw_message.proofs.Safety.Loose.{cell}
@@ -23,7 +23,7 @@ use Rattle.fw_message.proofs.Safety.Takes.{Stood, asking, cancel_stands, other_s
 abbrev pub Leaves : List PackageText → List DescriptorOf → List RowOf → List EntryOf → Option Stepped → Type 0
 Leaves ps ds first es o = IfSome o (Stood ps ds first es)
 
-quiet_up : (up : Option HeldOf) (quiet : Bool) → (quiet && not (is_empty up)) ≡ false → quiet ≡ true → up ≡ None
+quiet_up : (up : Option CellContentOf) (quiet : Bool) → (quiet && not (is_empty up)) ≡ false → quiet ≡ true → up ≡ None
 quiet_up None quiet e q = refl
 quiet_up (Some h) true e q = absurd (cc)
 quiet_up (Some h) false e q = absurd (cc)
@@ -63,7 +63,7 @@ module _ (ps : List PackageText) (ds : List DescriptorOf) (first : List RowOf) (
   take_at m c None l quiet works s = take_tested m c l quiet works (quiet && not (is_empty m.up)) refl s
   take_at m c (Some a) l quiet works s = tt
 
-  take_cell : (m : PairOf) (down : Option HeldOf) (quiet works : Bool) → IsStanding ps ds first es (with_down m down)
+  take_cell : (m : PairOf) (down : Option CellContentOf) (quiet works : Bool) → IsStanding ps ds first es (with_down m down)
       → Leaves ps ds first es (take_down (with_down m down) down quiet works)
   take_cell m None quiet works s = tt
   take_cell m (Some h) quiet works s = take_at m h.command h.reply h.live quiet works s
@@ -95,7 +95,7 @@ module _ (ps : List PackageText) (ds : List DescriptorOf) (first : List RowOf) (
   ask_stray rs m n g h = tt
 
   asks : (m : PairOf) (wish : Option CommandOf) → wish ≡ down_wish ps m.session → IsStanding ps ds first es (with_down m None)
-      → Leaves ps ds first es (put_down (with_down m None) (asked None wish))
+      → Leaves ps ds first es (put_down (with_down m None) (cell_after_ask None wish))
   asks m None e s = tt
   asks m (Some c) e s =
       record {
@@ -112,8 +112,8 @@ module _ (ps : List PackageText) (ds : List DescriptorOf) (first : List RowOf) (
         history = s.history;
       }
 
-  asks_at : (m : PairOf) (down : Option HeldOf) → IsStanding ps ds first es (with_down m down)
-      → Leaves ps ds first es (put_down (with_down m down) (asked down (down_wish ps m.session)))
+  asks_at : (m : PairOf) (down : Option CellContentOf) → IsStanding ps ds first es (with_down m down)
+      → Leaves ps ds first es (put_down (with_down m down) (cell_after_ask down (down_wish ps m.session)))
   asks_at m None s = asks m (down_wish ps m.session) refl s
   asks_at m (Some h) s = tt
 

@@ -9,9 +9,9 @@ use Rattle.fwup_wire.specs.Values.{AnswerOf, CommandOf}
 use Rattle.fd_core.specs.Images.{RowOf}
 use Rattle.fd_core.specs.States.{Phase, WorkOf}
 use Rattle.fd_core.specs.declared.states.Progress.TheVariants as progress
-use Rattle.ua_core.specs.Laws.{LearnsInPlan, StandsInPlan}
-use Rattle.ua_core.specs.Learn.{LearnRow, begun, fails, first_pass, first_task, job_for, job_of, learn_by, learn_row, next_pass, planned, with_passed}
-use Rattle.ua_core.specs.Lent.{told_descriptor, package_at}
+use Rattle.ua_core.specs.Laws.{LearnsInPlan, IsStageInPlan}
+use Rattle.ua_core.specs.Learn.{SessionLearnRow, first_stage, failure_row, first_pass, first_task, job_for, job_of, learn_by, learn_row, next_pass, planned, with_passed}
+use Rattle.ua_core.specs.Lent.{package_descriptor, package_at}
 use Rattle.ua_core.specs.Session.{JobOf, SessionOf, Stage, TaskOf}
 use Rattle.ua_core.specs.Wish.{stage_wish}
 use Rattle.ua_core.specs.declared.planned.Planned.{Planned}
@@ -19,7 +19,7 @@ use Rattle.ua_core.specs.declared.planned.Recorded.{Recorded}
 use Rattle.ua_core.specs.declared.state.Cause.{Cause}
 use Rattle.ua_core.specs.declared.state.Cause.TheVariants as causes
 use Rattle.fw_message.specs.History.{EntryOf}
-use Rattle.fw_message.specs.Pairs.{HeldOf, PairOf, StepOf, brought, learn_down, step_of, with_down}
+use Rattle.fw_message.specs.Pairs.{CellContentOf, PairOf, StepOf, waiting_answer, learn_down, step_of, with_down}
 use Rattle.fw_message.proofs.Safety.Agreement.{AreTold, Cleared, FreshIn, HasChosen, IsBegun, IsBegunAt, IsChosen, IsPieceOf, IsStanding, IsTransfer, NothingAccepted, Pending, TableTime, Together, Transfer, UpdateOffered, Waiting, at_hand, command_of, reply_of}
 use Rattle.fw_message.proofs.Safety.Applied.{none_backed}
 use Rattle.fw_message.proofs.Safety.Down.{Leaves}
@@ -39,12 +39,12 @@ fresh_time rows p h = absurd h
 
 -- the record of the device's descriptors is the job's
 chosen_planned : (p : PackageText) (ds : List DescriptorOf) (number : ℕ) (r : Result (List ℕ) PlanFault) → record_number p ds ≡ Some number
-    → HasChosen p ds (begun (planned number r))
+    → HasChosen p ds (first_stage (planned number r))
 chosen_planned p ds number (Err fault) e = tt
 chosen_planned p ds number (Ok []) e = tt
 chosen_planned p ds number (Ok (n ∷ ns)) e = e
 
-chosen_job : (p : PackageText) (ds : List DescriptorOf) (o : Option ℕ) → record_number p ds ≡ o → HasChosen p ds (begun (job_of p o))
+chosen_job : (p : PackageText) (ds : List DescriptorOf) (o : Option ℕ) → record_number p ds ≡ o → HasChosen p ds (first_stage (job_of p o))
 chosen_job p ds None e = tt
 chosen_job p ds (Some number) e = chosen_planned p ds number (plan_of p number) e
 
@@ -74,22 +74,22 @@ module _ (ps : List PackageText) (ds : List DescriptorOf) (es : List EntryOf) wh
   abbrev Gone : PairOf → SessionOf → ℕ → Stage → Type 0
   Gone m s n g = Together ps ds (since es) (after m s) n g × Pending ps es (after m s) n g × HasChosen (package_at ps n) ds g
 
-  abbrev Learns : PairOf → SessionOf → ℕ → Stage → LearnRow → Type 0
-  Learns m s n g LearnRow.Stay = Together ps ds (since es) (after m s) n g
-  Learns m s n g (LearnRow.Go k) = Gone m s n k
+  abbrev Learns : PairOf → SessionOf → ℕ → Stage → SessionLearnRow → Type 0
+  Learns m s n g SessionLearnRow.Stay = Together ps ds (since es) (after m s) n g
+  Learns m s n g (SessionLearnRow.Go k) = Gone m s n k
 
-  failed : (m : PairOf) (s : SessionOf) (n : ℕ) (g : Stage) (cause : Cause) → Learns m s n g (fails cause)
+  failed : (m : PairOf) (s : SessionOf) (n : ℕ) (g : Stage) (cause : Cause) → Learns m s n g (failure_row cause)
   failed m s n g cause = (tt, tt, tt)
 
-  begun_gone : (m : PairOf) (s : SessionOf) (n : ℕ) (r : Result JobOf Cause) → HasChosen (package_at ps n) ds (begun r)
-      → Gone m s n (begun r)
+  begun_gone : (m : PairOf) (s : SessionOf) (n : ℕ) (r : Result JobOf Cause) → HasChosen (package_at ps n) ds (first_stage r)
+      → Gone m s n (first_stage r)
   begun_gone m s n (Err cause) h = (tt, tt, tt)
   begun_gone m s n (Ok j) h = (tt, tt, h)
 
   query_learns : (m : PairOf) (s : SessionOf) (n : ℕ) (a : AnswerOf) → AreTold ds (Some a)
       → Learns m s n Stage.Query (learn_row (package_at ps n) Stage.Query (Ok a))
   query_learns m s n (AnswerOf.QueryDeviceIdentifiers xs) t =
-      begun_gone m s n (job_for (package_at ps n) xs) (chosen_job (package_at ps n) ds (record_number (package_at ps n) (map told_descriptor xs)) (ap (record_number (package_at ps n)) (sym t)))
+      begun_gone m s n (job_for (package_at ps n) xs) (chosen_job (package_at ps n) ds (record_number (package_at ps n) (map package_descriptor xs)) (ap (record_number (package_at ps n)) (sym t)))
   query_learns m s n a t = failed m s n Stage.Query causes.Answer
 
   params_learns : (m : PairOf) (s : SessionOf) (n : ℕ) (j : JobOf) (a : AnswerOf) → IsChosen (package_at ps n) ds j
@@ -102,7 +102,7 @@ module _ (ps : List PackageText) (ds : List DescriptorOf) (es : List EntryOf) wh
       → Learns m s n (Stage.ClearOld j) (learn_row (package_at ps n) (Stage.ClearOld j) (Ok a))
   clear_learns m s n j AnswerOf.CancelUpdate c h = (h, tt, c)
   clear_learns m s n j (AnswerOf.Refused code) c h =
-      cond_both (code == 0x80) (LearnRow.Go (Stage.Request j)) (fails causes.Answer) (Learns m s n (Stage.ClearOld j)) (λ e. (h (eqb-true code 0x80 e), tt, c)) (λ e. failed m s n (Stage.ClearOld j) causes.Answer)
+      cond_both (code == 0x80) (SessionLearnRow.Go (Stage.Request j)) (failure_row causes.Answer) (Learns m s n (Stage.ClearOld j)) (λ e. (h (eqb-true code 0x80 e), tt, c)) (λ e. failed m s n (Stage.ClearOld j) causes.Answer)
   clear_learns m s n j a c h = failed m s n (Stage.ClearOld j) causes.Answer
 
   first_gone : (m : PairOf) (s : SessionOf) (n : ℕ) (j : JobOf) (is : List Planned) → IsChosen (package_at ps n) ds j
@@ -116,7 +116,7 @@ module _ (ps : List PackageText) (ds : List DescriptorOf) (es : List EntryOf) wh
       → Learns m s n (Stage.Request j) (learn_row (package_at ps n) (Stage.Request j) (Ok a))
   request_learns m s n j AnswerOf.RequestUpdate d l c h = first_gone m s n j j.plan c h
   request_learns m s n j (AnswerOf.Refused code) d l c h =
-      cond_both (code == 4) LearnRow.Stay (fails causes.Answer) (Learns m s n (Stage.Request j)) (λ e. h) (λ e. failed m s n (Stage.Request j) causes.Answer)
+      cond_both (code == 4) SessionLearnRow.Stay (failure_row causes.Answer) (Learns m s n (Stage.Request j)) (λ e. h) (λ e. failed m s n (Stage.Request j) causes.Answer)
   request_learns m s n j a d l c h = failed m s n (Stage.Request j) causes.Answer
 
   task_gone : (m : PairOf) (s : SessionOf) (n : ℕ) (j : JobOf) (todo : List Planned) → IsChosen (package_at ps n) ds j
@@ -141,13 +141,13 @@ module _ (ps : List PackageText) (ds : List DescriptorOf) (es : List EntryOf) wh
       → Together ps ds (since es) (with_down m (Some (cell d (Some a) l))) n (Stage.Update t)
       → Learns m s n (Stage.Update t) (learn_row (package_at ps n) (Stage.Update t) (Ok a))
   update_learns m s n t (AnswerOf.UpdateComponent response) d l c h =
-      cond_both (response.compatibility == 0) (LearnRow.Go (Stage.Download t)) (fails causes.Refused) (Learns m s n (Stage.Update t))
+      cond_both (response.compatibility == 0) (SessionLearnRow.Go (Stage.Download t)) (failure_row causes.Refused) (Learns m s n (Stage.Update t))
       (λ e.
       let P : Bool → Type 0 = λ b. UpdateOffered ps ds n (since es) (at_hand (package_at ps n) t) m.device.rows m.device.stage m.device.phase (reply_of m.up) b in
       (begun_at n (since es) (at_hand (package_at ps n) t) m.device.rows m.device.stage m.device.phase (command_of m.up) (reply_of m.up) (subst P e h), tt, c))
       (λ e. failed m s n (Stage.Update t) causes.Refused)
   update_learns m s n t (AnswerOf.Refused code) d l c h =
-      cond_both ((code == 4) || (code == 0x84)) LearnRow.Stay (fails causes.Answer) (Learns m s n (Stage.Update t)) (λ e. h) (λ e. failed m s n (Stage.Update t) causes.Answer)
+      cond_both ((code == 4) || (code == 0x84)) SessionLearnRow.Stay (failure_row causes.Answer) (Learns m s n (Stage.Update t)) (λ e. h) (λ e. failed m s n (Stage.Update t) causes.Answer)
   update_learns m s n t a d l c h = failed m s n (Stage.Update t) causes.Answer
 
   activate_learns : (m : PairOf) (s : SessionOf) (n : ℕ) (j : JobOf) (a : AnswerOf) (d : CommandOf) (l : Bool)
@@ -155,7 +155,7 @@ module _ (ps : List PackageText) (ds : List DescriptorOf) (es : List EntryOf) wh
       → Learns m s n (Stage.Activate j) (learn_row (package_at ps n) (Stage.Activate j) (Ok a))
   activate_learns m s n j (AnswerOf.ActivateFirmware time) d l h = (tt, tt, tt)
   activate_learns m s n j (AnswerOf.Refused code) d l h =
-      cond_both (code == 0x84) LearnRow.Stay (fails causes.Answer) (Learns m s n (Stage.Activate j)) (λ e. h) (λ e. failed m s n (Stage.Activate j) causes.Answer)
+      cond_both (code == 0x84) SessionLearnRow.Stay (failure_row causes.Answer) (Learns m s n (Stage.Activate j)) (λ e. h) (λ e. failed m s n (Stage.Activate j) causes.Answer)
   activate_learns m s n j a d l h = failed m s n (Stage.Activate j) causes.Answer
 
   stage_learns : (m : PairOf) (s : SessionOf) (n : ℕ) (a : AnswerOf) (d : CommandOf) (l : Bool) (g : Stage) → AreTold ds (Some a)
@@ -172,11 +172,11 @@ module _ (ps : List PackageText) (ds : List DescriptorOf) (es : List EntryOf) wh
   stage_learns m s n a d l g t c h = h
 
   module _ (first : List RowOf) where
-    learn_by_row : (m : PairOf) (d : Option HeldOf) (row : LearnRow) → IsStanding ps ds first es (with_down m d)
-        → StandsInPlan (package_at ps m.session.number) (learn_by m.session row).stage
+    learn_by_row : (m : PairOf) (d : Option CellContentOf) (row : SessionLearnRow) → IsStanding ps ds first es (with_down m d)
+        → IsStageInPlan (package_at ps m.session.number) (learn_by m.session row).stage
         → Learns m (learn_by m.session row) m.session.number m.session.stage row
         → IsStanding ps ds first es (after m (learn_by m.session row))
-    learn_by_row m d LearnRow.Stay s p h =
+    learn_by_row m d SessionLearnRow.Stay s p h =
         record {
           own = s.own;
           command = none_command m.session.stage (stage_wish m.session.unit (package_at ps m.session.number) m.session.stage);
@@ -190,7 +190,7 @@ module _ (ps : List PackageText) (ds : List DescriptorOf) (es : List EntryOf) wh
           told = tt;
           history = s.history;
         }
-    learn_by_row m d (LearnRow.Go g) s p h =
+    learn_by_row m d (SessionLearnRow.Go g) s p h =
         record {
           own = s.own;
           command = none_command g (stage_wish m.session.unit (package_at ps m.session.number) g);
@@ -221,8 +221,8 @@ module _ (ps : List PackageText) (ds : List DescriptorOf) (es : List EntryOf) wh
     learn_at law m c None true s = tt
     learn_at law m c r false s = tt
 
-    learn_held : (law : LearnsInPlan) (m : PairOf) (down : Option HeldOf) → IsStanding ps ds first es (with_down m down)
-        → Leaves ps ds first es (learn_down ps (with_down m down) (brought down))
+    learn_held : (law : LearnsInPlan) (m : PairOf) (down : Option CellContentOf) → IsStanding ps ds first es (with_down m down)
+        → Leaves ps ds first es (learn_down ps (with_down m down) (waiting_answer down))
     learn_held law m None s = tt
     learn_held law m (Some h) s = learn_at law m h.command h.reply h.live s
 

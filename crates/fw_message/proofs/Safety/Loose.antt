@@ -3,31 +3,31 @@ use Rattle.std.specs.Prelude.{ℕ, Bool, true, false, List, Option, Some, None}
 use Rattle.std.proofs.Common.{inl, inr}
 use Rattle.fw_package.specs.Package.{DescriptorOf, PackageText, ComponentOf}
 use Rattle.fwup_wire.specs.Values.{AnswerOf, CommandOf}
-use Rattle.fd_core.specs.Images.{RowOf, dropped}
+use Rattle.fd_core.specs.Images.{RowOf, rows_after_drop}
 use Rattle.fd_core.specs.States.{DeviceState, Phase}
 use Rattle.fd_core.specs.declared.states.Reason.{Reason}
 use Rattle.fd_core.specs.declared.states.State.{State}
-use Rattle.ua_core.specs.Laws.{IsLoose, StandsInPlan}
+use Rattle.ua_core.specs.Laws.{IsOutsideUpdate, IsStageInPlan}
 use Rattle.ua_core.specs.Session.{Stage}
 use Rattle.ua_core.specs.Wish.{stage_wish}
 use Rattle.ua_core.specs.declared.planned.Recorded.{Recorded}
 use Rattle.fw_message.specs.History.{EntryOf}
 use Rattle.ua_core.specs.Lent.{package_at}
-use Rattle.fw_message.specs.Pairs.{HeldOf, PairOf}
+use Rattle.fw_message.specs.Pairs.{CellContentOf, PairOf}
 use Rattle.fw_message.proofs.Safety.Agreement.{Activation, AreTold, Cleared, CommandStands, FreshUpdate, HasChosen, IsStanding, Pending, Stray, Together, UpdateOffered, asked_of, at_hand, is_offered, reply_of}
 use Rattle.fw_message.proofs.Safety.Histories.{history_dropped}
 use Rattle.fw_message.proofs.Safety.Readings.{since}
 
-abbrev pub cell : CommandOf → Option AnswerOf → Bool → HeldOf
+abbrev pub cell : CommandOf → Option AnswerOf → Bool → CellContentOf
 cell c r l = record { command = c; reply = r; live = l }
 
 -- a device that is idle again, with nothing applied
 abbrev pub idle_device : DeviceState → List ℕ → State → Reason → DeviceState
 idle_device v bytes previous reason =
-    record v { phase = Phase.Idle; rows = dropped v.rows; stage = bytes; previous = previous; reason = reason }
+    record v { phase = Phase.Idle; rows = rows_after_drop v.rows; stage = bytes; previous = previous; reason = reason }
 
 -- the session in another state, and perhaps with another package
-abbrev pub loosened : PairOf → Stage → ℕ → Option HeldOf → PairOf
+abbrev pub loosened : PairOf → Stage → ℕ → Option CellContentOf → PairOf
 loosened m g n down = record m { session = record { unit = m.session.unit; stage = g; number = n; records = m.session.records }; down = down }
 
 -- an empty cell
@@ -90,7 +90,7 @@ module _ (ps : List PackageText) (ds : List DescriptorOf) where
         form = tt;
         together = lost_together (since es) m (idle_device m.device bytes previous reason) m.session.number m.session.stage;
         pending = lost_pending es m (idle_device m.device bytes previous reason) m.session.number m.session.stage s.pending;
-        stray = stray_lost (since es) m.device.rows (dropped m.device.rows) m.device.phase (asked_of m.down) s.stray;
+        stray = stray_lost (since es) m.device.rows (rows_after_drop m.device.rows) m.device.phase (asked_of m.down) s.stray;
         plan = s.plan;
         chosen = s.chosen;
         identified = s.identified;
@@ -98,7 +98,7 @@ module _ (ps : List PackageText) (ds : List DescriptorOf) where
         history = history_dropped ps ds first m.device.rows m.session.records es s.history;
       }
 
-  pub loose_command : (g : Stage) (wish : Option CommandOf) (down : Option HeldOf) → IsLoose g → CommandStands g wish down
+  pub loose_command : (g : Stage) (wish : Option CommandOf) (down : Option CellContentOf) → IsOutsideUpdate g → CommandStands g wish down
   loose_command Stage.Idle wish down l = tt
   loose_command Stage.Query wish down l = tt
   loose_command Stage.Done wish down l = tt
@@ -106,7 +106,7 @@ module _ (ps : List PackageText) (ds : List DescriptorOf) where
   loose_command (Stage.Failed c) wish down l = tt
   loose_command g wish down l = absurd l
 
-  pub loose_together : (rs : List Recorded) (m : PairOf) (n : ℕ) (g : Stage) → IsLoose g → Together ps ds rs m n g
+  pub loose_together : (rs : List Recorded) (m : PairOf) (n : ℕ) (g : Stage) → IsOutsideUpdate g → Together ps ds rs m n g
   loose_together rs m n Stage.Idle l = tt
   loose_together rs m n Stage.Query l = tt
   loose_together rs m n Stage.Done l = tt
@@ -114,11 +114,11 @@ module _ (ps : List PackageText) (ds : List DescriptorOf) where
   loose_together rs m n (Stage.Failed c) l = tt
   loose_together rs m n g l = absurd l
 
-  pub loose_pending : (es : List EntryOf) (m : PairOf) (n : ℕ) (g : Stage) → IsLoose g → Pending ps es m n g
+  pub loose_pending : (es : List EntryOf) (m : PairOf) (n : ℕ) (g : Stage) → IsOutsideUpdate g → Pending ps es m n g
   loose_pending es m n (Stage.Apply t) l = absurd l
   loose_pending es m n g l = tt
 
-  loose_plan : (n : ℕ) (g : Stage) → IsLoose g → StandsInPlan (package_at ps n) g
+  loose_plan : (n : ℕ) (g : Stage) → IsOutsideUpdate g → IsStageInPlan (package_at ps n) g
   loose_plan n Stage.Idle l = tt
   loose_plan n Stage.Query l = tt
   loose_plan n Stage.Done l = tt
@@ -126,7 +126,7 @@ module _ (ps : List PackageText) (ds : List DescriptorOf) where
   loose_plan n (Stage.Failed c) l = tt
   loose_plan n g l = absurd l
 
-  loose_chosen : (n : ℕ) (g : Stage) → IsLoose g → HasChosen (package_at ps n) ds g
+  loose_chosen : (n : ℕ) (g : Stage) → IsOutsideUpdate g → HasChosen (package_at ps n) ds g
   loose_chosen n Stage.Idle l = tt
   loose_chosen n Stage.Query l = tt
   loose_chosen n Stage.Done l = tt
@@ -135,7 +135,7 @@ module _ (ps : List PackageText) (ds : List DescriptorOf) where
   loose_chosen n g l = absurd l
 
   -- any row of the session into such a state
-  pub loose_stands : (first : List RowOf) (es : List EntryOf) (m : PairOf) (g : Stage) (n : ℕ) (down : Option HeldOf) → IsLoose g
+  pub loose_stands : (first : List RowOf) (es : List EntryOf) (m : PairOf) (g : Stage) (n : ℕ) (down : Option CellContentOf) → IsOutsideUpdate g
       → Stray ps ds (since es) m.device.rows m.device.phase (asked_of down) → AreTold ds (reply_of down)
       → IsStanding ps ds first es m → IsStanding ps ds first es (loosened m g n down)
   loose_stands first es m g n down l stray told s =

@@ -10,11 +10,11 @@ use Rattle.ua_core.specs.Session.{Stage}
 use Rattle.ua_core.specs.declared.planned.Recorded.{Recorded}
 use Rattle.fw_message.specs.History.{EntryOf}
 use Rattle.ua_core.specs.Lent.{package_at}
-use Rattle.fw_message.specs.Pairs.{HeldOf, PairOf}
+use Rattle.fw_message.specs.Pairs.{CellContentOf, PairOf}
 use Rattle.fw_message.proofs.Safety.Agreement.{Activation, Application, Cleared, FreshIn, FreshUpdate, IsBegunAt, IsLost, IsStanding, IsUnderWay, OwnStands, Pending, Settled, StageForm, Stray, TableTime, Together, Transfer, UpdateOffered, Verification, Waiting, asked_of, at_hand, command_of, is_offered, reply_of}
 use Rattle.fw_message.proofs.Safety.Readings.{since}
 
-abbrev pub with_device : PairOf → DeviceState → Option HeldOf → PairOf
+abbrev pub with_device : PairOf → DeviceState → Option CellContentOf → PairOf
 with_device m v u = record m { device = v; up = u }
 
 -- the same device with this stage, in this phase
@@ -33,7 +33,7 @@ fresh_moves rows rows' p q r lost fresh h = lost h
 
 module _ (ps : List PackageText) (ds : List DescriptorOf) where
   -- what holds of a device and its cell in each state of the session, carried from one device to another
-  pub record IsMove (rs : List Recorded) (v w : DeviceState) (u x : Option HeldOf) : Type 0 where
+  pub record IsMove (rs : List Recorded) (v w : DeviceState) (u x : Option CellContentOf) : Type 0 where
     pub lost : IsLost v.phase → IsLost w.phase
     pub fresh : FreshIn v.rows v.phase → FreshIn w.rows w.phase
     pub time : TableTime v.rows v.phase → TableTime w.rows w.phase
@@ -48,7 +48,7 @@ module _ (ps : List PackageText) (ds : List DescriptorOf) where
         → Application ps ds n rs c w.rows w.stage w.phase (reply_of x)
     pub settled : (n : ℕ) → Settled ps ds n rs v.rows v.phase → Settled ps ds n rs w.rows w.phase
 
-  offered_moves : (rs : List Recorded) (v w : DeviceState) (u x : Option HeldOf) (n : ℕ) (c : ComponentOf) (b : Bool) → IsMove rs v w u x
+  offered_moves : (rs : List Recorded) (v w : DeviceState) (u x : Option CellContentOf) (n : ℕ) (c : ComponentOf) (b : Bool) → IsMove rs v w u x
       → UpdateOffered ps ds n rs c v.rows v.stage v.phase (reply_of u) b → UpdateOffered ps ds n rs c w.rows w.stage w.phase (reply_of x) b
   offered_moves rs v w u x n c true k h = k.begun n c h
   offered_moves rs v w u x n c false k h = k.waiting n h
@@ -58,7 +58,7 @@ module _ (ps : List PackageText) (ds : List DescriptorOf) where
   activation_moves rs rows rows' p q n (Some (AnswerOf.ActivateFirmware time)) k h = tt
   activation_moves rs rows rows' p q n r k h = k h
 
-  pub together_moves : (rs : List Recorded) (m : PairOf) (v w : DeviceState) (u x : Option HeldOf) (n : ℕ) (g : Stage) → IsMove rs v w u x
+  pub together_moves : (rs : List Recorded) (m : PairOf) (v w : DeviceState) (u x : Option CellContentOf) (n : ℕ) (g : Stage) → IsMove rs v w u x
       → Together ps ds rs (with_device m v u) n g → Together ps ds rs (with_device m w x) n g
   together_moves rs m v w u x n (Stage.ClearOld j) k h = cleared_moves v.phase w.phase (reply_of m.down) k.lost h
   together_moves rs m v w u x n (Stage.Request j) k h = fresh_moves v.rows w.rows v.phase w.phase (reply_of m.down) k.lost k.fresh h
@@ -73,13 +73,13 @@ module _ (ps : List PackageText) (ds : List DescriptorOf) where
       activation_moves rs v.rows w.rows v.phase w.phase n (reply_of m.down) (k.settled n) h
   together_moves rs m v w u x n g k h = tt
 
-  pub stray_moves : (rs : List Recorded) (v w : DeviceState) (u x : Option HeldOf) (c : Option CommandOf) → IsMove rs v w u x
+  pub stray_moves : (rs : List Recorded) (v w : DeviceState) (u x : Option CellContentOf) (c : Option CommandOf) → IsMove rs v w u x
       → Stray ps ds rs v.rows v.phase c → Stray ps ds rs w.rows w.phase c
   stray_moves rs v w u x (Some (CommandOf.ActivateFirmware b)) k h = (h.0, k.settled h.0 h.1)
   stray_moves rs v w u x (Some CommandOf.CancelUpdateComponent) k h = h
   stray_moves rs v w u x c k h = tt
 
-  pending_moves : (es : List EntryOf) (m : PairOf) (v w : DeviceState) (u x : Option HeldOf) (n : ℕ) (g : Stage)
+  pending_moves : (es : List EntryOf) (m : PairOf) (v w : DeviceState) (u x : Option CellContentOf) (n : ℕ) (g : Stage)
       → (IsUnderWay w.phase x → IsUnderWay v.phase u)
       → Pending ps es (with_device m v u) n g → Pending ps es (with_device m w x) n g
   pending_moves es m v w u x n (Stage.Apply t) k h = λ e. h (k e)
@@ -87,7 +87,7 @@ module _ (ps : List PackageText) (ds : List DescriptorOf) where
 
   module _ (first : List RowOf) (es : List EntryOf) where
     -- a move of a device that keeps its rows
-    pub moves_stand : (m : PairOf) (v : DeviceState) (p : Phase) (bytes : List ℕ) (previous : State) (u x : Option HeldOf)
+    pub moves_stand : (m : PairOf) (v : DeviceState) (p : Phase) (bytes : List ℕ) (previous : State) (u x : Option CellContentOf)
         → IsMove (since es) v (at_phase v p bytes previous) u x
         → OwnStands p (wish_at v.unit p (length bytes)) (command_of x) → StageForm p (length bytes) → (IsUnderWay p x → IsUnderWay v.phase u)
         → IsStanding ps ds first es (with_device m v u) → IsStanding ps ds first es (with_device m (at_phase v p bytes previous) x)

@@ -11,7 +11,7 @@ use Rattle.ua_core.specs.Laws.{IsTask, number_of}
 use Rattle.ua_core.specs.Lent.{key_of, package_at}
 use Rattle.ua_core.specs.Session.{TaskOf}
 use Rattle.ua_core.specs.declared.planned.Planned.{Planned}
-use Rattle.fw_message.specs.History.{IsNamed}
+use Rattle.fw_message.specs.History.{IsNamedComponent}
 use Rattle.fw_message.proofs.Safety.Agreement.{IsChosen, at_hand}
 use Rattle.fw_message.proofs.Safety.Applied.{Names}
 
@@ -51,6 +51,6 @@ task_names law ps ds n t c h =
 
 pub task_named : (ps : List PackageText) (ds : List DescriptorOf) (n : ℕ) (t : TaskOf) → IsChosen (package_at ps n) ds t.job
     → IsTask (package_at ps n) t
-    → IsNamed ps ds (record { «package» = n; component = t.at_hand.component })
+    → IsNamedComponent ps ds (record { «package» = n; component = t.at_hand.component })
 task_named ps ds n t c h =
     rw c (subst (λ (ns : List ℕ). Contains ns t.at_hand.component) (sym (plan_uses (package_at ps n) t.job.chosen (map number_of t.job.plan) h.0)) (contains_number t.job.plan t.at_hand h.1))

@@ -7,14 +7,14 @@ use Rattle.fwup_wire.specs.Values.{AnswerOf, CommandOf}
 use Rattle.fd_core.specs.Commands.{download_progress}
 use Rattle.fd_core.specs.Images.{RowOf}
 use Rattle.fd_core.specs.States.{DeviceState, Phase, UpdateOf, WorkOf, state_of}
-use Rattle.fd_core.specs.Wishes.{LearnRow, asked_length, download_by, learn_at, stage_with}
+use Rattle.fd_core.specs.Wishes.{DeviceLearnRow, asked_length, download_by, learn_at, stage_with}
 use Rattle.fd_core.specs.declared.states.Progress.{Progress}
 use Rattle.fd_core.specs.declared.states.Progress.TheVariants as progress
 use Rattle.fd_core.specs.declared.states.State.{State}
 use Rattle.ua_core.specs.Laws.{WindowContinues}
 use Rattle.ua_core.specs.declared.planned.Recorded.{Recorded}
 use Rattle.fw_message.specs.History.{EntryOf}
-use Rattle.fw_message.specs.Pairs.{HeldOf, PairOf, StepOf, brought, learn_up, step_of, with_up}
+use Rattle.fw_message.specs.Pairs.{CellContentOf, PairOf, StepOf, waiting_answer, learn_up, step_of, with_up}
 use Rattle.fw_message.proofs.Safety.Agreement.{IsPieceOf, IsStanding, IsTransfer, IsUnderWay, StageForm}
 use Rattle.fw_message.proofs.Safety.Begins.{full_either}
 use Rattle.fw_message.proofs.Safety.Cells.{emptied_stands}
@@ -28,7 +28,7 @@ put_form : (u : UpdateOf) (w : WorkOf) (have : ℕ) → have ≤ w.size → Stag
 put_form u w have le = full_either have w.size (λ a. StageForm (Phase.Download u w a) have) (λ lt. lt) (λ ge. omega (arith, le, ge))
 
 -- nothing is under way
-not_sealed : (u : UpdateOf) (w : WorkOf) (p : Progress) (q : Phase) (x : Option HeldOf) → IsUnderWay (Phase.Download u w p) None
+not_sealed : (u : UpdateOf) (w : WorkOf) (p : Progress) (q : Phase) (x : Option CellContentOf) → IsUnderWay (Phase.Download u w p) None
     → IsUnderWay q x
 not_sealed u w p q x h = elim h [ inl bad ↦ absurd (cc) | inr bad ↦ absurd (cc) ]
 
@@ -92,7 +92,7 @@ module _ (ps : List PackageText) (ds : List DescriptorOf) where
     settled = λ n h. h;
   }
 
-  reported_download : (rs : List Recorded) (v : DeviceState) (u : UpdateOf) (w : WorkOf) (b : Bool) (x : Option HeldOf)
+  reported_download : (rs : List Recorded) (v : DeviceState) (u : UpdateOf) (w : WorkOf) (b : Bool) (x : Option CellContentOf)
       → IsMove ps ds rs (record v { phase = Phase.Download u w (progress.Failed b) }) (record v { phase = Phase.Download u w (progress.Failed true) }) x None
   reported_download rs v u w b x = record {
     lost = λ h. h;
@@ -121,7 +121,7 @@ module _ (ps : List PackageText) (ds : List DescriptorOf) where
     settled = λ n h. h;
   }
 
-  reported_verify : (rs : List Recorded) (v : DeviceState) (u : UpdateOf) (w : WorkOf) (b : Bool) (x : Option HeldOf)
+  reported_verify : (rs : List Recorded) (v : DeviceState) (u : UpdateOf) (w : WorkOf) (b : Bool) (x : Option CellContentOf)
       → IsMove ps ds rs (record v { phase = Phase.Verify u w (progress.Failed b) }) (record v { phase = Phase.Verify u w (progress.Failed true) }) x None
   reported_verify rs v u w b x = record {
     lost = λ h. h;
@@ -150,7 +150,7 @@ module _ (ps : List PackageText) (ds : List DescriptorOf) where
     settled = λ n h. h;
   }
 
-  reported_apply : (rs : List Recorded) (v : DeviceState) (u : UpdateOf) (w : WorkOf) (b : Bool) (x : Option HeldOf)
+  reported_apply : (rs : List Recorded) (v : DeviceState) (u : UpdateOf) (w : WorkOf) (b : Bool) (x : Option CellContentOf)
       → IsMove ps ds rs (record v { phase = Phase.Apply u w (progress.Failed b) }) (record v { phase = Phase.Apply u w (progress.Failed true) }) x None
   reported_apply rs v u w b x = record {
     lost = λ h. h;
@@ -176,9 +176,9 @@ module _ (ps : List PackageText) (ds : List DescriptorOf) where
         let lt : length v.stage < w.size = s.form in
         let is : CommandOf.RequestFirmwareData (length v.stage) asked ≡ d = let own = s.own in cc in
         let more = stage_with v w bytes in
-        let Learnt : LearnRow → Type 0 = λ row. IsStanding ps ds first es (with_device m (download_by now u w row).after None) in
-        cond_both (length bytes == asked) (if works then LearnRow.PutPiece bytes else LearnRow.PutFails) LearnRow.Stay Learnt
-        (λ e. cond_both works (LearnRow.PutPiece bytes) LearnRow.PutFails Learnt
+        let Learnt : DeviceLearnRow → Type 0 = λ row. IsStanding ps ds first es (with_device m (download_by now u w row).after None) in
+        cond_both (length bytes == asked) (if works then DeviceLearnRow.PutPiece bytes else DeviceLearnRow.PutFails) DeviceLearnRow.Stay Learnt
+        (λ e. cond_both works (DeviceLearnRow.PutPiece bytes) DeviceLearnRow.PutFails Learnt
         (λ f. moves_stand ps ds first es m now (Phase.Download u w (download_progress (length more) w.size)) more v.previous held None
         (put_moves law (since es) v u w bytes (download_progress (length more) w.size) d asked l is lt)
         tt (put_form u w (length more) (piece_short v.stage bytes w.size (omega (arith, lt)))) (not_sealed u w (download_progress (length more) w.size) now.phase held) s)
@@ -252,8 +252,8 @@ module _ (ps : List PackageText) (ds : List DescriptorOf) where
     learn_live law m c None true works s = tt
     learn_live law m c r false works s = tt
 
-    learn_held : (law : WindowContinues) (m : PairOf) (up : Option HeldOf) (works : Bool) → IsStanding ps ds first es (with_up m up)
-        → Leaves ps ds first es (learn_up (with_up m up) (brought up) works)
+    learn_held : (law : WindowContinues) (m : PairOf) (up : Option CellContentOf) (works : Bool) → IsStanding ps ds first es (with_up m up)
+        → Leaves ps ds first es (learn_up (with_up m up) (waiting_answer up) works)
     learn_held law m None works s = tt
     learn_held law m (Some h) works s = learn_live law m h.command h.reply h.live works s
 

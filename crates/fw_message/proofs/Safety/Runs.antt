@@ -11,11 +11,11 @@ use Rattle.fd_core.specs.States.{DeviceState, Phase}
 use Rattle.fwup_wire.specs.declared.values.Key.{Key}
 use Rattle.ua_core.specs.Calls.{new_session}
 use Rattle.ua_core.specs.Laws.{LearnsInPlan, ServesInPlan, WindowContinues}
-use Rattle.ua_core.specs.Lent.{told_descriptor}
+use Rattle.ua_core.specs.Lent.{package_descriptor}
 use Rattle.ua_core.specs.Session.{SessionOf}
-use Rattle.fw_message.specs.History.{EntryOf, IsNamed, IsOfOnePackage, IsSafe, WasApplied, activations, applied_count, read_along, recorded_count}
+use Rattle.fw_message.specs.History.{EntryOf, IsNamedComponent, IsOfOnePackage, IsSafe, WasApplied, activations, applied_count, read_along, recorded_count}
 use Rattle.fw_message.specs.Laws.{IsOpening, IsSafeAndTied, IsUnapplied, MessagesAreSafe}
-use Rattle.fw_message.specs.Pairs.{HeldOf, PairOf, PairRun, StepOf, Stepped, closing, message_along, noted, pair_after, ran_on, run_after, step_of}
+use Rattle.fw_message.specs.Pairs.{CellContentOf, PairOf, PairRun, StepOf, Stepped, closing, message_along, history_with, pair_after, ran_on, run_after, step_of}
 use Rattle.fw_message.specs.declared.side.Side.TheVariants as sides
 use Rattle.fw_message.specs.declared.side.Way.TheVariants as ways
 use Rattle.fw_message.proofs.Safety.Agreement.{IsStanding}
@@ -65,7 +65,7 @@ module _ (ps : List PackageText) (ds : List DescriptorOf) (first : List RowOf) w
 
   closed_after : (es : List EntryOf) (o : Option Stepped) → Leaves ps ds first es o → Leaves ps ds first es (option_map (closing ps) o)
   closed_after es None h = tt
-  closed_after es (Some t) h = closes ps ds first (noted es t.noted) t.after h
+  closed_after es (Some t) h = closes ps ds first (history_with es t.noted) t.after h
 
   pub pair_stands : (laws : Laws) (es : List EntryOf) (m : PairOf) (s : StepOf) → IsStanding ps ds first es m
       → Leaves ps ds first es (pair_after ps m s)
@@ -105,7 +105,7 @@ balanced_nothing ps (suc n) key bytes = none_more ps key bytes
 safe_nothing : (ps : List PackageText) (ds : List DescriptorOf) → IsSafe ps ds []
 safe_nothing ps ds = record {
   activated = rw activations_nothing (All-nil (IsOfOnePackage ps ds));
-  named = All-nil (IsNamed ps ds);
+  named = All-nil (IsNamedComponent ps ds);
   applied = balanced_nothing ps;
 }
 
@@ -122,7 +122,7 @@ history_nothing ps ds rows h = record {
 }
 
 begins : (ps : List PackageText) (v : DeviceState) → All IsUnapplied v.rows
-    → IsStanding ps (map told_descriptor v.descriptors) v.rows [] (record { device = record v { phase = Phase.Idle }; session = (new_session v.unit).session; down = None; up = None })
+    → IsStanding ps (map package_descriptor v.descriptors) v.rows [] (record { device = record v { phase = Phase.Idle }; session = (new_session v.unit).session; down = None; up = None })
 begins ps v h = record {
   own = tt;
   command = tt;
@@ -134,25 +134,25 @@ begins ps v h = record {
   chosen = tt;
   identified = refl;
   told = tt;
-  history = history_nothing ps (map told_descriptor v.descriptors) v.rows h;
+  history = history_nothing ps (map package_descriptor v.descriptors) v.rows h;
 }
 
 pub opening_stands : (ps : List PackageText) (r : PairRun) → IsOpening r
-    → Stands ps (map told_descriptor r.pair.device.descriptors) r.pair.device.rows r
+    → Stands ps (map package_descriptor r.pair.device.descriptors) r.pair.device.rows r
 opening_stands ps r h =
     let v = r.pair.device in
-    let P : Phase → SessionOf → Option HeldOf → Option HeldOf → List EntryOf → Type 0 = λ p s d u es.
-    IsStanding ps (map told_descriptor v.descriptors) v.rows es (record { device = record v { phase = p }; session = s; down = d; up = u }) in
+    let P : Phase → SessionOf → Option CellContentOf → Option CellContentOf → List EntryOf → Type 0 = λ p s d u es.
+    IsStanding ps (map package_descriptor v.descriptors) v.rows es (record { device = record v { phase = p }; session = s; down = d; up = u }) in
     let a : P Phase.Idle (new_session v.unit).session None None [] = begins ps v h.unapplied in
     let b : P r.pair.device.phase (new_session v.unit).session None None [] = subst (λ (x : Phase). P x (new_session v.unit).session None None []) (sym h.idle) a in
     let c : P r.pair.device.phase r.pair.session None None [] = subst (λ (x : SessionOf). P r.pair.device.phase x None None []) (sym h.session) b in
-    let d : P r.pair.device.phase r.pair.session r.pair.down None [] = subst (λ (x : Option HeldOf). P r.pair.device.phase r.pair.session x None []) (sym h.down) c in
-    let e : P r.pair.device.phase r.pair.session r.pair.down r.pair.up [] = subst (λ (x : Option HeldOf). P r.pair.device.phase r.pair.session r.pair.down x []) (sym h.up) d in
+    let d : P r.pair.device.phase r.pair.session r.pair.down None [] = subst (λ (x : Option CellContentOf). P r.pair.device.phase r.pair.session x None []) (sym h.down) c in
+    let e : P r.pair.device.phase r.pair.session r.pair.down r.pair.up [] = subst (λ (x : Option CellContentOf). P r.pair.device.phase r.pair.session r.pair.down x []) (sym h.up) d in
     subst (λ (x : List EntryOf). P r.pair.device.phase r.pair.session r.pair.down r.pair.up x) (sym h.entries) e
 
 -- what stands is safe and tied
 safe_and_tied : (ps : List PackageText) (opening : PairRun) (o : Option PairRun)
-    → IfSome o (Stands ps (map told_descriptor opening.pair.device.descriptors) opening.pair.device.rows)
+    → IfSome o (Stands ps (map package_descriptor opening.pair.device.descriptors) opening.pair.device.rows)
     → IfSome o (IsSafeAndTied ps opening)
 safe_and_tied ps opening None h = tt
 safe_and_tied ps opening (Some r) h = record { safe = h.history.safe; tied = h.history.tied }
@@ -160,4 +160,4 @@ safe_and_tied ps opening (Some r) h = record { safe = h.history.safe; tied = h.h
 pub messages_are_safe : (laws : Laws) → MessagesAreSafe
 messages_are_safe laws ps opening steps h =
     safe_and_tied ps opening (message_along ps (Some opening) steps)
-    (along_stands ps (map told_descriptor opening.pair.device.descriptors) opening.pair.device.rows laws steps (Some opening) (opening_stands ps opening h))
+    (along_stands ps (map package_descriptor opening.pair.device.descriptors) opening.pair.device.rows laws steps (Some opening) (opening_stands ps opening h))

@@ -3,7 +3,7 @@ use Rattle.std.specs.Prelude.{◌≡◌, ℕ, Bool, List, [], Option, Some, None
 use Rattle.std.proofs.Common.{refl, sym, subst, arith}
 use Rattle.fw_package.specs.Package.{DescriptorOf, PackageText}
 use Rattle.fwup_wire.specs.Values.{AnswerOf, CommandOf}
-use Rattle.fd_core.specs.Commands.{CancelRow, Taken, Taken, cancel_by, cancel_row, cancel_take, told, refused}
+use Rattle.fd_core.specs.Commands.{CancelRow, CommandEffect, CommandEffect, cancel_by, cancel_row, cancel_take, effect_of_answer, refused}
 use Rattle.fd_core.specs.Images.{RowOf}
 use Rattle.fd_core.specs.States.{Phase, state_of}
 use Rattle.fd_core.specs.declared.states.Reason.TheVariants as reasons
@@ -12,7 +12,7 @@ use Rattle.ua_core.specs.Wish.{stage_wish}
 use Rattle.ua_core.specs.declared.planned.Recorded.{Recorded}
 use Rattle.fw_message.specs.History.{EntryOf}
 use Rattle.ua_core.specs.Lent.{package_at}
-use Rattle.fw_message.specs.Pairs.{PairOf, Stepped, down_taken, down_wish, noted, with_down}
+use Rattle.fw_message.specs.Pairs.{PairOf, Stepped, down_taken, down_wish, history_with, with_down}
 use Rattle.fw_message.proofs.Safety.Agreement.{AreTold, CommandStands, IsLost, IsStanding, Together}
 use Rattle.fw_message.proofs.Safety.Loose.{cell, idle_device, lost_pending, lost_together}
 use Rattle.fw_message.proofs.Safety.Histories.{history_dropped}
@@ -20,7 +20,7 @@ use Rattle.fw_message.proofs.Safety.Readings.{since}
 
 -- what a step leaves stands
 abbrev pub Stood : List PackageText → List DescriptorOf → List RowOf → List EntryOf → Stepped → Type 0
-Stood ps ds first es t = IsStanding ps ds first (noted es t.noted) t.after
+Stood ps ds first es t = IsStanding ps ds first (history_with es t.noted) t.after
 
 -- a reply doesn't touch what the cell asks
 command_answered : (g : Stage) (wish : Option CommandOf) (c : CommandOf) (r s : Option AnswerOf) (l : Bool)
@@ -36,7 +36,7 @@ command_answered g wish c r s l h = h
 abbrev pub asking : PairOf → CommandOf → Bool → PairOf
 asking m c l = with_down m (Some (cell c None l))
 
-abbrev pub taken : PairOf → CommandOf → Bool → Taken → Stepped
+abbrev pub taken : PairOf → CommandOf → Bool → CommandEffect → Stepped
 taken m c l t = down_taken (asking m c l) (cell c None l) t
 
 pub told_command : (ps : List PackageText) (m : PairOf) (c : CommandOf) (a : AnswerOf) (l : Bool)

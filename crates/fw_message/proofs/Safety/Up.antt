@@ -9,16 +9,16 @@ use Rattle.fwup_wire.specs.Values.{AnswerOf, CommandOf}
 use Rattle.fd_core.specs.Images.{RowOf}
 use Rattle.fd_core.specs.States.{Phase}
 use Rattle.fd_core.specs.Wishes.{device_wish}
-use Rattle.ua_core.specs.Laws.{ServesInPlan, StandsInPlan}
+use Rattle.ua_core.specs.Laws.{ServesInPlan, IsStageInPlan}
 use Rattle.ua_core.specs.Lent.{key_of, package_at}
-use Rattle.ua_core.specs.Serve.{ServeRow, after_by, answer_by, is_bad_length, is_past_end, recorded_with, refuses, serve_row, task_after, unexpected, window}
+use Rattle.ua_core.specs.Serve.{ServeRow, after_by, answer_by, is_bad_length, is_past_end, recorded_with, refusal_row, serve_row, task_after, unexpected_row, window}
 use Rattle.ua_core.specs.Session.{SessionOf, Stage, TaskOf}
 use Rattle.ua_core.specs.Wish.{stage_wish}
 use Rattle.ua_core.specs.declared.planned.Planned.{Planned}
 use Rattle.ua_core.specs.declared.planned.Recorded.{Recorded}
 use Rattle.ua_core.specs.declared.state.Cause.TheVariants as causes
-use Rattle.fw_message.specs.History.{EntryOf, IsNamed}
-use Rattle.fw_message.specs.Pairs.{HeldOf, PairOf, StepOf, noted, step_of, take_up, take_up_at, up_taken, with_up}
+use Rattle.fw_message.specs.History.{EntryOf, IsNamedComponent}
+use Rattle.fw_message.specs.Pairs.{CellContentOf, PairOf, StepOf, history_with, step_of, take_up, take_up_at, up_taken, with_up}
 use Rattle.fw_message.proofs.Safety.Agreement.{CommandStands, HasChosen, IsStanding, OwnStands, Pending, Settled, StageForm, Together, Waiting, at_hand, is_offered, reply_of}
 use Rattle.fw_message.proofs.Safety.Counts.{IsPending}
 use Rattle.fw_message.proofs.Safety.Down.{Leaves}
@@ -44,14 +44,14 @@ module _ (ps : List PackageText) (ds : List DescriptorOf) (es : List EntryOf) wh
     pub form : StageForm m.device.phase (length m.device.stage)
     pub together : Together ps ds (since es) (with_up m (Some (cell c None l))) n g
     pub pending : Pending ps es (with_up m (Some (cell c None l))) n g
-    pub plan : StandsInPlan (package_at ps n) g
+    pub plan : IsStageInPlan (package_at ps n) g
     pub chosen : HasChosen (package_at ps n) ds g
 
   -- what is to be recorded
   pub record IsRecordable (m : PairOf) (n : ℕ) (t : TaskOf) : Type 0 where
     pub settled : Settled ps ds n (since es ++ record_at n t ∷ []) m.device.rows m.device.phase
     pub pending : IsPending ps (key_of (at_hand (package_at ps n) t)) (at_hand (package_at ps n) t).image es
-    pub named : IsNamed ps ds (record_at n t)
+    pub named : IsNamedComponent ps ds (record_at n t)
     pub none : m.down ≡ None
     pub chosen : HasChosen (package_at ps n) ds (Stage.Apply t)
 
@@ -88,9 +88,9 @@ module _ (ps : List PackageText) (ds : List DescriptorOf) (es : List EntryOf) wh
   data_serves m s l n offset size (Stage.Download t) k =
       let c = CommandOf.RequestFirmwareData offset size in
       let image = (at_hand (package_at ps n) t).image in
-      cond_both (is_bad_length m.session.unit size) (refuses 0x83) (if is_past_end image offset size then refuses 0x82 else ServeRow.Give (window image offset size))
+      cond_both (is_bad_length m.session.unit size) (refusal_row 0x83) (if is_past_end image offset size then refusal_row 0x82 else ServeRow.Give (window image offset size))
       (Serves m s c l n (Stage.Download t)) (λ e. refused_up m s c l n 0x83 (Stage.Download t) k.together)
-      (λ e. cond_both (is_past_end image offset size) (refuses 0x82) (ServeRow.Give (window image offset size)) (Serves m s c l n (Stage.Download t))
+      (λ e. cond_both (is_past_end image offset size) (refusal_row 0x82) (ServeRow.Give (window image offset size)) (Serves m s c l n (Stage.Download t))
       (λ f. refused_up m s c l n 0x82 (Stage.Download t) k.together)
       (λ f. transfer_told ps ds n (since es) (at_hand (package_at ps n) t) m.device.rows m.device.stage m.device.phase (Some c) (Some (AnswerOf.RequestFirmwareData (window image offset size))) refl k.together))
   data_serves m s l n offset size g k = refused_up m s (CommandOf.RequestFirmwareData offset size) l n 0x88 g k.together
@@ -103,7 +103,7 @@ module _ (ps : List PackageText) (ds : List DescriptorOf) (es : List EntryOf) wh
       (λ z. (transfer_done ps ds n (since es) (at_hand (package_at ps n) t) m.device.rows m.device.stage m.device.unit m.device.phase r (Some AnswerOf.TransferComplete) z k.own k.form k.together, tt, k.chosen, k.command))
       (λ z. (tt, tt, tt, tt))
   transfer_serves m s l n r (Stage.Verify t) k =
-      cond_both (r == 0) (ServeRow.Say AnswerOf.TransferComplete) unexpected (Serves m s (CommandOf.TransferComplete r) l n (Stage.Verify t))
+      cond_both (r == 0) (ServeRow.Say AnswerOf.TransferComplete) unexpected_row (Serves m s (CommandOf.TransferComplete r) l n (Stage.Verify t))
       (λ z. verification_again ps ds n (since es) (at_hand (package_at ps n) t) m.device.rows m.device.stage m.device.unit m.device.phase (length m.device.stage) r (Some AnswerOf.TransferComplete) k.own k.together)
       (λ z. refused_up m s (CommandOf.TransferComplete r) l n 0x88 (Stage.Verify t) k.together)
   transfer_serves m s l n r g k = refused_up m s (CommandOf.TransferComplete r) l n 0x88 g k.together
@@ -128,13 +128,13 @@ module _ (ps : List PackageText) (ds : List DescriptorOf) (es : List EntryOf) wh
       ))
       (λ z. (tt, tt, tt, tt))
   verify_serves m s l n r (Stage.Apply t) k =
-      cond_both (r == 0) (ServeRow.Say AnswerOf.VerifyComplete) unexpected (Serves m s (CommandOf.VerifyComplete r) l n (Stage.Apply t))
+      cond_both (r == 0) (ServeRow.Say AnswerOf.VerifyComplete) unexpected_row (Serves m s (CommandOf.VerifyComplete r) l n (Stage.Apply t))
       (λ z. application_again ps ds n (since es) (at_hand (package_at ps n) t) m.device.rows m.device.stage m.device.unit m.device.phase (length m.device.stage) r (Some AnswerOf.VerifyComplete) k.own k.together)
       (λ z. refused_up m s (CommandOf.VerifyComplete r) l n 0x88 (Stage.Apply t) k.together)
   verify_serves m s l n r g k = refused_up m s (CommandOf.VerifyComplete r) l n 0x88 g k.together
 
   -- ApplyComplete
-  none_asked : (unit : «Unit») (n : ℕ) (t : TaskOf) (down : Option HeldOf)
+  none_asked : (unit : «Unit») (n : ℕ) (t : TaskOf) (down : Option CellContentOf)
       → CommandStands (Stage.Apply t) (stage_wish unit (package_at ps n) (Stage.Apply t)) down → down ≡ None
   none_asked unit n t None h = refl
   none_asked unit n t (Some h) s = absurd (let e = s.1 in cc)
@@ -156,7 +156,7 @@ module _ (ps : List PackageText) (ds : List DescriptorOf) (es : List EntryOf) wh
       → IsAsking m (CommandOf.ApplyComplete r x) l n g
       → Serves m s (CommandOf.ApplyComplete r x) l n g (serve_row m.session.unit (package_at ps n) g (CommandOf.ApplyComplete r x))
   apply_serves law m s l n r x (Stage.Update t) k =
-      cond_both ((r == 0) && nat_lt 0 t.made) (ServeRow.Say AnswerOf.ApplyComplete) unexpected (Serves m s (CommandOf.ApplyComplete r x) l n (Stage.Update t))
+      cond_both ((r == 0) && nat_lt 0 t.made) (ServeRow.Say AnswerOf.ApplyComplete) unexpected_row (Serves m s (CommandOf.ApplyComplete r x) l n (Stage.Update t))
       (λ z. offered_again ps ds n (since es) (at_hand (package_at ps n) t) m.device.rows m.device.stage m.device.unit m.device.phase (length m.device.stage) r x (Some AnswerOf.ApplyComplete) (is_offered (reply_of m.down)) k.own k.together)
       (λ z. refused_up m s (CommandOf.ApplyComplete r x) l n 0x88 (Stage.Update t) k.together)
   apply_serves law m s l n r x (Stage.Apply t) k =
@@ -164,9 +164,9 @@ module _ (ps : List PackageText) (ds : List DescriptorOf) (es : List EntryOf) wh
       (λ z. recordable law m l n r x t z k)
       (λ z. (tt, tt, tt, tt))
   apply_serves law m s l n r x (Stage.AllApplied j) k =
-      cond_both (r == 0) (ServeRow.Say AnswerOf.ApplyComplete) unexpected (Serves m s (CommandOf.ApplyComplete r x) l n (Stage.AllApplied j)) (λ z. k.together) (λ z. k.together)
+      cond_both (r == 0) (ServeRow.Say AnswerOf.ApplyComplete) unexpected_row (Serves m s (CommandOf.ApplyComplete r x) l n (Stage.AllApplied j)) (λ z. k.together) (λ z. k.together)
   apply_serves law m s l n r x (Stage.Activate j) k =
-      cond_both (r == 0) (ServeRow.Say AnswerOf.ApplyComplete) unexpected (Serves m s (CommandOf.ApplyComplete r x) l n (Stage.Activate j)) (λ z. k.together) (λ z. k.together)
+      cond_both (r == 0) (ServeRow.Say AnswerOf.ApplyComplete) unexpected_row (Serves m s (CommandOf.ApplyComplete r x) l n (Stage.Activate j)) (λ z. k.together) (λ z. k.together)
   apply_serves law m s l n r x g k = refused_up m s (CommandOf.ApplyComplete r x) l n 0x88 g k.together
 
   serves : (law : PlansNamedImages) (m : PairOf) (s : SessionOf) (l : Bool) (n : ℕ) (g : Stage) (c : CommandOf) → IsAsking m c l n g
@@ -207,9 +207,9 @@ module _ (ps : List PackageText) (ds : List DescriptorOf) (es : List EntryOf) wh
 
   module _ (first : List RowOf) where
     serve_by_row : (m : PairOf) (c : CommandOf) (l : Bool) (row : ServeRow) → IsStanding ps ds first es (with_up m (Some (cell c None l)))
-        → StandsInPlan (package_at ps m.session.number) (after_by m.session row).stage
+        → IsStageInPlan (package_at ps m.session.number) (after_by m.session row).stage
         → Serves m (after_by m.session row) c l m.session.number m.session.stage row
-        → IsStanding ps ds first (noted es (map EntryOf.Recording (recorded_with m.session row))) (served m (after_by m.session row) c (answer_by row) l)
+        → IsStanding ps ds first (history_with es (map EntryOf.Recording (recorded_with m.session row))) (served m (after_by m.session row) c (answer_by row) l)
     serve_by_row m c l (ServeRow.Say a) s p h =
         record {
           own = s.own;
@@ -287,7 +287,7 @@ module _ (ps : List PackageText) (ds : List DescriptorOf) (es : List EntryOf) wh
     take_at serves_law names_law m c None l s = take_command serves_law names_law m c l s
     take_at serves_law names_law m c (Some a) l s = tt
 
-    take_cell : (serves_law : ServesInPlan) (names_law : PlansNamedImages) (m : PairOf) (up : Option HeldOf)
+    take_cell : (serves_law : ServesInPlan) (names_law : PlansNamedImages) (m : PairOf) (up : Option CellContentOf)
         → IsStanding ps ds first es (with_up m up) → Leaves ps ds first es (take_up ps (with_up m up) up)
     take_cell serves_law names_law m None s = tt
     take_cell serves_law names_law m (Some h) s = take_at serves_law names_law m h.command h.reply h.live s

@@ -4,7 +4,7 @@ use Rattle.std.proofs.Common.{subst, inl, inr}
 use Rattle.fw_package.specs.Package.{ComponentOf, DescriptorOf, PackageText}
 use Rattle.fwup_wire.specs.Values.{CommandOf}
 use Rattle.fwup_wire.specs.declared.values.Key.{Key}
-use Rattle.fd_core.specs.Images.{RowOf, sealed}
+use Rattle.fd_core.specs.Images.{RowOf, rows_after_seal}
 use Rattle.fd_core.specs.States.{DeviceState, Phase, UpdateOf, WorkOf}
 use Rattle.fd_core.specs.Steps.{verdict_at, written_image}
 use Rattle.fd_core.specs.Wishes.{wish_at}
@@ -16,7 +16,7 @@ use Rattle.ua_core.specs.Lent.{key_of, package_at}
 use Rattle.ua_core.specs.Session.{Stage}
 use Rattle.ua_core.specs.declared.planned.Recorded.{Recorded}
 use Rattle.fw_message.specs.History.{EntryOf}
-use Rattle.fw_message.specs.Pairs.{HeldOf, PairOf, StepOf, judged, step_of}
+use Rattle.fw_message.specs.Pairs.{CellContentOf, PairOf, StepOf, step_after_verdict, step_of}
 use Rattle.fw_message.proofs.Safety.Agreement.{Holds, IsHeld, IsSealed, IsStanding, IsUnderWay, Pending, Together, asked_of, at_hand, command_of}
 use Rattle.fw_message.proofs.Safety.Applied.{AppliedIs, BackedBut, put_of, sealed_applied, sealed_others}
 use Rattle.fw_message.proofs.Safety.Counts.{IsPending, NeverMore, pending_applied, balanced_never}
@@ -30,16 +30,16 @@ nothing_own : (c wish : Option CommandOf) → Holds None c → Holds wish c
 nothing_own None wish h = tt
 nothing_own (Some c) wish h = absurd (cc)
 
-still_told : (u : UpdateOf) (w : WorkOf) (p q : Progress) (x : Option HeldOf) → IsUnderWay (Phase.Verify u w p) x
+still_told : (u : UpdateOf) (w : WorkOf) (p q : Progress) (x : Option CellContentOf) → IsUnderWay (Phase.Verify u w p) x
     → IsUnderWay (Phase.Verify u w q) x
 still_told u w p q x h = elim h [ inl bad ↦ absurd (cc) | inr told ↦ inr told ]
 
-failing_told : (u : UpdateOf) (w : WorkOf) (q : Progress) (x : Option HeldOf) → IsUnderWay (Phase.Apply u w (progress.Failed false)) x
+failing_told : (u : UpdateOf) (w : WorkOf) (q : Progress) (x : Option CellContentOf) → IsUnderWay (Phase.Apply u w (progress.Failed false)) x
     → IsUnderWay (Phase.Apply u w q) x
 failing_told u w q x h = elim h [ inl bad ↦ absurd (cc) | inr told ↦ inr told ]
 
 module _ (ps : List PackageText) (ds : List DescriptorOf) where
-  verify_judged : (rs : List Recorded) (v : DeviceState) (u : UpdateOf) (w : WorkOf) (q : Progress) (x : Option HeldOf)
+  verify_judged : (rs : List Recorded) (v : DeviceState) (u : UpdateOf) (w : WorkOf) (q : Progress) (x : Option CellContentOf)
       → IsMove ps ds rs (record v { phase = Phase.Verify u w progress.InProgress }) (record v { phase = Phase.Verify u w q }) x x
   verify_judged rs v u w q x = record {
     lost = λ h. h;
@@ -53,7 +53,7 @@ module _ (ps : List PackageText) (ds : List DescriptorOf) where
     settled = λ n h. h;
   }
 
-  apply_failed : (rs : List Recorded) (v : DeviceState) (u : UpdateOf) (w : WorkOf) (x : Option HeldOf)
+  apply_failed : (rs : List Recorded) (v : DeviceState) (u : UpdateOf) (w : WorkOf) (x : Option CellContentOf)
       → IsMove ps ds rs (record v { phase = Phase.Apply u w progress.InProgress }) (record v { phase = Phase.Apply u w (progress.Failed false) }) x x
   apply_failed rs v u w x = record {
     lost = λ h. h;
@@ -68,20 +68,20 @@ module _ (ps : List PackageText) (ds : List DescriptorOf) where
   }
 
   held_sealed : (n : ℕ) (rs : List Recorded) (c : ComponentOf) (v : DeviceState) (w : WorkOf) → IsHeld ps ds n rs c v.rows v.stage w
-      → IsSealed ps ds n rs c (sealed v.rows w.key (written_image v w))
+      → IsSealed ps ds n rs c (rows_after_seal v.rows w.key (written_image v w))
   held_sealed n rs c v w h = record {
-    applied = (let P : Key → List ℕ → Type 0 = λ k b. AppliedIs (sealed v.rows w.key (written_image v w)) k b in
+    applied = (let P : Key → List ℕ → Type 0 = λ k b. AppliedIs (rows_after_seal v.rows w.key (written_image v w)) k b in
         let here : P w.key v.stage = sealed_applied v.rows w.key (written_image v w) in
         let there : P (key_of c) v.stage = subst (λ (k : Key). P k v.stage) h.same.key here in
         subst (λ (b : List ℕ). P (key_of c) b) h.stage there);
-    others = (let P : Key → Type 0 = λ k. BackedBut ps ds n rs k (sealed v.rows w.key (written_image v w)) in
+    others = (let P : Key → Type 0 = λ k. BackedBut ps ds n rs k (rows_after_seal v.rows w.key (written_image v w)) in
         subst P h.same.key (sealed_others ps ds n rs v.rows w.key (written_image v w) h.backed));
   }
 
   abbrev sealing : DeviceState → UpdateOf → WorkOf → DeviceState
-  sealing v u w = record v { rows = sealed v.rows w.key (written_image v w); stage = []; phase = Phase.Apply u w progress.Succeeded }
+  sealing v u w = record v { rows = rows_after_seal v.rows w.key (written_image v w); stage = []; phase = Phase.Apply u w progress.Succeeded }
 
-  apply_sealed : (rs : List Recorded) (v : DeviceState) (u : UpdateOf) (w : WorkOf) (x : Option HeldOf)
+  apply_sealed : (rs : List Recorded) (v : DeviceState) (u : UpdateOf) (w : WorkOf) (x : Option CellContentOf)
       → IsMove ps ds rs (record v { phase = Phase.Apply u w progress.InProgress }) (sealing v u w) x x
   apply_sealed rs v u w x = record {
     lost = λ h. h;
@@ -144,7 +144,7 @@ module _ (ps : List PackageText) (ds : List DescriptorOf) where
 
     verdict_stands : (m : PairOf) (v : DeviceState) (p : Phase) (verdict : Verdict) (works : Bool)
         → IsStanding ps ds first es (record m { device = record v { phase = p } })
-        → Leaves ps ds first es (judged (record m { device = record v { phase = p } }) (verdict_at (record v { phase = p }) p verdict works))
+        → Leaves ps ds first es (step_after_verdict (record m { device = record v { phase = p } }) (verdict_at (record v { phase = p }) p verdict works))
     verdict_stands m v (Phase.Verify u w progress.InProgress) verdicts.VerifyOk works s = verify_verdict m v u w progress.Succeeded s
     verdict_stands m v (Phase.Verify u w progress.InProgress) verdicts.VerifyFail works s = verify_verdict m v u w (progress.Failed false) s
     verdict_stands m v (Phase.Apply u w progress.InProgress) verdicts.ApplyOk true s = seals m v u w s

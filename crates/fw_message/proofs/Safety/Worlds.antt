@@ -6,12 +6,12 @@ use Rattle.std.proofs.lemmas.Bool.{eqb-true, eq-eqb}
 use Rattle.std.proofs.lemmas.List.Elements.{All-head, All-tail}
 use Rattle.fw_package.specs.Package.{DescriptorOf, PackageText}
 use Rattle.fd_core.specs.Images.{RowOf}
-use Rattle.ua_core.specs.Lent.{told_descriptor}
+use Rattle.ua_core.specs.Lent.{package_descriptor}
 use Rattle.fw_message.specs.History.{EntryOf}
 use Rattle.fw_message.specs.Laws.{IsSafeAndTied}
-use Rattle.fw_message.specs.Pairs.{PairOf, StepOf, Stepped, noted, pair_after}
-use Rattle.fw_message.specs.WorldLaws.{IsOpeningNode, IsOpeningWorld, IsSafeWorld, WorldsAreSafe, WorldsStaySafe, history_of, run_of}
-use Rattle.fw_message.specs.Worlds.{NodeOf, NotedOf, WorldOf, WorldStepOf, after_or, agent_restarted, node_at, noted_of, step_at, went_on, with_pair, world_after, world_along}
+use Rattle.fw_message.specs.Pairs.{PairOf, StepOf, Stepped, history_with, pair_after}
+use Rattle.fw_message.specs.WorldLaws.{IsOpeningNode, IsOpeningMessageWorld, IsSafeMessageWorld, WorldsAreSafe, WorldsStaySafe, history_of, run_of}
+use Rattle.fw_message.specs.Worlds.{NodeOf, NotedOf, MessageWorldOf, WorldStepOf, after_or, agent_restarted, node_at, noted_of, step_at, went_on, with_pair, message_world_after, world_along}
 use Rattle.fw_message.specs.declared.side.Side.TheVariants as sides
 use Rattle.fw_message.proofs.Safety.Agreement.{IsStanding}
 use Rattle.fw_message.proofs.Safety.Runs.{Laws, Stands, opening_stands, pair_stands}
@@ -69,12 +69,12 @@ history_other : (device eid : ℕ) (es : List EntryOf) → (device == eid) ≡ f
 history_other device eid [] e = refl
 history_other device eid (x ∷ es) e = rw e (history_other device eid es e)
 
-noted_is : (es xs : List EntryOf) → noted es xs ≡ es ++ xs
+noted_is : (es xs : List EntryOf) → history_with es xs ≡ es ++ xs
 noted_is es [] = sym (append-nil es)
 noted_is es (x ∷ xs) = noted_is (es ++ x ∷ []) xs ∙ append_assoc es (x ∷ []) xs
 
 history_same : (eid : ℕ) (history : List NotedOf) (es : List EntryOf)
-    → history_of eid (history ++ map (noted_of eid) es) ≡ noted (history_of eid history) es
+    → history_of eid (history ++ map (noted_of eid) es) ≡ history_with (history_of eid history) es
 history_same eid history es =
     history_more eid history (map (noted_of eid) es) ∙ ap (λ xs. history_of eid history ++ xs) (history_own eid es) ∙ sym (noted_is (history_of eid history) es)
 
@@ -85,21 +85,21 @@ history_apart device eid history es e =
 
 -- what stands of a device that began as this one
 abbrev At : List PackageText → NodeOf → Option NodeOf → List EntryOf → Type 0
-At ps n o es = IsSomeAnd o (λ m. Stands ps (map told_descriptor n.pair.device.descriptors) n.pair.device.rows (run_of m es))
+At ps n o es = IsSomeAnd o (λ m. Stands ps (map package_descriptor n.pair.device.descriptors) n.pair.device.rows (run_of m es))
 
 own_step : (laws : Laws) (ps : List PackageText) (n k : NodeOf) (nodes : List NodeOf) (history : List NotedOf) (eid : ℕ) (s : StepOf) (t : Stepped)
     → node_at nodes eid ≡ Some k → pair_after ps k.pair s ≡ Some t → At ps n (node_at nodes eid) (history_of eid history)
     → At ps n (node_at (with_pair nodes eid t.after) eid) (history_of eid (history ++ map (noted_of eid) t.noted))
 own_step laws ps n k nodes history eid s t found taken h =
     let es = history_of eid history in
-    let ds = map told_descriptor n.pair.device.descriptors in
+    let ds = map package_descriptor n.pair.device.descriptors in
     let first = n.pair.device.rows in
     let now : IsStanding ps ds first es k.pair = subst (λ (o : Option NodeOf). At ps n o es) found h in
-    let left : IsStanding ps ds first (noted es t.noted) t.after =
-    subst (λ (o : Option Stepped). IfSome o (λ x. IsStanding ps ds first (noted es x.noted) x.after)) taken (pair_stands ps ds first laws es k.pair s now) in
-    let put : At ps n (Some (record k { pair = t.after })) (noted es t.noted) = left in
-    let there : At ps n (node_at (with_pair nodes eid t.after) eid) (noted es t.noted) =
-    subst (λ (o : Option NodeOf). At ps n o (noted es t.noted)) (sym (own_node nodes eid t.after k found)) put in
+    let left : IsStanding ps ds first (history_with es t.noted) t.after =
+    subst (λ (o : Option Stepped). IfSome o (λ x. IsStanding ps ds first (history_with es x.noted) x.after)) taken (pair_stands ps ds first laws es k.pair s now) in
+    let put : At ps n (Some (record k { pair = t.after })) (history_with es t.noted) = left in
+    let there : At ps n (node_at (with_pair nodes eid t.after) eid) (history_with es t.noted) =
+    subst (λ (o : Option NodeOf). At ps n o (history_with es t.noted)) (sym (own_node nodes eid t.after k found)) put in
     subst (λ (xs : List EntryOf). At ps n (node_at (with_pair nodes eid t.after) eid) xs) (sym (history_same eid history t.noted)) there
 
 other_step : (ps : List PackageText) (n : NodeOf) (nodes : List NodeOf) (history : List NotedOf) (device eid : ℕ) (t : Stepped)
@@ -135,18 +135,18 @@ restart_pair laws ps ds first es m h = pair_stands ps ds first laws es m (StepOf
 restart_node : (laws : Laws) (ps : List PackageText) (n : NodeOf) (o : Option NodeOf) (es : List EntryOf) → At ps n o es
     → At ps n (option_map (agent_restarted ps) o) es
 restart_node laws ps n None es h = h
-restart_node laws ps n (Some m) es h = restart_pair laws ps (map told_descriptor n.pair.device.descriptors) n.pair.device.rows es m.pair h
+restart_node laws ps n (Some m) es h = restart_pair laws ps (map package_descriptor n.pair.device.descriptors) n.pair.device.rows es m.pair h
 
 -- what stands of all devices
-abbrev Nodes : WorldOf → List NodeOf → List NotedOf → Type 0
+abbrev Nodes : MessageWorldOf → List NodeOf → List NotedOf → Type 0
 Nodes opening nodes history =
     (eid : ℕ) → IfSome (node_at opening.nodes eid) (λ n. At opening.packages n (node_at nodes eid) (history_of eid history))
 
-pub record IsKept (opening w : WorldOf) : Type 0 where
+pub record IsKept (opening w : MessageWorldOf) : Type 0 where
   pub packages : w.packages ≡ opening.packages
   pub nodes : Nodes opening w.nodes w.history
 
-step_nodes : (laws : Laws) (opening w : WorldOf) (device : ℕ) (s : StepOf) (k : NodeOf) (t : Stepped) → node_at w.nodes device ≡ Some k
+step_nodes : (laws : Laws) (opening w : MessageWorldOf) (device : ℕ) (s : StepOf) (k : NodeOf) (t : Stepped) → node_at w.nodes device ≡ Some k
     → pair_after opening.packages k.pair s ≡ Some t → Nodes opening w.nodes w.history
     → Nodes opening (went_on w device t).nodes (went_on w device t).history
 step_nodes laws opening w device s k t found taken h eid = at_node (node_at opening.nodes eid) (h eid)
@@ -156,7 +156,7 @@ step_nodes laws opening w device s k t found taken h eid = at_node (node_at open
     at_node None h = tt
     at_node (Some n) h = each_step laws opening.packages n k w.nodes w.history device eid s t found taken h
 
-restart_nodes : (laws : Laws) (opening w : WorldOf) → Nodes opening w.nodes w.history
+restart_nodes : (laws : Laws) (opening w : MessageWorldOf) → Nodes opening w.nodes w.history
     → Nodes opening (map (agent_restarted opening.packages) w.nodes) w.history
 restart_nodes laws opening w h eid = at_node (node_at opening.nodes eid) (h eid)
   where
@@ -167,31 +167,31 @@ restart_nodes laws opening w h eid = at_node (node_at opening.nodes eid) (h eid)
         rw (restarted_node opening.packages w.nodes eid)
         (restart_node laws opening.packages n (node_at w.nodes eid) (history_of eid w.history) h)
 
-step_taken : (laws : Laws) (opening w : WorldOf) (device : ℕ) (s : StepOf) (k : NodeOf) → node_at w.nodes device ≡ Some k → IsKept opening w
+step_taken : (laws : Laws) (opening w : MessageWorldOf) (device : ℕ) (s : StepOf) (k : NodeOf) → node_at w.nodes device ≡ Some k → IsKept opening w
     → (o : Option Stepped) → pair_after w.packages k.pair s ≡ o → IfSome (option_map (went_on w device) o) (IsKept opening)
 step_taken laws opening w device s k found h None e = tt
 step_taken laws opening w device s k found h (Some t) e =
     let taken : pair_after opening.packages k.pair s ≡ Some t = subst (λ (ps : List PackageText). pair_after ps k.pair s ≡ Some t) h.packages e in
     record { packages = h.packages; nodes = step_nodes laws opening w device s k t found taken h.nodes }
 
-step_found : (laws : Laws) (opening w : WorldOf) (device : ℕ) (s : StepOf) → IsKept opening w → (o : Option NodeOf)
+step_found : (laws : Laws) (opening w : MessageWorldOf) (device : ℕ) (s : StepOf) → IsKept opening w → (o : Option NodeOf)
     → node_at w.nodes device ≡ o → IfSome (step_at w device s o) (IsKept opening)
 step_found laws opening w device s h None e = tt
 step_found laws opening w device s h (Some k) e = step_taken laws opening w device s k e h (pair_after w.packages k.pair s) refl
 
-world_step : (laws : Laws) (opening w : WorldOf) (s : WorldStepOf) → IsKept opening w → IfSome (world_after w s) (IsKept opening)
-unfolding world_after
+world_step : (laws : Laws) (opening w : MessageWorldOf) (s : WorldStepOf) → IsKept opening w → IfSome (message_world_after w s) (IsKept opening)
+unfolding message_world_after
 world_step laws opening w (WorldStepOf.OfPair device s) h = step_found laws opening w device s h (node_at w.nodes device) refl
 world_step laws opening w WorldStepOf.RestartAgent h = record {
   packages = h.packages;
   nodes = subst (λ (ps : List PackageText). Nodes opening (map (agent_restarted ps) w.nodes) w.history) (sym h.packages) (restart_nodes laws opening w h.nodes);
 }
 
-pub world_steps : (laws : Laws) (opening : WorldOf) (steps : List WorldStepOf) (o : Option WorldOf) → IfSome o (IsKept opening)
+pub world_steps : (laws : Laws) (opening : MessageWorldOf) (steps : List WorldStepOf) (o : Option MessageWorldOf) → IfSome o (IsKept opening)
     → IfSome (world_along o steps) (IsKept opening)
 world_steps laws opening steps None h = tt
 world_steps laws opening [] (Some w) h = h
-world_steps laws opening (s ∷ steps) (Some w) h = world_steps laws opening steps (world_after w s) (world_step laws opening w s h)
+world_steps laws opening (s ∷ steps) (Some w) h = world_steps laws opening steps (message_world_after w s) (world_step laws opening w s h)
 
 -- how it begins
 opening_at : (ps : List PackageText) (ns : List NodeOf) (eid : ℕ) → All IsOpeningNode ns
@@ -206,7 +206,7 @@ opening_at ps (n ∷ ns) eid h =
     at_test true here rest = here
     at_test false here rest = rest
 
-opening_kept : (opening : WorldOf) → IsOpeningWorld opening → IsKept opening opening
+opening_kept : (opening : MessageWorldOf) → IsOpeningMessageWorld opening → IsKept opening opening
 opening_kept opening h = record {
   packages = refl;
   nodes = subst (λ (xs : List NotedOf). Nodes opening opening.nodes xs) (sym h.history) (λ eid. opening_at opening.packages opening.nodes eid h.nodes);
@@ -218,7 +218,7 @@ kept_at : (ps : List PackageText) (n : NodeOf) (o : Option NodeOf) (es : List En
 kept_at ps n None es h = h
 kept_at ps n (Some m) es h = record { safe = h.history.safe; tied = h.history.tied }
 
-pub kept_safe : (opening w : WorldOf) → IsKept opening w → IsSafeWorld opening w
+pub kept_safe : (opening w : MessageWorldOf) → IsKept opening w → IsSafeMessageWorld opening w
 kept_safe opening w h eid = at_node (node_at opening.nodes eid) (h.nodes eid)
   where
     at_node : (o : Option NodeOf) → IfSome o (λ n. At opening.packages n (node_at w.nodes eid) (history_of eid w.history))
@@ -226,7 +226,7 @@ kept_safe opening w h eid = at_node (node_at opening.nodes eid) (h.nodes eid)
     at_node None h = tt
     at_node (Some n) h = kept_at opening.packages n (node_at w.nodes eid) (history_of eid w.history) h
 
-safe_if : (opening : WorldOf) (o : Option WorldOf) → IfSome o (IsKept opening) → IfSome o (IsSafeWorld opening)
+safe_if : (opening : MessageWorldOf) (o : Option MessageWorldOf) → IfSome o (IsKept opening) → IfSome o (IsSafeMessageWorld opening)
 safe_if opening None h = tt
 safe_if opening (Some w) h = kept_safe opening w h
 
@@ -235,13 +235,13 @@ worlds_are_safe laws opening steps h =
     safe_if opening (world_along (Some opening) steps) (world_steps laws opening steps (Some opening) (opening_kept opening h))
 
 -- a run that goes on
-pub along_append : (ss ts : List WorldStepOf) (o : Option WorldOf) → world_along o (ss ++ ts) ≡ world_along (world_along o ss) ts
+pub along_append : (ss ts : List WorldStepOf) (o : Option MessageWorldOf) → world_along o (ss ++ ts) ≡ world_along (world_along o ss) ts
 along_append ss ts None = refl
 along_append [] ts (Some w) = refl
-along_append (s ∷ ss) ts (Some w) = along_append ss ts (world_after w s)
+along_append (s ∷ ss) ts (Some w) = along_append ss ts (message_world_after w s)
 
 pub worlds_stay_safe : (laws : Laws) → WorldsStaySafe
 worlds_stay_safe laws opening old new before steps h to_old to_new =
     let whole : world_along (Some opening) (before ++ steps) ≡ Some new =
     along_append before steps (Some opening) ∙ ap (λ o. world_along o steps) to_old ∙ to_new in
-    subst (λ (o : Option WorldOf). IfSome o (IsSafeWorld opening)) whole (worlds_are_safe laws opening (before ++ steps) h)
+    subst (λ (o : Option MessageWorldOf). IfSome o (IsSafeMessageWorld opening)) whole (worlds_are_safe laws opening (before ++ steps) h)

@@ -2,10 +2,10 @@
 
 ghost use Rattle.std.specs.Prelude.{◌≡◌, true};
 ghost use Rattle.fw_message.specs.Nodes.{completes, follows_cell, may_take, waits};
-ghost use Rattle.fw_message.specs.Pairs.{StepOf, adds, step_of};
+ghost use Rattle.fw_message.specs.Pairs.{StepOf, adds_entries, step_of};
 ghost use Rattle.ua_core.specs.Session.{state_of};
 
-use crate::cell::Held;
+use crate::cell::CellContent;
 use crate::pair::Pair;
 use crate::verdicts::awaits;
 use fd_core::{Bank, Device, Verdict};
@@ -18,7 +18,7 @@ impl<'a, B: Bank> Pair<'a, B> {
     /// device activates by it.
     #[tactic(auto, using(crate::proofs::Growing::down_adds))]
     pub fn activates(&self, packages: &'a [Package<'a>], quiet: bool) -> bool
-        ensures { result ≡ adds (step_of packages.now self.now.node.pair (StepOf.TakeDown quiet true)) }
+        ensures { result ≡ adds_entries (step_of packages.now self.now.node.pair (StepOf.TakeDown quiet true)) }
     {
         self.may_take(quiet) && follows(&self.device, &self.down)
     }
@@ -27,7 +27,7 @@ impl<'a, B: Bank> Pair<'a, B> {
     /// record of it.
     #[tactic(auto, using(crate::proofs::Completing::up_adds))]
     pub fn records(&self, packages: &'a [Package<'a>]) -> bool
-        ensures { result ≡ adds (step_of packages.now self.now.node.pair StepOf.TakeUp) }
+        ensures { result ≡ adds_entries (step_of packages.now self.now.node.pair StepOf.TakeUp) }
     {
         waits(&self.up) && completes(&self.session, &self.up)
     }
@@ -35,7 +35,7 @@ impl<'a, B: Bank> Pair<'a, B> {
     /// Whether a verdict adds to the history, if the bank works: the device waits for it, and applies an image by it.
     #[tactic(auto, using(crate::proofs::Growing::verdict_adds))]
     pub fn applies(&self, packages: &'a [Package<'a>], verdict: Verdict) -> bool
-        ensures { result ≡ adds (step_of packages.now self.now.node.pair (StepOf.Judge verdict true)) }
+        ensures { result ≡ adds_entries (step_of packages.now self.now.node.pair (StepOf.Judge verdict true)) }
     {
         awaits(&self.device, verdict) && verdict == Verdict::ApplyOk
     }
@@ -49,7 +49,7 @@ impl<'a, B: Bank> Pair<'a, B> {
 }
 
 /// Whether a command waits to be taken.
-fn waits(cell: &Option<Held<'_>>) -> bool
+fn waits(cell: &Option<CellContent<'_>>) -> bool
     ensures { result ≡ waits cell.now }
 {
     match cell {
@@ -59,7 +59,7 @@ fn waits(cell: &Option<Held<'_>>) -> bool
 }
 
 /// Whether a device activates by the command in a cell, if it takes it and its bank works.
-fn follows<B: Bank>(device: &Device<B>, cell: &Option<Held<'_>>) -> bool
+fn follows<B: Bank>(device: &Device<B>, cell: &Option<CellContent<'_>>) -> bool
     ensures { result ≡ follows_cell device.now.device cell.now }
 {
     match cell {
@@ -71,7 +71,7 @@ fn follows<B: Bank>(device: &Device<B>, cell: &Option<Held<'_>>) -> bool
 }
 
 /// Whether a session makes a record of the command in a cell, if it takes it.
-fn completes(session: &Session, cell: &Option<Held<'_>>) -> bool
+fn completes(session: &Session, cell: &Option<CellContent<'_>>) -> bool
     ensures { result ≡ completes (state_of session.now.session.stage) cell.now }
 {
     match cell {

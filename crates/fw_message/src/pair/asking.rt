@@ -1,12 +1,12 @@
 //! What is asked, and what is no longer waited for.
 
 ghost use Rattle.std.specs.Prelude.{◌≡◌, None, Some, false, if◌then◌else◌, true};
-ghost use Rattle.fw_message.specs.Pairs.{StepOf, asked, closed_unless, dropped_cell, given_up, quietly, step_of, unwished_closed};
+ghost use Rattle.fw_message.specs.Pairs.{StepOf, cell_after_ask, closed_unless, dropped_cell, cell_after_give_up, step_without_entries, step_of, unwished_closed};
 ghost use Rattle.fw_message.specs.declared.side.Way.TheVariants as ways;
 ghost use Rattle.fwup_wire.specs.Lent.{command_of};
 ghost use Rattle.std.specs.Prelude.{option_map};
 
-use crate::cell::Held;
+use crate::cell::CellContent;
 use crate::pair::Pair;
 use fd_core::Bank;
 use fw_package::Package;
@@ -16,7 +16,7 @@ use ua_core::Lent;
 impl<'a, B: Bank> Pair<'a, B> {
     /// The agent asks what the session wishes. False where nothing is wished or the cell isn't empty.
     pub fn ask_down(&mut self, packages: &'a [Package<'a>]) -> bool
-        ensures step { step_of packages.now self.old.node.pair StepOf.AskDown ≡ (if result then Some (quietly self.new.node.pair) else None) }
+        ensures step { step_of packages.now self.old.node.pair StepOf.AskDown ≡ (if result then Some (step_without_entries self.new.node.pair) else None) }
         ensures same { result ≡ false → self.new ≡ self.old }
         ensures eid { self.new.node.eid ≡ self.old.node.eid }
         ensures faults { self.new.faults ≡ self.old.faults }
@@ -29,7 +29,7 @@ impl<'a, B: Bank> Pair<'a, B> {
 
     /// The device asks what it wishes.
     pub fn ask_up(&mut self, packages: &'a [Package<'a>]) -> bool
-        ensures step { step_of packages.now self.old.node.pair StepOf.AskUp ≡ (if result then Some (quietly self.new.node.pair) else None) }
+        ensures step { step_of packages.now self.old.node.pair StepOf.AskUp ≡ (if result then Some (step_without_entries self.new.node.pair) else None) }
         ensures same { result ≡ false → self.new ≡ self.old }
         ensures eid { self.new.node.eid ≡ self.old.node.eid }
         ensures faults { self.new.faults ≡ self.old.faults }
@@ -40,7 +40,7 @@ impl<'a, B: Bank> Pair<'a, B> {
 
     /// What nobody waits for in the cell of what the agent asks is gone.
     pub fn drop_down(&mut self, packages: &'a [Package<'a>]) -> bool
-        ensures step { step_of packages.now self.old.node.pair (StepOf.Drop ways.Down) ≡ (if result then Some (quietly self.new.node.pair) else None) }
+        ensures step { step_of packages.now self.old.node.pair (StepOf.Drop ways.Down) ≡ (if result then Some (step_without_entries self.new.node.pair) else None) }
         ensures same { result ≡ false → self.new ≡ self.old }
         ensures eid { self.new.node.eid ≡ self.old.node.eid }
         ensures faults { self.new.faults ≡ self.old.faults }
@@ -50,7 +50,7 @@ impl<'a, B: Bank> Pair<'a, B> {
 
     /// The same of what the device asks.
     pub fn drop_up(&mut self, packages: &'a [Package<'a>]) -> bool
-        ensures step { step_of packages.now self.old.node.pair (StepOf.Drop ways.Up) ≡ (if result then Some (quietly self.new.node.pair) else None) }
+        ensures step { step_of packages.now self.old.node.pair (StepOf.Drop ways.Up) ≡ (if result then Some (step_without_entries self.new.node.pair) else None) }
         ensures same { result ≡ false → self.new ≡ self.old }
         ensures eid { self.new.node.eid ≡ self.old.node.eid }
         ensures faults { self.new.faults ≡ self.old.faults }
@@ -60,7 +60,7 @@ impl<'a, B: Bank> Pair<'a, B> {
 
     /// The agent waits no longer, and the session is told that there was no answer.
     pub fn give_up_down(&mut self, packages: &'a [Package<'a>]) -> bool
-        ensures step { step_of packages.now self.old.node.pair (StepOf.GiveUp ways.Down) ≡ (if result then Some (quietly self.new.node.pair) else None) }
+        ensures step { step_of packages.now self.old.node.pair (StepOf.GiveUp ways.Down) ≡ (if result then Some (step_without_entries self.new.node.pair) else None) }
         ensures same { result ≡ false → self.new ≡ self.old }
         ensures eid { self.new.node.eid ≡ self.old.node.eid }
         ensures faults { self.new.faults ≡ self.old.faults }
@@ -74,7 +74,7 @@ impl<'a, B: Bank> Pair<'a, B> {
 
     /// The device waits no longer.
     pub fn give_up_up(&mut self, packages: &'a [Package<'a>]) -> bool
-        ensures step { step_of packages.now self.old.node.pair (StepOf.GiveUp ways.Up) ≡ (if result then Some (quietly self.new.node.pair) else None) }
+        ensures step { step_of packages.now self.old.node.pair (StepOf.GiveUp ways.Up) ≡ (if result then Some (step_without_entries self.new.node.pair) else None) }
         ensures same { result ≡ false → self.new ≡ self.old }
         ensures eid { self.new.node.eid ≡ self.old.node.eid }
         ensures faults { self.new.faults ≡ self.old.faults }
@@ -98,19 +98,19 @@ impl<'a, B: Bank> Pair<'a, B> {
 }
 
 /// An empty cell takes up what is wished.
-fn ask<'a>(cell: &mut Option<Held<'a>>, wish: Option<Command<'a>>) -> bool
-    ensures asked { asked cell.old (option_map command_of wish.entry) ≡ (if result then Some cell.new else None) }
+fn ask<'a>(cell: &mut Option<CellContent<'a>>, wish: Option<Command<'a>>) -> bool
+    ensures asked { cell_after_ask cell.old (option_map command_of wish.entry) ≡ (if result then Some cell.new else None) }
     ensures same { result ≡ false → cell.new ≡ cell.old }
 {
     let (None, Some(command)) = (&*cell, wish) else {
         return false;
     };
-    *cell = Some(Held::new(command));
+    *cell = Some(CellContent::new(command));
     true
 }
 
 /// A cell that nobody waits for is emptied.
-fn drop_closed(cell: &mut Option<Held<'_>>) -> bool
+fn drop_closed(cell: &mut Option<CellContent<'_>>) -> bool
     ensures dropped { dropped_cell cell.old ≡ (if result then Some cell.new else None) }
     ensures same { result ≡ false → cell.new ≡ cell.old }
 {
@@ -123,8 +123,8 @@ fn drop_closed(cell: &mut Option<Held<'_>>) -> bool
 }
 
 /// The asker waits no longer.
-fn give_up(cell: &mut Option<Held<'_>>) -> bool
-    ensures given_up { given_up cell.old ≡ (if result then Some cell.new else None) }
+fn give_up(cell: &mut Option<CellContent<'_>>) -> bool
+    ensures given_up { cell_after_give_up cell.old ≡ (if result then Some cell.new else None) }
     ensures same { result ≡ false → cell.new ≡ cell.old }
 {
     match cell {
@@ -137,7 +137,7 @@ fn give_up(cell: &mut Option<Held<'_>>) -> bool
 }
 
 /// The asker waits no longer, unless this is what it wishes.
-fn close_unless(cell: &mut Option<Held<'_>>, wish: &Option<Command<'_>>)
+fn close_unless(cell: &mut Option<CellContent<'_>>, wish: &Option<Command<'_>>)
     ensures { cell.new ≡ closed_unless (option_map command_of wish.now) cell.old }
 {
     if let Some(held) = cell {

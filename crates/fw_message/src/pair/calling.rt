@@ -1,11 +1,11 @@
 //! The operator's calls, verdicts, time-outs and restarts.
 
 ghost use Rattle.std.specs.Prelude.{◌≡◌, ◌⊎◌, IfErr, None, OnErr, OnOk, Some, false, if◌then◌else◌, is_some, true};
-ghost use Rattle.fw_message.specs.Pairs.{StepOf, closed, quietly, step_of};
+ghost use Rattle.fw_message.specs.Pairs.{StepOf, cell_after_close, step_without_entries, step_of};
 ghost use Rattle.fw_message.specs.Replays.{counted_restarted};
 ghost use Rattle.fw_message.specs.declared.side.Side.TheVariants as sides;
 
-use crate::cell::Held;
+use crate::cell::CellContent;
 use crate::pair::Pair;
 use crate::step::MessageStepFault;
 use fd_core::Bank;
@@ -22,7 +22,7 @@ impl<'a, B: Bank> Pair<'a, B> {
         packages: &'a [Package<'a>],
         number: usize,
     ) -> Result<(), MessageStepFault>
-        ensures step { OnOk result (step_of packages.now self.old.node.pair (StepOf.Start number) ≡ Some (quietly self.new.node.pair)) }
+        ensures step { OnOk result (step_of packages.now self.old.node.pair (StepOf.Start number) ≡ Some (step_without_entries self.new.node.pair)) }
         ensures refused { IfErr result (λ e. ((e ≡ MessageStepFault.Memory) × (is_some (step_of packages.now self.old.node.pair (StepOf.Start number)) ≡ true))
             ⊎ ((e ≡ MessageStepFault.Refused) × (step_of packages.now self.old.node.pair (StepOf.Start number) ≡ None))) }
         ensures same { OnErr result (self.new ≡ self.old) }
@@ -41,7 +41,7 @@ impl<'a, B: Bank> Pair<'a, B> {
 
     /// The operator cancels.
     pub fn cancel(&mut self, packages: &'a [Package<'a>])
-        ensures step { step_of packages.now self.old.node.pair StepOf.Cancel ≡ Some (quietly self.new.node.pair) }
+        ensures step { step_of packages.now self.old.node.pair StepOf.Cancel ≡ Some (step_without_entries self.new.node.pair) }
         ensures eid { self.new.node.eid ≡ self.old.node.eid }
         ensures faults { self.new.faults ≡ self.old.faults }
     {
@@ -50,7 +50,7 @@ impl<'a, B: Bank> Pair<'a, B> {
 
     /// The operator activates. False where it isn't time for it.
     pub fn activate(&mut self, packages: &'a [Package<'a>]) -> bool
-        ensures step { step_of packages.now self.old.node.pair StepOf.Activate ≡ (if result then Some (quietly self.new.node.pair) else None) }
+        ensures step { step_of packages.now self.old.node.pair StepOf.Activate ≡ (if result then Some (step_without_entries self.new.node.pair) else None) }
         ensures same { result ≡ false → self.new ≡ self.old }
         ensures eid { self.new.node.eid ≡ self.old.node.eid }
         ensures faults { self.new.faults ≡ self.old.faults }
@@ -60,7 +60,7 @@ impl<'a, B: Bank> Pair<'a, B> {
 
     /// The agent restarts.
     pub fn restart_session(&mut self, packages: &'a [Package<'a>])
-        ensures step { step_of packages.now self.old.node.pair (StepOf.Restart sides.Agent) ≡ Some (quietly self.new.node.pair) }
+        ensures step { step_of packages.now self.old.node.pair (StepOf.Restart sides.Agent) ≡ Some (step_without_entries self.new.node.pair) }
         ensures eid { self.new.node.eid ≡ self.old.node.eid }
         ensures faults { self.new.faults ≡ self.old.faults }
     {
@@ -80,7 +80,7 @@ impl<'a, B: Bank> Pair<'a, B> {
     /// The device restarts.
     #[tactic(auto, using(fd_core::proofs::Components::restart_components))]
     pub fn restart_device(&mut self, packages: &'a [Package<'a>])
-        ensures step { step_of packages.now self.old.node.pair (StepOf.Restart sides.Device) ≡ Some (quietly self.new.node.pair) }
+        ensures step { step_of packages.now self.old.node.pair (StepOf.Restart sides.Device) ≡ Some (step_without_entries self.new.node.pair) }
         ensures eid { self.new.node.eid ≡ self.old.node.eid }
         ensures faults { self.new.faults ≡ self.old.faults }
     {
@@ -90,8 +90,8 @@ impl<'a, B: Bank> Pair<'a, B> {
 }
 
 /// The asker waits no longer.
-fn close(cell: &mut Option<Held<'_>>)
-    ensures { cell.new ≡ closed cell.old }
+fn close(cell: &mut Option<CellContent<'_>>)
+    ensures { cell.new ≡ cell_after_close cell.old }
 {
     if let Some(held) = cell {
         held.close();

@@ -6,11 +6,11 @@ ghost use Rattle.fd_core.specs.States.{staged_of};
 ghost use Rattle.fd_core.specs.Steps.{applied_by};
 ghost use Rattle.fd_core.specs.Wishes.{has_failed};
 ghost use Rattle.fw_message.specs.BankCalls.{pair_step_calls_bank};
-ghost use Rattle.fw_message.specs.Entries.{put_of};
+ghost use Rattle.fw_message.specs.Entries.{keyed_image_of};
 ghost use Rattle.fw_message.specs.History.{EntryOf};
 ghost use Rattle.fw_message.specs.Nodes.{is_activation, room_of, to_activate};
-ghost use Rattle.fd_core.specs.Banks.{Rose};
-ghost use Rattle.fw_message.specs.Pairs.{StepOf, activated_down, quietly, step_of};
+ghost use Rattle.fd_core.specs.Banks.{CountsFailure};
+ghost use Rattle.fw_message.specs.Pairs.{StepOf, activated_down, step_without_entries, step_of};
 
 use crate::entry::Image;
 use crate::images::applied_images;
@@ -57,7 +57,7 @@ impl<'a, B: Bank> Pair<'a, B> {
         ensures none { IfNone result ((works : Bool) → step_of packages.now self.old.node.pair (StepOf.TakeDown quiet works) ≡ None) }
         ensures same { result ≡ None → self.new ≡ self.old }
         ensures worked { result ≡ Some true → self.new.faults ≡ self.old.faults }
-        ensures failed { result ≡ Some false → Rose self.old.faults self.new.faults }
+        ensures failed { result ≡ Some false → CountsFailure self.old.faults self.new.faults }
         ensures called { result ≡ Some false → pair_step_calls_bank self.old.node.pair (StepOf.TakeDown quiet true) ≡ true }
         ensures eid { self.new.node.eid ≡ self.old.node.eid }
     {
@@ -80,7 +80,7 @@ impl<'a, B: Bank> Pair<'a, B> {
         alloc: Global,
         packages: &'a [Package<'a>],
     ) -> Result<Vec<Image<'a>>, AllocError>
-        ensures { IfOk result (λ images. map put_of images.items ≡ to_activate self.now.node.pair) }
+        ensures { IfOk result (λ images. map keyed_image_of images.items ≡ to_activate self.now.node.pair) }
     {
         match &self.down {
             Some(held) if matches!(held.command(), Command::ActivateFirmware { .. }) => {
@@ -118,7 +118,7 @@ impl<'a, B: Bank> Pair<'a, B> {
         ensures none { IfNone result ((works : Bool) → step_of packages.now self.old.node.pair (StepOf.Judge verdict works) ≡ None) }
         ensures same { result ≡ None → self.new ≡ self.old }
         ensures worked { result ≡ Some true → self.new.faults ≡ self.old.faults }
-        ensures failed { result ≡ Some false → Rose self.old.faults self.new.faults }
+        ensures failed { result ≡ Some false → CountsFailure self.old.faults self.new.faults }
         ensures called { result ≡ Some false → pair_step_calls_bank self.old.node.pair (StepOf.Judge verdict true) ≡ true }
         ensures eid { self.new.node.eid ≡ self.old.node.eid }
     {
@@ -140,12 +140,12 @@ impl<'a, B: Bank> Pair<'a, B> {
         requires room { verdict ≡ Verdict.ApplyOk → IfSome (staged_of self.old.node.pair.device.phase) (λ s. s.1 ≤ vec_capacity room) }
         ensures step { IfSome result (λ r. step_of packages.now self.old.node.pair (StepOf.Judge verdict r.0) ≡ Some (record {
           after = self.new.node.pair;
-          noted = map EntryOf.Applied (map put_of (option_to_list r.1));
+          noted = map EntryOf.Applied (map keyed_image_of (option_to_list r.1));
         })) }
         ensures none { IfNone result ((works : Bool) → step_of packages.now self.old.node.pair (StepOf.Judge verdict works) ≡ None) }
         ensures same { result ≡ None → self.new ≡ self.old }
         ensures worked { IfSome result (λ r. r.0 ≡ true → self.new.faults ≡ self.old.faults) }
-        ensures failed { IfSome result (λ r. r.0 ≡ false → Rose self.old.faults self.new.faults) }
+        ensures failed { IfSome result (λ r. r.0 ≡ false → CountsFailure self.old.faults self.new.faults) }
         ensures called { IfSome result (λ r. r.0 ≡ false
             → pair_step_calls_bank self.old.node.pair (StepOf.Judge verdict true) ≡ true) }
         ensures eid { self.new.node.eid ≡ self.old.node.eid }
@@ -163,7 +163,7 @@ impl<'a, B: Bank> Pair<'a, B> {
 
     /// The session learns the answer that it waits for. False where there is none.
     pub fn learn_down(&mut self, packages: &'a [Package<'a>]) -> bool
-        ensures step { step_of packages.now self.old.node.pair StepOf.LearnDown ≡ (if result then Some (quietly self.new.node.pair) else None) }
+        ensures step { step_of packages.now self.old.node.pair StepOf.LearnDown ≡ (if result then Some (step_without_entries self.new.node.pair) else None) }
         ensures same { result ≡ false → self.new ≡ self.old }
         ensures eid { self.new.node.eid ≡ self.old.node.eid }
         ensures faults { self.new.faults ≡ self.old.faults }
@@ -186,11 +186,11 @@ impl<'a, B: Bank> Pair<'a, B> {
     /// The device learns the answer that it waits for. None where there is none; else whether its bank worked.
     #[tactic(auto, using(fd_core::proofs::Components::learn_components, crate::proofs::Working::learns_failed, fd_core::proofs::BankCalls::bank_calls))]
     pub fn learn_up(&mut self, packages: &'a [Package<'a>]) -> Option<bool>
-        ensures step { IfSome result (λ works. step_of packages.now self.old.node.pair (StepOf.LearnUp works) ≡ Some (quietly self.new.node.pair)) }
+        ensures step { IfSome result (λ works. step_of packages.now self.old.node.pair (StepOf.LearnUp works) ≡ Some (step_without_entries self.new.node.pair)) }
         ensures none { IfNone result ((works : Bool) → step_of packages.now self.old.node.pair (StepOf.LearnUp works) ≡ None) }
         ensures same { result ≡ None → self.new ≡ self.old }
         ensures worked { result ≡ Some true → self.new.faults ≡ self.old.faults }
-        ensures failed { result ≡ Some false → Rose self.old.faults self.new.faults }
+        ensures failed { result ≡ Some false → CountsFailure self.old.faults self.new.faults }
         ensures called { result ≡ Some false → pair_step_calls_bank self.old.node.pair (StepOf.LearnUp true) ≡ true }
         ensures eid { self.new.node.eid ≡ self.old.node.eid }
     {

@@ -3,7 +3,7 @@
 ghost use Rattle.std.specs.Prelude.{◌≡◌, None, Some, false, if◌then◌else◌, true};
 ghost use Rattle.fd_core.specs.Steps.{device_timeout, times_out as device_times_out};
 ghost use Rattle.ua_core.specs.Calls.{agent_timeout, times_out as session_times_out};
-ghost use Rattle.fw_message.specs.Pairs.{StepOf, quietly, step_of};
+ghost use Rattle.fw_message.specs.Pairs.{StepOf, step_without_entries, step_of};
 ghost use Rattle.fw_message.specs.declared.side.Side.TheVariants as sides;
 
 use crate::pair::Pair;
@@ -14,7 +14,7 @@ use ua_core::{IDLE_LIMIT, Session};
 impl<'a, B: Bank> Pair<'a, B> {
     /// The session has waited too long. False where it doesn't wait.
     pub fn time_out_session(&mut self, packages: &'a [Package<'a>]) -> bool
-        ensures step { step_of packages.now self.old.node.pair (StepOf.TimeOut sides.Agent) ≡ (if result then Some (quietly self.new.node.pair) else None) }
+        ensures step { step_of packages.now self.old.node.pair (StepOf.TimeOut sides.Agent) ≡ (if result then Some (step_without_entries self.new.node.pair) else None) }
         ensures same { result ≡ false → self.new ≡ self.old }
         ensures eid { self.new.node.eid ≡ self.old.node.eid }
         ensures faults { self.new.faults ≡ self.old.faults }
@@ -29,7 +29,7 @@ impl<'a, B: Bank> Pair<'a, B> {
     /// The device has waited too long. False where it is idle.
     #[tactic(auto, using(fd_core::proofs::Components::timeout_components))]
     pub fn time_out_device(&mut self, packages: &'a [Package<'a>]) -> bool
-        ensures step { step_of packages.now self.old.node.pair (StepOf.TimeOut sides.Device) ≡ (if result then Some (quietly self.new.node.pair) else None) }
+        ensures step { step_of packages.now self.old.node.pair (StepOf.TimeOut sides.Device) ≡ (if result then Some (step_without_entries self.new.node.pair) else None) }
         ensures same { result ≡ false → self.new ≡ self.old }
         ensures eid { self.new.node.eid ≡ self.old.node.eid }
         ensures faults { self.new.faults ≡ self.old.faults }

@@ -2,13 +2,13 @@
 -- and a call that fails is counted.
 use Rattle.std.proofs.Common.{◌≡◌, ◌⊎◌, ◌∙◌, ◌==◌, ◌&&◌, ℕ, Bool, true, false, not, List, Option, Some, None, inl, inr, refl, sym, ap, subst}
 use Rattle.std.proofs.lemmas.Bool.{eqb-true}
-use Rattle.exch_lane.specs.Lanes.{Sent, numbered}
+use Rattle.exch_lane.specs.Lanes.{Sent, item_numbered}
 use Rattle.fw_package.specs.Package.{PackageText}
-use Rattle.fd_core.specs.Banks.{Rose}
+use Rattle.fd_core.specs.Banks.{CountsFailure}
 use Rattle.fd_core.specs.declared.states.Verdict.{Verdict}
 use Rattle.fw_message.specs.declared.side.Side.TheVariants as sides
 use Rattle.fw_steps.specs.BankCalls.{step_calls_bank}
-use Rattle.fw_steps.specs.Headline.{Leads, faults_before, world_after}
+use Rattle.fw_steps.specs.Headline.{StepsTo, faults_before, world_after}
 use Rattle.fw_steps.specs.Isolation.{faults_at}
 use Rattle.fw_steps.specs.Links.{LinkOf, LinkStep, LinkStepped, delivers_on}
 use Rattle.fw_steps.specs.Worlds.{WorldOf}
@@ -33,8 +33,8 @@ by_alike p number works (Some t) = refl
 came_alike : (works : Bool) (now : ℕ) (packages : List PackageText) (p : SeenOf) (number : ℕ) (mine agent here : Bool) → (not agent && here) ≡ false
     → seen_then now packages p (where_mine mine (comes_as works number agent here)) ≡ seen_then now packages p (where_mine mine (comes_as true number agent here))
 came_alike works now packages p number true true here e =
-    ap (seen_by p (LinkStep.Deliver number sides.Agent works)) (agent_alike now packages p.link works (numbered p.link.packets number))
-    ∙ by_alike p number works (delivers_on now packages p.link sides.Agent true (numbered p.link.packets number))
+    ap (seen_by p (LinkStep.Deliver number sides.Agent works)) (agent_alike now packages p.link works (item_numbered p.link.packets number))
+    ∙ by_alike p number works (delivers_on now packages p.link sides.Agent true (item_numbered p.link.packets number))
 came_alike works now packages p number true false true e = absurd (cc)
 came_alike works now packages p number true false false e = refl
 came_alike works now packages p number false agent here e = refl
@@ -74,19 +74,19 @@ pub record GoesWell (w v : WorldOf) (s : Step) (eid : ℕ) (p : SeenOf) : Type 0
 
 goes_by : (called works : Bool) (w u : WorldOf) (s : Step) (faults eid : ℕ) (p : SeenOf) → calls_bank w.agent.endpoint.eid s eid ≡ called
     → IsSeen u eid (seen_then w.now w.packages p (link_step works w.agent.endpoint.eid s eid)) → faults_at u eid ≡ count_if called faults (faults_at w eid)
-    → (works ≡ true → faults ≡ faults_before w s) → (works ≡ false → Rose (faults_before w s) faults)
-    → GoesWell w u s eid p ⊎ Rose (faults_at w eid) (faults_at u eid)
+    → (works ≡ true → faults ≡ faults_before w s) → (works ≡ false → CountsFailure (faults_before w s) faults)
+    → GoesWell w u s eid p ⊎ CountsFailure (faults_at w eid) (faults_at u eid)
 goes_by false works w u s faults eid p e seen count worked failed =
     inl (record { seen = subst (IsSeen u eid) (alike works w.agent.endpoint.eid s eid w.now w.packages p e) seen; count = count })
 goes_by true true w u s faults eid p e seen count worked failed = inl (record { seen = seen; count = count ∙ worked refl ∙ called_count w s eid e })
 goes_by true false w u s faults eid p e seen count worked failed =
-    inr (subst (λ n. Rose n (faults_at u eid)) (called_count w s eid e) (subst (λ n. Rose (faults_before w s) n) (sym count) (failed refl)))
+    inr (subst (λ n. CountsFailure n (faults_at u eid)) (called_count w s eid e) (subst (λ n. CountsFailure (faults_before w s) n) (sym count) (failed refl)))
 
 -- Each step goes well for a device, or a call of its bank fails and is counted.
-pub goes_or_fails : (w v : WorldOf) (s : Step) (eid : ℕ) (p : SeenOf) → AreLinked w → (h : Leads w s v) → Follows h.works s w (world_after h.works h.faults w s) → IsSeen w eid p
-    → GoesWell w v s eid p ⊎ Rose (faults_at w eid) (faults_at v eid)
+pub goes_or_fails : (w v : WorldOf) (s : Step) (eid : ℕ) (p : SeenOf) → AreLinked w → (h : StepsTo w s v) → Follows h.works s w (world_after h.works h.faults w s) → IsSeen w eid p
+    → GoesWell w v s eid p ⊎ CountsFailure (faults_at w eid) (faults_at v eid)
 goes_or_fails w v s eid p k h f i =
-    subst (λ u. GoesWell w u s eid p ⊎ Rose (faults_at w eid) (faults_at u eid)) (sym h.after)
+    subst (λ u. GoesWell w u s eid p ⊎ CountsFailure (faults_at w eid) (faults_at u eid)) (sym h.after)
     (goes_by (calls_bank w.agent.endpoint.eid s eid) h.works w (world_after h.works h.faults w s) s h.faults eid p refl
     (seen_after h.works h.faults w s eid p k h.may f i) (count_after h.works h.faults w s eid p k h.may f i) h.worked h.failed)
 
@@ -102,7 +102,7 @@ works_by true called h e = refl
 works_by false called h e = absurd (let f = h refl in cc)
 
 -- Where no bank is called, the count stays.
-pub count_stays : (w v : WorldOf) (s : Step) (eid : ℕ) (p : SeenOf) → AreLinked w → (h : Leads w s v) → Follows h.works s w (world_after h.works h.faults w s) → IsSeen w eid p
+pub count_stays : (w v : WorldOf) (s : Step) (eid : ℕ) (p : SeenOf) → AreLinked w → (h : StepsTo w s v) → Follows h.works s w (world_after h.works h.faults w s) → IsSeen w eid p
     → step_calls_bank w s ≡ false → faults_at v eid ≡ faults_at w eid
 count_stays w v s eid p k h f i none =
     ap (λ u. faults_at u eid) h.after

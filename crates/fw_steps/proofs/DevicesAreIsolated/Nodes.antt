@@ -7,18 +7,18 @@ use Rattle.std.proofs.lemmas.Bool.Decides.{eqb_tells}
 use Rattle.mctp_ctl.specs.declared.answers.Endpoint.{Endpoint}
 use Rattle.pldm_base.specs.declared.terminus.Role.{Role}
 use Rattle.pldm_base.specs.declared.terminus.Role.TheVariants as roles
-use Rattle.exch_lane.specs.Lanes.{Sent, numbered}
+use Rattle.exch_lane.specs.Lanes.{Sent, item_numbered}
 use Rattle.fw_package.specs.Package.{PackageText}
 use Rattle.fd_core.specs.declared.states.Verdict.{Verdict}
 use Rattle.ua_core.specs.Session.{SessionOf}
 use Rattle.fw_message.specs.declared.side.Side.TheVariants as sides
-use Rattle.fw_node.specs.Agents.{agent_hears, half_for, ready_for}
+use Rattle.fw_node.specs.Agents.{agent_on_packet, half_for, ready_for}
 use Rattle.fw_node.specs.Cores.{TimedDevice, device_core}
-use Rattle.fw_node.specs.Halves.{HalfHeard, half_hears}
-use Rattle.fw_node.specs.Nodes.{DeviceNodeOf, device_restarts, finished}
+use Rattle.fw_node.specs.Halves.{HalfOutcome, half_on_packet}
+use Rattle.fw_node.specs.Nodes.{DeviceNodeOf, device_restarts, node_outcome_of}
 use Rattle.fw_steps.specs.Headline.{is_device, is_node, may_step, packet_fault, world_after}
-use Rattle.fw_steps.specs.Links.{LinkOf, LinkStep, LinkStepped, delivers_on, device_heard, link_after}
-use Rattle.fw_steps.specs.Worlds.{SiteOf, WorldOf, activates_on, agent_pass_sends, asks_log, at_agent, at_device, comes, counts, delivers, judges, packets_of, place_of, posts, restarts, site_for, site_goes_on, site_passes, site_restarts, ticks}
+use Rattle.fw_steps.specs.Links.{LinkOf, LinkStep, LinkStepped, delivers_on, link_step_of_device, link_after}
+use Rattle.fw_steps.specs.Worlds.{SiteOf, WorldOf, activates_on, agent_pass_sends, world_after_log_request, at_agent, at_device, world_after_packet, counts, world_after_deliver, world_after_verdict, packets_of, place_of, posts, world_after_restart, site_for, site_after_tick, site_passes, site_restarts, world_after_tick}
 use Rattle.fw_steps.specs.declared.step.Step.{Step}
 use Rattle.fw_steps.specs.declared.step.Step.TheVariants as steps
 use Rattle.fw_steps.proofs.LinksAreLanes.Arrivals.{device_put, heard_site}
@@ -26,7 +26,7 @@ use Rattle.fw_steps.proofs.LinksAreLanes.Delivered.{IsLinkOf, packets_on, strang
 use Rattle.fw_steps.proofs.LinksAreLanes.Hears.{IsPassed}
 use Rattle.fw_steps.proofs.LinksAreLanes.Misses.{link_packet_between}
 use Rattle.fw_steps.proofs.LinksAreLanes.Posting.{posts_at, site_changed, site_put, with_packets, is_to}
-use Rattle.fw_steps.proofs.LinksAreLanes.Projected.{StepsTo, comes_as, known_if, link_site, link_step, restart_as, where_mine}
+use Rattle.fw_steps.proofs.LinksAreLanes.Projected.{LinkStepsTo, comes_as, known_if, link_site, link_step, restart_as, where_mine}
 use Rattle.fw_steps.proofs.LinksAreLanes.Projection.{goes_on_eid, judged_site, judges_put, link_at, restarts_put}
 use Rattle.fw_steps.proofs.LinksAreLanes.Routes.{both_hold}
 use Rattle.fw_steps.proofs.LinksAreLanes.WorldSteps.{AreLinked, known_both, still_living}
@@ -87,48 +87,48 @@ tid_comes works number false agent here tid = refl
 -- A PACKET
 
 -- what is no request of another PLDM type leaves it too
-heard_tid : {C : Type 0} (role : Role) (endpoint : Endpoint) (tid : ℕ) (heard : HalfHeard C) → IsPassed heard → (finished role endpoint tid heard).tid ≡ tid
-heard_tid role endpoint tid (HalfHeard.Went h sent) k = refl
-heard_tid role endpoint tid (HalfHeard.Took h sent c answer) k = refl
-heard_tid role endpoint tid (HalfHeard.Asks h m head body) k = absurd k
-heard_tid role endpoint tid (HalfHeard.Strayed h m) k = absurd k
+heard_tid : {C : Type 0} (role : Role) (endpoint : Endpoint) (tid : ℕ) (heard : HalfOutcome C) → IsPassed heard → (node_outcome_of role endpoint tid heard).tid ≡ tid
+heard_tid role endpoint tid (HalfOutcome.Went h sent) k = refl
+heard_tid role endpoint tid (HalfOutcome.Took h sent c answer) k = refl
+heard_tid role endpoint tid (HalfOutcome.Asks h m head body) k = absurd k
+heard_tid role endpoint tid (HalfOutcome.Strayed h m) k = absurd k
 
 -- what a link takes is none
-passed_on : (now : ℕ) (works : Bool) (l : LinkOf) (heard : HalfHeard TimedDevice) (P : LinkStepped → Type 0) → IsSomeAnd (device_heard now works l heard) P → IsPassed heard
-passed_on now works l (HalfHeard.Went h sent) P k = tt
-passed_on now works l (HalfHeard.Took h sent c answer) P k = tt
-passed_on now works l (HalfHeard.Asks h m head body) P k = absurd k
-passed_on now works l (HalfHeard.Strayed h m) P k = absurd k
+passed_on : (now : ℕ) (works : Bool) (l : LinkOf) (heard : HalfOutcome TimedDevice) (P : LinkStepped → Type 0) → IsSomeAnd (link_step_of_device now works l heard) P → IsPassed heard
+passed_on now works l (HalfOutcome.Went h sent) P k = tt
+passed_on now works l (HalfOutcome.Took h sent c answer) P k = tt
+passed_on now works l (HalfOutcome.Asks h m head body) P k = absurd k
+passed_on now works l (HalfOutcome.Strayed h m) P k = absurd k
 
-passed_if : (dead : Bool) (now : ℕ) (works : Bool) (l : LinkOf) (heard : HalfHeard TimedDevice) (P : LinkStepped → Type 0)
-    → IsSomeAnd (if dead then None else device_heard now works l heard) P → IsPassed heard
+passed_if : (dead : Bool) (now : ℕ) (works : Bool) (l : LinkOf) (heard : HalfOutcome TimedDevice) (P : LinkStepped → Type 0)
+    → IsSomeAnd (if dead then None else link_step_of_device now works l heard) P → IsPassed heard
 passed_if true now works l heard P k = absurd k
 passed_if false now works l heard P k = passed_on now works l heard P k
 
-came_passed : (now : ℕ) (packages : List PackageText) (l : LinkOf) (number : ℕ) (works : Bool) (p : Sent) (P : LinkStepped → Type 0) → numbered l.packets number ≡ Some p
-    → IsSomeAnd (link_after now packages l (LinkStep.Deliver number sides.Device works)) P → IsPassed (half_hears device_core works l.device p.bytes)
+came_passed : (now : ℕ) (packages : List PackageText) (l : LinkOf) (number : ℕ) (works : Bool) (p : Sent) (P : LinkStepped → Type 0) → item_numbered l.packets number ≡ Some p
+    → IsSomeAnd (link_after now packages l (LinkStep.Deliver number sides.Device works)) P → IsPassed (half_on_packet device_core works l.device p.bytes)
 came_passed now packages l number works p P at k =
     let there : IsSomeAnd (delivers_on now packages l sides.Device works (Some p)) P = subst (λ o. IsSomeAnd (delivers_on now packages l sides.Device works o) P) at k in
-    passed_if (nat_lt (p.date + 8) now) now works l (half_hears device_core works l.device p.bytes) P there
+    passed_if (nat_lt (p.date + 8) now) now works l (half_on_packet device_core works l.device p.bytes) P there
 
 device_passes : (works : Bool) (w : WorldOf) (device number node eid : ℕ) (d l : LinkOf) (p : Sent) (after : Option LinkOf) → IsLinkOf w device d → IsLinkOf w eid l
-    → link_at w device ≡ Some d → link_at w eid ≡ Some l → numbered d.packets number ≡ Some p → w.now ≤ p.date + 8 → node ≢ w.agent.endpoint.eid → node ≡ eid
-    → StepsTo w.now w.packages l (where_mine (device == eid) (comes_as works number false true)) after → IsPassed (half_hears device_core works l.device p.bytes)
+    → link_at w device ≡ Some d → link_at w eid ≡ Some l → item_numbered d.packets number ≡ Some p → w.now ≤ p.date + 8 → node ≢ w.agent.endpoint.eid → node ≡ eid
+    → LinkStepsTo w.now w.packages l (where_mine (device == eid) (comes_as works number false true)) after → IsPassed (half_on_packet device_core works l.device p.bytes)
 device_passes works w device number node eid d l p after kd kl there is at soon other here goes = elim (eqb_tells device eid) [
   | inl mine ↦
       let same : d ≡ l = (let both : Some d ≡ Some l = sym there ∙ ap (link_at w) mine.1 ∙ is in cc) in
-      came_passed w.now w.packages l number works p (λ t. after ≡ Some t.after) (subst (λ x. numbered x.packets number ≡ Some p) same at)
-      (subst (λ b. StepsTo w.now w.packages l (where_mine b (comes_as works number false true)) after) mine.0 goes)
+      came_passed w.now w.packages l number works p (λ t. after ≡ Some t.after) (subst (λ x. item_numbered x.packets number ≡ Some p) same at)
+      (subst (λ b. LinkStepsTo w.now w.packages l (where_mine b (comes_as works number false true)) after) mine.0 goes)
   | inr strange ↦
       subst IsPassed
       (sym (strange_packet works l d p.bytes (link_packet_between w.now d number p kd.explained at soon)
       (λ z. other (here ∙ sym kl.device ∙ z ∙ kd.agent)) (λ z. strange.1 (sym kd.device ∙ sym z ∙ kl.device)))) tt
 ]
 
-heard_node : (works : Bool) (faults : ℕ) (now : ℕ) (bytes : List ℕ) (x : SiteOf) → IsPassed (half_hears device_core works x.node.half bytes)
+heard_node : (works : Bool) (faults : ℕ) (now : ℕ) (bytes : List ℕ) (x : SiteOf) → IsPassed (half_on_packet device_core works x.node.half bytes)
     → NodeIs x.node.endpoint x.node.tid faults (heard_site works faults now bytes x).node
 heard_node works faults now bytes x k =
-    record { endpoint = refl; tid = heard_tid roles.Device x.node.endpoint x.node.tid (half_hears device_core works x.node.half bytes) k; faults = refl }
+    record { endpoint = refl; tid = heard_tid roles.Device x.node.endpoint x.node.tid (half_on_packet device_core works x.node.half bytes) k; faults = refl }
 
 -- the half of a device's node is that of its link
 half_of_site : (w : WorldOf) (eid : ℕ) (l : LinkOf) (x : SiteOf) → link_at w eid ≡ Some l → site_for w.sites eid ≡ Some x → x.node.half ≡ l.device
@@ -138,7 +138,7 @@ half_of_site w eid l x is site =
     here.0
 
 at_device_node : (works : Bool) (faults : ℕ) (w : WorldOf) (bytes : List ℕ) (node eid : ℕ) (x : SiteOf) → site_for w.sites eid ≡ Some x
-    → (node ≡ eid → IsPassed (half_hears device_core works x.node.half bytes))
+    → (node ≡ eid → IsPassed (half_on_packet device_core works x.node.half bytes))
     → SiteIs x.node.endpoint x.node.tid (count_if (node == eid) faults x.node.faults) (site_for (at_device works faults w bytes (place_of w.sites node) (site_for w.sites node)).sites eid)
 at_device_node works faults w bytes node eid x site passes =
     put_is (node == eid) (heard_site works faults w.now bytes) (site_for (at_device works faults w bytes (place_of w.sites node) (site_for w.sites node)).sites eid) (site_for w.sites eid) x
@@ -149,34 +149,34 @@ at_device_node works faults w bytes node eid x site passes =
 
 at_agent_node : (w : WorldOf) (bytes : List ℕ) (eid : ℕ) (x : SiteOf) → site_for w.sites eid ≡ Some x → SiteIs x.node.endpoint x.node.tid x.node.faults (site_for (at_agent w bytes).sites eid)
 at_agent_node w bytes eid x site =
-    let sent = (agent_hears w.packages w.agent bytes w.now).sent in
+    let sent = (agent_on_packet w.packages w.agent bytes w.now).sent in
     site_is x.node.endpoint x.node.tid x.node.faults _ (with_packets w.now (filter (is_to eid) sent) x)
     (posts_at w.now sent w.sites eid ∙ ap (option_map (with_packets w.now (filter (is_to eid) sent))) site)
     (record { endpoint = refl; tid = refl; faults = refl })
 
 comes_node : (works : Bool) (faults : ℕ) (w : WorldOf) (bytes : List ℕ) (node eid : ℕ) (x : SiteOf) → site_for w.sites eid ≡ Some x
-    → ((node == w.agent.endpoint.eid) ≡ false → node ≢ w.agent.endpoint.eid → node ≡ eid → IsPassed (half_hears device_core works x.node.half bytes))
-    → SiteIs x.node.endpoint x.node.tid (count_if (not (node == w.agent.endpoint.eid) && (node == eid)) faults x.node.faults) (site_for (comes works faults w node bytes).sites eid)
+    → ((node == w.agent.endpoint.eid) ≡ false → node ≢ w.agent.endpoint.eid → node ≡ eid → IsPassed (half_on_packet device_core works x.node.half bytes))
+    → SiteIs x.node.endpoint x.node.tid (count_if (not (node == w.agent.endpoint.eid) && (node == eid)) faults x.node.faults) (site_for (world_after_packet works faults w node bytes).sites eid)
 comes_node works faults w bytes node eid x site passes = elim (eqb_tells node w.agent.endpoint.eid) [
   | inl agent ↦ rw agent.0 (at_agent_node w bytes eid x site)
   | inr other ↦ rw other.0 (at_device_node works faults w bytes node eid x site (λ here. passes other.0 other.1 here))
 ]
 
 packet_node : (works : Bool) (faults : ℕ) (w : WorldOf) (device number node eid : ℕ) (l : LinkOf) (x : SiteOf) (d : Option LinkOf) (q : Option Sent) → AreLinked w
-    → link_at w device ≡ d → is_some d ≡ true → numbered (packets_of w device) number ≡ q → packet_fault w.now q ≡ None → link_at w eid ≡ Some l → site_for w.sites eid ≡ Some x
-    → StepsTo w.now w.packages l (where_mine (device == eid) (comes_as works number (node == w.agent.endpoint.eid) (node == eid))) (link_at (delivers works faults w node q) eid)
-    → SiteIs x.node.endpoint x.node.tid (count_if (not (node == w.agent.endpoint.eid) && (node == eid)) faults x.node.faults) (site_for (delivers works faults w node q).sites eid)
+    → link_at w device ≡ d → is_some d ≡ true → item_numbered (packets_of w device) number ≡ q → packet_fault w.now q ≡ None → link_at w eid ≡ Some l → site_for w.sites eid ≡ Some x
+    → LinkStepsTo w.now w.packages l (where_mine (device == eid) (comes_as works number (node == w.agent.endpoint.eid) (node == eid))) (link_at (world_after_deliver works faults w node q) eid)
+    → SiteIs x.node.endpoint x.node.tid (count_if (not (node == w.agent.endpoint.eid) && (node == eid)) faults x.node.faults) (site_for (world_after_deliver works faults w node q).sites eid)
 packet_node works faults w device number node eid l x None q k there some at may is site goes = absurd (cc)
 packet_node works faults w device number node eid l x (Some d) None k there some at may is site goes = absurd (cc)
 packet_node works faults w device number node eid l x (Some d) (Some p) k there some at may is site goes =
     comes_node works faults w p.bytes node eid x site
     (λ mine other here.
     let half = half_of_site w eid l x is site in
-    let to_agent = subst (λ b. StepsTo w.now w.packages l (where_mine (device == eid) (comes_as works number b (node == eid))) (link_at (comes works faults w node p.bytes) eid)) mine goes in
-    let to_device = subst (λ b. StepsTo w.now w.packages l (where_mine (device == eid) (comes_as works number false b)) (link_at (comes works faults w node p.bytes) eid)) (eq-eqb node eid here) to_agent in
-    subst (λ h. IsPassed (half_hears device_core works h p.bytes)) (sym half)
-    (device_passes works w device number node eid d l p (link_at (comes works faults w node p.bytes) eid) (k.links device d there) (k.links eid l is) there is
-    (sym (ap (λ ps. numbered ps number) (packets_on w device d there)) ∙ at) (still_living w.now p may) other here to_device))
+    let to_agent = subst (λ b. LinkStepsTo w.now w.packages l (where_mine (device == eid) (comes_as works number b (node == eid))) (link_at (world_after_packet works faults w node p.bytes) eid)) mine goes in
+    let to_device = subst (λ b. LinkStepsTo w.now w.packages l (where_mine (device == eid) (comes_as works number false b)) (link_at (world_after_packet works faults w node p.bytes) eid)) (eq-eqb node eid here) to_agent in
+    subst (λ h. IsPassed (half_on_packet device_core works h p.bytes)) (sym half)
+    (device_passes works w device number node eid d l p (link_at (world_after_packet works faults w node p.bytes) eid) (k.links device d there) (k.links eid l is) there is
+    (sym (ap (λ ps. item_numbered ps number) (packets_on w device d there)) ∙ at) (still_living w.now p may) other here to_device))
 
 -- A TICK
 
@@ -184,13 +184,13 @@ passed_node : (counts : Bool) (now : ℕ) (x : SiteOf) → NodeIs x.node.endpoin
 passed_node true now x = record { endpoint = refl; tid = refl; faults = refl }
 passed_node false now x = record { endpoint = refl; tid = refl; faults = refl }
 
-tick_node : (missed : List ℕ) (w : WorldOf) (eid : ℕ) (x : SiteOf) → site_for w.sites eid ≡ Some x → SiteIs x.node.endpoint x.node.tid x.node.faults (site_for (ticks missed w).sites eid)
+tick_node : (missed : List ℕ) (w : WorldOf) (eid : ℕ) (x : SiteOf) → site_for w.sites eid ≡ Some x → SiteIs x.node.endpoint x.node.tid x.node.faults (site_for (world_after_tick missed w).sites eid)
 tick_node missed w eid x site =
     let sent = agent_pass_sends (counts missed w.agent.endpoint.eid) w.packages w.agent in
     let put = with_packets (w.now + 1) (filter (is_to eid) sent) in
-    site_is x.node.endpoint x.node.tid x.node.faults _ (site_goes_on missed (w.now + 1) (put x))
-    (site_changed (site_goes_on missed (w.now + 1)) (goes_on_eid missed (w.now + 1)) (posts (w.now + 1) w.sites sent) eid
-    ∙ ap (option_map (site_goes_on missed (w.now + 1))) (posts_at (w.now + 1) sent w.sites eid ∙ ap (option_map put) site))
+    site_is x.node.endpoint x.node.tid x.node.faults _ (site_after_tick missed (w.now + 1) (put x))
+    (site_changed (site_after_tick missed (w.now + 1)) (goes_on_eid missed (w.now + 1)) (posts (w.now + 1) w.sites sent) eid
+    ∙ ap (option_map (site_after_tick missed (w.now + 1))) (posts_at (w.now + 1) sent w.sites eid ∙ ap (option_map put) site))
     (passed_node (counts missed x.node.endpoint.eid) (w.now + 1) (put x))
 
 -- THE OPERATOR, A VERDICT, A RESTART, THE LOG
@@ -199,14 +199,14 @@ pub activates_sites : (w : WorldOf) (device : ℕ) (o : Option SessionOf) → (a
 activates_sites w device None = refl
 activates_sites w device (Some s) = refl
 
-pub log_sites : (w : WorldOf) (bytes : List ℕ) → (asks_log w bytes).sites ≡ w.sites
+pub log_sites : (w : WorldOf) (bytes : List ℕ) → (world_after_log_request w bytes).sites ≡ w.sites
 log_sites w [] = refl
 log_sites w (command ∷ bytes) = refl
 
 judged_node : (works : Bool) (faults : ℕ) (w : WorldOf) (verdict : Verdict) (device eid : ℕ) (x : SiteOf) → site_for w.sites eid ≡ Some x
-    → SiteIs x.node.endpoint x.node.tid (count_if (device == eid) faults x.node.faults) (site_for (judges works faults w verdict (place_of w.sites device) (site_for w.sites device)).sites eid)
+    → SiteIs x.node.endpoint x.node.tid (count_if (device == eid) faults x.node.faults) (site_for (world_after_verdict works faults w verdict (place_of w.sites device) (site_for w.sites device)).sites eid)
 judged_node works faults w verdict device eid x site =
-    put_is (device == eid) (judged_site works faults verdict) (site_for (judges works faults w verdict (place_of w.sites device) (site_for w.sites device)).sites eid) (site_for w.sites eid) x
+    put_is (device == eid) (judged_site works faults verdict) (site_for (world_after_verdict works faults w verdict (place_of w.sites device) (site_for w.sites device)).sites eid) (site_for w.sites eid) x
     x.node.endpoint (λ b. x.node.tid) (λ b. count_if b faults x.node.faults)
     (ap (λ xs. site_for xs eid) (judges_put works faults w verdict (place_of w.sites device) (site_for w.sites device))
     ∙ site_put (judged_site works faults verdict) (λ y. refl) w.sites device eid)
@@ -225,7 +225,7 @@ restarted_at w node eid x site =
     site (λ here. record { endpoint = refl; tid = refl; faults = refl }) (record { endpoint = refl; tid = refl; faults = refl })
 
 restarted_node : (w : WorldOf) (node eid : ℕ) (x : SiteOf) → site_for w.sites eid ≡ Some x
-    → SiteIs x.node.endpoint (tid_then (restart_as (node == w.agent.endpoint.eid) (node == eid)) x.node.tid) x.node.faults (site_for (restarts w node).sites eid)
+    → SiteIs x.node.endpoint (tid_then (restart_as (node == w.agent.endpoint.eid) (node == eid)) x.node.tid) x.node.faults (site_for (world_after_restart w node).sites eid)
 restarted_node w node eid x site = elim (eqb_tells node w.agent.endpoint.eid) [
   | inl agent ↦ rw agent.0 (same_site x.node.tid x.node.faults _ x site refl refl)
   | inr other ↦ rw other.0 (restarted_at w node eid x site)
@@ -236,15 +236,15 @@ restarted_node w node eid x site = elim (eqb_tells node w.agent.endpoint.eid) [
 -- A device keeps its endpoint; its terminus identifier is 0 after its restart, and stays in every other step; and its bank's
 -- count of failures stays where the bank isn't called.
 pub node_goes : (works : Bool) (faults : ℕ) (w : WorldOf) (s : Step) (eid : ℕ) (l : LinkOf) (x : SiteOf) → AreLinked w → may_step w s ≡ None → link_at w eid ≡ Some l → site_for w.sites eid ≡ Some x
-    → StepsTo w.now w.packages l (link_step works w.agent.endpoint.eid s eid) (link_at (world_after works faults w s) eid)
+    → LinkStepsTo w.now w.packages l (link_step works w.agent.endpoint.eid s eid) (link_at (world_after works faults w s) eid)
     → SiteIs x.node.endpoint (tid_then (link_step works w.agent.endpoint.eid s eid) x.node.tid) (count_if (calls_bank w.agent.endpoint.eid s eid) faults x.node.faults)
     (site_for (world_after works faults w s).sites eid)
 node_goes works faults w (steps.Deliver device number node) eid l x k may is site goes =
-    let fault = packet_fault w.now (numbered (packets_of w device) number) in
+    let fault = packet_fault w.now (item_numbered (packets_of w device) number) in
     let known = both_hold (is_device w device) (is_node w node) (known_both (is_device w device && is_node w node) fault may) in
     subst (λ t. SiteIs x.node.endpoint t (count_if (not (node == w.agent.endpoint.eid) && (node == eid)) faults x.node.faults) (site_for (world_after works faults w (steps.Deliver device number node)).sites eid))
     (sym (tid_comes works number (device == eid) (node == w.agent.endpoint.eid) (node == eid) x.node.tid))
-    (packet_node works faults w device number node eid l x (link_at w device) (numbered (packets_of w device) number) k refl (k.known device known.0) refl
+    (packet_node works faults w device number node eid l x (link_at w device) (item_numbered (packets_of w device) number) k refl (k.known device known.0) refl
     (known_if (is_device w device && is_node w node) fault may) is site goes)
 node_goes works faults w (steps.Tick missed) eid l x k may is site goes = tick_node missed.items w eid x site
 node_goes works faults w (steps.Start device number) eid l x k may is site goes = same_site _ _ _ x site (tid_mine (device == eid) (LinkStep.Start number) x.node.tid refl) refl

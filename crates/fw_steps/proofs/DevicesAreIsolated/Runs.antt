@@ -6,15 +6,15 @@ use Rattle.std.specs.Prelude.{IfSome}
 use Rattle.std.proofs.lemmas.Bool.{cases_lt}
 use Rattle.exch_lane.specs.Laws.{LaneIsACell}
 use Rattle.fw_package.specs.Package.{PackageText}
-use Rattle.fd_core.specs.Banks.{Rose}
+use Rattle.fd_core.specs.Banks.{CountsFailure}
 use Rattle.ua_core.specs.Session.{TimedOf}
 use Rattle.fw_message.specs.WorldLaws.{history_of}
 use Rattle.fw_node.specs.Agents.{half_for}
 use Rattle.fw_node.specs.Halves.{HalfOf}
 use Rattle.fw_steps.specs.BankCalls.{step_calls_bank}
 use Rattle.fw_steps.specs.Counts.{CountsNeedCalls}
-use Rattle.fw_steps.specs.Headline.{IsReached, Leads, Run}
-use Rattle.fw_steps.specs.Isolation.{AgreeIn, ConcernOf, DevicesAreIsolated, IsUnfailed, SharedOf, concern_of, concerns, faults_at, shared_by, shared_with, steps_of, uncounted}
+use Rattle.fw_steps.specs.Headline.{IsReached, StepsTo, Run}
+use Rattle.fw_steps.specs.Isolation.{AgreeIn, ConcernOf, DevicesAreIsolated, IsUnfailed, SharedOf, concern_of, concerns_device, faults_at, shared_by, shared_with, steps_of, node_without_faults}
 use Rattle.fw_steps.specs.LinksAreMessages.{LinksAreMessages}
 use Rattle.fw_steps.specs.LinksAreLanes.{LinksAreLanes}
 use Rattle.fw_steps.specs.Links.{LinkOf, LinkStep}
@@ -51,7 +51,7 @@ strange_call : (mine : Bool) (s : LinkStep) → mine ≡ false → where_mine mi
 strange_call true s e = absurd (cc)
 strange_call false s e = refl
 
-unconcerned : (works : Bool) (agent : ℕ) (s : Step) (eid : ℕ) → concerns agent eid s ≡ false → link_step works agent s eid ≡ None
+unconcerned : (works : Bool) (agent : ℕ) (s : Step) (eid : ℕ) → concerns_device agent eid s ≡ false → link_step works agent s eid ≡ None
 unconcerned works agent (steps.Deliver device number node) eid e = strange_coming works number (device == eid) (node == agent) (node == eid) e
 unconcerned works agent (steps.Tick missed) eid e = absurd (cc)
 unconcerned works agent (steps.Start device number) eid e = strange_call (device == eid) (LinkStep.Start number) e
@@ -61,7 +61,7 @@ unconcerned works agent (steps.Verdict device verdict) eid e = strange_call (dev
 unconcerned works agent (steps.Restart node) eid e = strange_restart (node == agent) (node == eid) e
 unconcerned works agent (steps.Sel bytes) eid e = refl
 
-no_tick : (agent : ℕ) (s : Step) (eid now : ℕ) → concerns agent eid s ≡ false → now_then now s ≡ now
+no_tick : (agent : ℕ) (s : Step) (eid now : ℕ) → concerns_device agent eid s ≡ false → now_then now s ≡ now
 no_tick agent (steps.Deliver device number node) eid now e = refl
 no_tick agent (steps.Tick missed) eid now e = absurd (cc)
 no_tick agent (steps.Start device number) eid now e = refl
@@ -118,16 +118,16 @@ seen_along agent eid packages now p (c ∷ cs) =
     seen_along agent eid packages (concern_time now c) (seen_then now packages p (concern_step agent c eid)) cs
 
 -- the steps that don't concern the device are nothing to it
-time_by : (concerned : Bool) (agent : ℕ) (s : Step) (eid now : ℕ) (rest : List Step) → concerns agent eid s ≡ concerned
+time_by : (concerned : Bool) (agent : ℕ) (s : Step) (eid now : ℕ) (rest : List Step) → concerns_device agent eid s ≡ concerned
     → time_along now (map (concern_of agent eid) (cond concerned (s ∷ rest) rest)) ≡ time_along (now_then now s) (map (concern_of agent eid) rest)
 time_by true agent s eid now rest e = ap (λ n. time_along n (map (concern_of agent eid) rest)) (same_time agent eid now s)
 time_by false agent s eid now rest e = ap (λ n. time_along n (map (concern_of agent eid) rest)) (sym (no_tick agent s eid now e))
 
-time_of : (agent eid now : ℕ) (ss : List Step) → time_along now (map (concern_of agent eid) (filter (concerns agent eid) ss)) ≡ time_after_all now ss
+time_of : (agent eid now : ℕ) (ss : List Step) → time_along now (map (concern_of agent eid) (filter (concerns_device agent eid) ss)) ≡ time_after_all now ss
 time_of agent eid now [] = refl
-time_of agent eid now (s ∷ ss) = time_by (concerns agent eid s) agent s eid now (filter (concerns agent eid) ss) refl ∙ time_of agent eid (now_then now s) ss
+time_of agent eid now (s ∷ ss) = time_by (concerns_device agent eid s) agent s eid now (filter (concerns_device agent eid) ss) refl ∙ time_of agent eid (now_then now s) ss
 
-seen_if : (concerned : Bool) (agent : ℕ) (s : Step) (eid : ℕ) (packages : List PackageText) (now : ℕ) (p : SeenOf) (rest : List Step) → concerns agent eid s ≡ concerned
+seen_if : (concerned : Bool) (agent : ℕ) (s : Step) (eid : ℕ) (packages : List PackageText) (now : ℕ) (p : SeenOf) (rest : List Step) → concerns_device agent eid s ≡ concerned
     → seen_along agent eid packages (now_then now s) (seen_then now packages p (link_step true agent s eid)) (map (concern_of agent eid) rest)
     ≡ seen_along agent eid packages now p (map (concern_of agent eid) (cond concerned (s ∷ rest) rest))
 seen_if true agent s eid packages now p rest e =
@@ -147,24 +147,24 @@ same_along agent other eid ps qs m n p ss ts e f g h = rw (e, f, g, h) refl
 packages_along : (w v : WorldOf) (ss : List Step) → Run w ss v → v.packages ≡ w.packages
 packages_along w v [] e = ap (λ x. x.packages) e
 packages_along w v (s ∷ ss) run =
-    let h : Leads w s run.0 = run.1 in
+    let h : StepsTo w s run.0 = run.1 in
     packages_along run.0 v ss run.2 ∙ ap (λ x. x.packages) h.after ∙ packages_stay h.works h.faults w s
 
 now_along : (w v : WorldOf) (ss : List Step) → Run w ss v → v.now ≡ time_after_all w.now ss
 now_along w v [] e = ap (λ x. x.now) e
 now_along w v (s ∷ ss) run =
-    let h : Leads w s run.0 = run.1 in
+    let h : StepsTo w s run.0 = run.1 in
     now_along run.0 v ss run.2 ∙ ap (λ n. time_after_all n ss) (ap (λ x. x.now) h.after ∙ time_goes h.works h.faults w s)
 
 -- a count of failures never falls
-risen : (m n : ℕ) → Rose m n → m ≤ n
+risen : (m n : ℕ) → CountsFailure m n → m ≤ n
 risen m n (inl e) = omega arith
 risen m n (inr e) = let same : n ≡ m = e.1 in omega arith
 
 rises : LaneIsACell → LinksAreLanes → LinksAreMessages → (opening w v : WorldOf) (ss : List Step) (eid : ℕ) (p : SeenOf) → Stand opening w → IsSeen w eid p → Run w ss v → faults_at w eid ≤ faults_at v eid
 rises law lanes messages opening w v [] eid p k i e = let same : faults_at v eid ≡ faults_at w eid = ap (λ x. faults_at x eid) e in omega arith
 rises law lanes messages opening w v (s ∷ ss) eid p k i run =
-    let h : Leads w s run.0 = run.1 in
+    let h : StepsTo w s run.0 = run.1 in
     let linked = linked_world w (known_links opening w k) in
     let f = world_follows law opening w run.0 s k h in
     let next : IsSeen run.0 eid (seen_then w.now w.packages p (link_step h.works w.agent.endpoint.eid s eid)) =
@@ -179,7 +179,7 @@ rises law lanes messages opening w v (s ∷ ss) eid p k i run =
 abbrev HasFailed : (old new : ℕ) → Type 0
 HasFailed old new = (old < new) ⊎ (new ≡ 2 ^ 64 - 1)
 
-failed_by : (m n k : ℕ) → Rose m n → n ≤ k → HasFailed m k
+failed_by : (m n k : ℕ) → CountsFailure m n → n ≤ k → HasFailed m k
 failed_by m n k (inl e) le = inl (omega arith)
 failed_by m n k (inr e) le = elim (cases_lt m k) [
   | inl lt ↦ inl lt
@@ -191,11 +191,11 @@ pub record RunsWell (w v : WorldOf) (ss : List Step) (eid : ℕ) (p : SeenOf) : 
   pub seen : IsSeen v eid (seen_along w.agent.endpoint.eid eid w.packages w.now p (steps_of w eid ss))
   pub count : faults_at v eid ≡ faults_at w eid
 
-same_agent : (w v : WorldOf) (s : Step) → (h : Leads w s v) → v.agent.endpoint.eid ≡ w.agent.endpoint.eid
+same_agent : (w v : WorldOf) (s : Step) → (h : StepsTo w s v) → v.agent.endpoint.eid ≡ w.agent.endpoint.eid
 same_agent w v s h = ap (λ x. x.agent.endpoint.eid) h.after ∙ agent_stays h.works h.faults w s
 
 -- one step more in front
-well_first : (w u v : WorldOf) (s : Step) (ss : List Step) (eid : ℕ) (p : SeenOf) → (h : Leads w s u) → GoesWell w u s eid p
+well_first : (w u v : WorldOf) (s : Step) (ss : List Step) (eid : ℕ) (p : SeenOf) → (h : StepsTo w s u) → GoesWell w u s eid p
     → RunsWell u v ss eid (seen_then w.now w.packages p (link_step true w.agent.endpoint.eid s eid)) → RunsWell w v (s ∷ ss) eid p
 well_first w u v s ss eid p h g r =
     let agent = same_agent w u s h in
@@ -204,8 +204,8 @@ well_first w u v s ss eid p h g r =
       seen = subst (IsSeen v eid)
           (same_along w.agent.endpoint.eid u.agent.endpoint.eid eid w.packages u.packages (now_then w.now s) u.now q (steps_of w eid ss) (steps_of u eid ss) agent
           (ap (λ x. x.packages) h.after ∙ packages_stay h.works h.faults w s) (ap (λ x. x.now) h.after ∙ time_goes h.works h.faults w s)
-          (ap (λ a. map (concern_of a eid) (filter (concerns a eid) ss)) agent)
-          ∙ seen_if (concerns w.agent.endpoint.eid eid s) w.agent.endpoint.eid s eid w.packages w.now p (filter (concerns w.agent.endpoint.eid eid) ss) refl) r.seen;
+          (ap (λ a. map (concern_of a eid) (filter (concerns_device a eid) ss)) agent)
+          ∙ seen_if (concerns_device w.agent.endpoint.eid eid s) w.agent.endpoint.eid s eid w.packages w.now p (filter (concerns_device w.agent.endpoint.eid eid) ss) refl) r.seen;
       count = r.count ∙ g.count;
     }
 
@@ -213,7 +213,7 @@ runs_or_fails : LaneIsACell → LinksAreLanes → LinksAreMessages → (opening 
     → RunsWell w v ss eid p ⊎ HasFailed (faults_at w eid) (faults_at v eid)
 runs_or_fails law lanes messages opening w v [] eid p k i e = inl (record { seen = subst (λ u. IsSeen u eid p) (sym e) i; count = ap (λ x. faults_at x eid) e })
 runs_or_fails law lanes messages opening w v (s ∷ ss) eid p k i run =
-    let h : Leads w s run.0 = run.1 in
+    let h : StepsTo w s run.0 = run.1 in
     let linked = linked_world w (known_links opening w k) in
     let f = world_follows law opening w run.0 s k h in
     let on = stand_on law lanes messages opening w run.0 s k h in
@@ -350,12 +350,12 @@ devices_isolated law lanes messages = λ device w v first second ss ts reached_w
 -- COUNTS
 
 -- a device that is there is seen
-count_by : LaneIsACell → (opening w v : WorldOf) (s : Step) (eid : ℕ) (o : Option (HalfOf TimedOf)) (x : Option SiteOf) → Stand opening w → Leads w s v → step_calls_bank w s ≡ false
+count_by : LaneIsACell → (opening w v : WorldOf) (s : Step) (eid : ℕ) (o : Option (HalfOf TimedOf)) (x : Option SiteOf) → Stand opening w → StepsTo w s v → step_calls_bank w s ≡ false
     → half_for w.agent eid ≡ o → site_for w.sites eid ≡ x → IfSome (pair_with o x) (λ m. faults_at v eid ≡ faults_at w eid)
 count_by law opening w v s eid None x k h none half site = tt
 count_by law opening w v s eid (Some one) None k h none half site = tt
 count_by law opening w v s eid (Some one) (Some x) k h none half site =
-    let q : SharedOf = record { node = uncounted x.node; half = one; deaf = w.agent.deaf; agent_since_miss = w.since_miss; device_since_miss = x.since_miss; packets = x.packets; history = history_of eid w.history } in
+    let q : SharedOf = record { node = node_without_faults x.node; half = one; deaf = w.agent.deaf; agent_since_miss = w.since_miss; device_since_miss = x.since_miss; packets = x.packets; history = history_of eid w.history } in
     count_stays w v s eid (seen_of q) (linked_world w (known_links opening w k)) h (world_follows law opening w v s k h) (sees w eid (Some one) (Some x) q half site refl) none
 
 -- A count of failures changes only where a bank is called.

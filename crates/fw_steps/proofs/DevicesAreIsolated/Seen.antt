@@ -4,7 +4,7 @@ use Rattle.std.proofs.Common.{◌≡◌, ◌∙◌, ◌==◌, ◌&&◌, ◌++◌
 use Rattle.std.proofs.lemmas.Bool.{eq-eqb}
 use Rattle.std.proofs.lemmas.Bool.Decides.{eqb_tells}
 use Rattle.mctp_ctl.specs.declared.answers.Endpoint.{Endpoint}
-use Rattle.exch_lane.specs.Lanes.{numbered}
+use Rattle.exch_lane.specs.Lanes.{item_numbered}
 use Rattle.fw_package.specs.Package.{PackageText}
 use Rattle.fd_core.specs.declared.states.Verdict.{Verdict}
 use Rattle.fw_message.specs.History.{EntryOf}
@@ -18,7 +18,7 @@ use Rattle.fw_steps.specs.Worlds.{SiteOf, WorldOf, packets_of, site_for}
 use Rattle.fw_steps.specs.declared.step.Step.{Step}
 use Rattle.fw_steps.specs.declared.step.Step.TheVariants as steps
 use Rattle.fw_steps.proofs.DevicesAreIsolated.Nodes.{NodeIs, SiteIs, calls_bank, count_if, node_goes, tid_on, tid_then}
-use Rattle.fw_steps.proofs.LinksAreLanes.Projected.{StepsTo, comes_as, link_step, where_mine}
+use Rattle.fw_steps.proofs.LinksAreLanes.Projected.{LinkStepsTo, comes_as, link_step, where_mine}
 use Rattle.fw_steps.proofs.LinksAreLanes.Projection.{link_at}
 use Rattle.fw_steps.proofs.LinksAreLanes.Routes.{both_hold}
 use Rattle.fw_steps.proofs.LinksAreLanes.WorldSteps.{AreLinked, known_both}
@@ -73,7 +73,7 @@ noted_there : (works : Bool) (s : Step) (w v : WorldOf) (own eid : ℕ) (step : 
     → link_step works w.agent.endpoint.eid s own ≡ Some step → (own == eid) ≡ false → history_of eid v.history ≡ history_of eid w.history
 noted_there works s w v own eid step None f there some mine far = absurd (cc)
 noted_there works s w v own eid step (Some d) f there some mine far =
-    let g = gone_to w.now w.packages d step (link_at v own) (subst (λ o. StepsTo w.now w.packages d o (link_at v own)) mine (f.goes own d there)) in
+    let g = gone_to w.now w.packages d step (link_at v own) (subst (λ o. LinkStepsTo w.now w.packages d o (link_at v own)) mine (f.goes own d there)) in
     ap (history_of eid) (f.taken own d step g.stepped there mine g.goes) ∙ other_more own eid w.history g.stepped.noted far
 
 -- A step that is one of at most one link, and not of this.
@@ -98,7 +98,7 @@ site_judged verdict (Some x) e = refl
 unnoted : (works : Bool) (faults : ℕ) (w : WorldOf) (s : Step) (eid : ℕ) → AreLinked w → may_step w s ≡ None → Follows works s w (world_after works faults w s)
     → link_step works w.agent.endpoint.eid s eid ≡ None → history_of eid (world_after works faults w s).history ≡ history_of eid w.history
 unnoted works faults w (steps.Deliver device number node) eid k may f none =
-    let known = both_hold (is_device w device) (is_node w node) (known_both (is_device w device && is_node w node) (packet_fault w.now (numbered (packets_of w device) number)) may) in
+    let known = both_hold (is_device w device) (is_node w node) (known_both (is_device w device && is_node w node) (packet_fault w.now (item_numbered (packets_of w device) number)) may) in
     noted_elsewhere works (steps.Deliver device number node) w (world_after works faults w (steps.Deliver device number node)) device eid
     (link_step works w.agent.endpoint.eid (steps.Deliver device number node) device) f (k.known device known.0) refl
     (λ e far. ap (λ b. where_mine b (comes_as works number (node == w.agent.endpoint.eid) (node == e))) far) none
@@ -132,7 +132,7 @@ seen_link works faults w s eid p None k may f i is =
     let node = found_in (λ y. NodeIs i.site.node.endpoint (tid_then (link_step works w.agent.endpoint.eid s eid) i.site.node.tid) (count_if (calls_bank w.agent.endpoint.eid s eid) faults i.site.node.faults) y.node)
     (site_for (world_after works faults w s).sites eid) (seen_node works faults w s eid p k may f i) in
     record {
-      link = subst (λ o. StepsTo w.now w.packages p.link o (link_at (world_after works faults w s) eid)) is (f.goes eid p.link i.link);
+      link = subst (λ o. LinkStepsTo w.now w.packages p.link o (link_at (world_after works faults w s) eid)) is (f.goes eid p.link i.link);
       site = node.value;
       there = node.is;
       endpoint = node.fact.endpoint ∙ i.endpoint;
@@ -143,7 +143,7 @@ seen_link works faults w s eid p (Some step) k may f i is =
     let v = world_after works faults w s in
     let node = found_in (λ y. NodeIs i.site.node.endpoint (tid_then (link_step works w.agent.endpoint.eid s eid) i.site.node.tid) (count_if (calls_bank w.agent.endpoint.eid s eid) faults i.site.node.faults) y.node)
     (site_for v.sites eid) (seen_node works faults w s eid p k may f i) in
-    let g = gone_to w.now w.packages p.link step (link_at v eid) (subst (λ o. StepsTo w.now w.packages p.link o (link_at v eid)) is (f.goes eid p.link i.link)) in
+    let g = gone_to w.now w.packages p.link step (link_at v eid) (subst (λ o. LinkStepsTo w.now w.packages p.link o (link_at v eid)) is (f.goes eid p.link i.link)) in
     subst (λ z. IsSeen v eid (seen_by p step z)) (sym g.goes) (record {
       link = g.is;
       site = node.value;

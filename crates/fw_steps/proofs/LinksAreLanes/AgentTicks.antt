@@ -8,7 +8,7 @@ use Rattle.std.proofs.lemmas.List.{append-nil}
 use Rattle.std.proofs.lemmas.List.Elements.{filter-append}
 use Rattle.fw_package.specs.Package.{PackageText}
 use Rattle.ua_core.specs.Session.{TimedOf}
-use Rattle.fw_node.specs.Agents.{AgentOf, again_packets, agent_tick_sends, agent_ticks, ended_packets, grown, half_at, half_for, place_from, place_of}
+use Rattle.fw_node.specs.Agents.{AgentOf, again_packets, agent_tick_sends, agent_ticks, ended_packets, session_half_aged, half_at, half_for, place_from, place_of}
 use Rattle.fw_node.specs.Cores.{session_core}
 use Rattle.fw_node.specs.Halves.{HalfOf, half_ticks}
 use Rattle.fw_node.specs.Packets.{all_packets}
@@ -110,7 +110,7 @@ abbrev pub ticked_packets : List PackageText → HalfOf TimedOf → List (List �
 ticked_packets packages h = all_packets h.unit (half_ticks (session_core packages) true h).sent
 
 abbrev pub last_packets : List PackageText → HalfOf TimedOf → List (List ℕ)
-last_packets packages h = ended_packets packages (grown packages h)
+last_packets packages h = ended_packets packages (session_half_aged packages h)
 
 parts_sent : (packages : List PackageText) (deaf : ℕ) (h : HalfOf TimedOf) → deaf ≤ 1 → IsHalfOf deaf h → ticked_packets packages h ≡ again_packets h ++ last_packets packages h
 parts_sent packages deaf h soon k = agent_half_sends packages h (rw k.asking soon) (rw k.answering soon)
@@ -132,7 +132,7 @@ last_home : (packages : List PackageText) (deaf : ℕ) (hs : List (HalfOf TimedO
 last_home packages deaf hs soon k =
     each_all (IsHalfOf deaf) (SendsHome (last_packets packages)) hs k (λ h is. all_behind (GoesTo h.peer) (again_packets h) (last_packets packages h) (parts_home packages deaf h soon is))
 
-last_of_all : (packages : List PackageText) (hs : List (HalfOf TimedOf)) → flat_map (ended_packets packages) (map (grown packages) hs) ≡ flat_map (last_packets packages) hs
+last_of_all : (packages : List PackageText) (hs : List (HalfOf TimedOf)) → flat_map (ended_packets packages) (map (session_half_aged packages) hs) ≡ flat_map (last_packets packages) hs
 last_of_all packages [] = refl
 last_of_all packages (h ∷ hs) = ap (λ xs. last_packets packages h ++ xs) (last_of_all packages hs)
 
@@ -147,7 +147,7 @@ silent_for packages deaf None more k = refl
 silent_for packages deaf (Some h) more k = ap (all_packets h.unit) (sym (deaf_sends_nothing (session_core packages) h (rw k.asking more)))
 
 hearing_sends : (packages : List PackageText) (deaf : ℕ) (hs : List (HalfOf TimedOf)) (eid : ℕ) → deaf ≤ 1 → AllByRecursion (IsHalfOf deaf) hs → AreApart hs
-    → filter (is_to eid) (flat_map again_packets hs ++ flat_map (ended_packets packages) (map (grown packages) hs)) ≡ sent_for (ticked_packets packages) (first_half hs eid)
+    → filter (is_to eid) (flat_map again_packets hs ++ flat_map (ended_packets packages) (map (session_half_aged packages) hs)) ≡ sent_for (ticked_packets packages) (first_half hs eid)
 hearing_sends packages deaf hs eid soon k apart =
     ap (λ xs. filter (is_to eid) (flat_map again_packets hs ++ xs)) (last_of_all packages hs)
     ∙ filter-append (is_to eid) (flat_map again_packets hs) (flat_map (last_packets packages) hs)

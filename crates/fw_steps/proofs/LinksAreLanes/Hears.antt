@@ -11,38 +11,38 @@ use Rattle.pldm_exch.specs.Caller.{Open, is_quiet}
 use Rattle.pldm_exch.specs.Sides.{AskerRow, TakerRow}
 use Rattle.fwup_wire.specs.Answers.{answer_bytes, answer_read}
 use Rattle.fwup_wire.specs.Values.{CommandOf}
-use Rattle.exch_lane.specs.Lanes.{EntryOf, LaneOf, Sent, StepOf}
+use Rattle.exch_lane.specs.Lanes.{LaneEntryOf, LaneOf, Sent, LaneStepOf}
 use Rattle.exch_lane.specs.Steps.{MayRun, asker_does, lane_run, taker_does}
-use Rattle.fw_node.specs.Halves.{CoreOf, HalfHeard, HalfOf, half_hears_by, half_takes, kept_if, read_by, reply_read, settled, still_wished, takes_if, takes_read, unwished_for, with_caller}
-use Rattle.fw_node.specs.Nodes.{IsTold}
+use Rattle.fw_node.specs.Halves.{CoreOf, HalfOutcome, HalfOf, half_on_rows, half_takes, kept_if, read_by, reply_read, half_after_settle, still_wished, takes_if, takes_read, unwished_for, with_caller}
+use Rattle.fw_node.specs.Nodes.{TakenAnswerRoundTrips}
 use Rattle.fw_steps.specs.Lanes.{Times, turned_times, abandon_steps, lane_of, learn_steps, reply_in, settle_steps, take_steps, unless_wished}
-use Rattle.fw_steps.specs.Links.{posted}
+use Rattle.fw_steps.specs.Links.{packets_with_messages}
 
 -- a half after what it heard, and what it sends
-abbrev pub half_in : {C : Type 0} → HalfHeard C → HalfOf C
-half_in (HalfHeard.Went h sent) = h
-half_in (HalfHeard.Took h sent c answer) = h
-half_in (HalfHeard.Asks h m head body) = h
-half_in (HalfHeard.Strayed h m) = h
+abbrev pub half_in : {C : Type 0} → HalfOutcome C → HalfOf C
+half_in (HalfOutcome.Went h sent) = h
+half_in (HalfOutcome.Took h sent c answer) = h
+half_in (HalfOutcome.Asks h m head body) = h
+half_in (HalfOutcome.Strayed h m) = h
 
-abbrev pub sent_in : {C : Type 0} → HalfHeard C → List MessageOf
-sent_in (HalfHeard.Went h sent) = sent
-sent_in (HalfHeard.Took h sent c answer) = sent
+abbrev pub sent_in : {C : Type 0} → HalfOutcome C → List MessageOf
+sent_in (HalfOutcome.Went h sent) = sent
+sent_in (HalfOutcome.Took h sent c answer) = sent
 sent_in heard = []
 
 -- it is no request of another PLDM type, and no stray
-abbrev pub IsPassed : {C : Type 0} → HalfHeard C → Type 0
-IsPassed (HalfHeard.Went h sent) = Prim.Unit {0}
-IsPassed (HalfHeard.Took h sent c answer) = Prim.Unit {0}
+abbrev pub IsPassed : {C : Type 0} → HalfOutcome C → Type 0
+IsPassed (HalfOutcome.Went h sent) = Prim.Unit {0}
+IsPassed (HalfOutcome.Took h sent c answer) = Prim.Unit {0}
 IsPassed heard = ⊥
 
 -- what isn't wished is given up
-abandoned_run : {A B : Type 0} (wished : Bool) (now : Times) (a : HalfOf A) (b : HalfOf B) (ps : List Sent) (es : List EntryOf)
+abandoned_run : {A B : Type 0} (wished : Bool) (now : Times) (a : HalfOf A) (b : HalfOf B) (ps : List Sent) (es : List LaneEntryOf)
     → lane_run (lane_of now a b ps es) (unless_wished wished []) ≡ lane_of now (with_caller a (kept_if wished a.asker.caller)) b ps es
 abandoned_run true now a b ps es = refl
 abandoned_run false now a b ps es = refl
 
-abandons_run : {A B : Type 0} (wish : Option CommandOf) (asked : Option Open) (now : Times) (a : HalfOf A) (b : HalfOf B) (ps : List Sent) (es : List EntryOf)
+abandons_run : {A B : Type 0} (wish : Option CommandOf) (asked : Option Open) (now : Times) (a : HalfOf A) (b : HalfOf B) (ps : List Sent) (es : List LaneEntryOf)
     → lane_run (lane_of now a b ps es) (abandon_steps wish asked []) ≡ lane_of now (with_caller a (unwished_for wish a.asker.caller asked)) b ps es
 abandons_run wish None now a b ps es = refl
 abandons_run wish (Some o) now a b ps es = abandoned_run (still_wished wish o) now a b ps es
@@ -56,11 +56,11 @@ abandons_may wish None w is = tt
 abandons_may wish (Some o) w is = abandoned_may (still_wished wish o) w (rw is refl)
 
 -- where a call changes a half's core, its lane gives up what isn't wished
-pub settles_in_lane : {A B : Type 0} (core : CoreOf A) (x : A) (now : Times) (a : HalfOf A) (b : HalfOf B) (ps : List Sent) (es : List EntryOf)
-    → lane_run (lane_of now a b ps es) (settle_steps core a.asker.caller.asked x) ≡ lane_of now (settled core (record a { core = x })) b ps es
+pub settles_in_lane : {A B : Type 0} (core : CoreOf A) (x : A) (now : Times) (a : HalfOf A) (b : HalfOf B) (ps : List Sent) (es : List LaneEntryOf)
+    → lane_run (lane_of now a b ps es) (settle_steps core a.asker.caller.asked x) ≡ lane_of now (half_after_settle core (record a { core = x })) b ps es
 settles_in_lane core x now a b ps es = abandons_run (core.wish x) a.asker.caller.asked now (record a { core = x }) b ps es
 
-pub may_settle : {A B : Type 0} (core : CoreOf A) (x : A) (now : Times) (a : HalfOf A) (b : HalfOf B) (ps : List Sent) (es : List EntryOf)
+pub may_settle : {A B : Type 0} (core : CoreOf A) (x : A) (now : Times) (a : HalfOf A) (b : HalfOf B) (ps : List Sent) (es : List LaneEntryOf)
     → MayRun (lane_of now a b ps es) (settle_steps core a.asker.caller.asked x)
 may_settle core x now a b ps es = abandons_may (core.wish x) a.asker.caller.asked (lane_of now a b ps es) refl
 
@@ -71,20 +71,20 @@ fits_each U128 n fits = omega (arith, fits)
 
 -- A request at a half: in the lane in which it answers, it is taken with the half's reply; in the lane in which it asks, what
 -- isn't wished any more is given up.
-pub record TakesIn {A B : Type 0} (now : Times) (a : HalfOf A) (b : HalfOf B) (row : TakerRow) (reply : List ℕ) (settles : List StepOf) (heard : HalfHeard A) : Type 0 where
+pub record TakesIn {A B : Type 0} (now : Times) (a : HalfOf A) (b : HalfOf B) (row : TakerRow) (reply : List ℕ) (settles : List LaneStepOf) (heard : HalfOutcome A) : Type 0 where
   pub passed : IsPassed heard
   pub unit : (half_in heard).unit ≡ a.unit
   pub own : (half_in heard).own ≡ a.own
   pub peer : (half_in heard).peer ≡ a.peer
   pub few : length reply ≤ reply_limit a.unit
-  pub more : List EntryOf
-  pub answers : (ps : List Sent) (es : List EntryOf) → taker_does (lane_of (turned_times now) b a ps es) reply row ≡ lane_of (turned_times now) b (half_in heard) (posted b.unit now.now ps (sent_in heard)) (es ++ more)
-  pub asks : (ps : List Sent) (es : List EntryOf) → lane_run (lane_of now a b ps es) settles ≡ lane_of now (half_in heard) b ps es
-  pub may : (ps : List Sent) (es : List EntryOf) → MayRun (lane_of now a b ps es) settles
+  pub more : List LaneEntryOf
+  pub answers : (ps : List Sent) (es : List LaneEntryOf) → taker_does (lane_of (turned_times now) b a ps es) reply row ≡ lane_of (turned_times now) b (half_in heard) (packets_with_messages b.unit now.now ps (sent_in heard)) (es ++ more)
+  pub asks : (ps : List Sent) (es : List LaneEntryOf) → lane_run (lane_of now a b ps es) settles ≡ lane_of now (half_in heard) b ps es
+  pub may : (ps : List Sent) (es : List LaneEntryOf) → MayRun (lane_of now a b ps es) settles
 
 takes_read_in : {A B : Type 0} (core : CoreOf A) (quiet works : Bool) (now : Times) (a : HalfOf A) (b : HalfOf B)
     (requests : List (Option Held)) (m : MessageOf) (head : PldmHead) (body : List ℕ) (c : Result CommandOf ℕ)
-    → IsTold a.unit (takes_read core quiet works a requests m head c)
+    → TakenAnswerRoundTrips a.unit (takes_read core quiet works a requests m head c)
     → TakesIn now a b (TakerRow.TakesUp requests m head body) (reply_read core quiet works a.core c).reply
     (settle_steps core a.asker.caller.asked (reply_read core quiet works a.core c).core) (takes_read core quiet works a requests m head c)
 takes_read_in core quiet works now a b requests m head body (Ok c) told = record {
@@ -93,7 +93,7 @@ takes_read_in core quiet works now a b requests m head body (Ok c) told = record
   own = refl;
   peer = refl;
   few = told.fits;
-  more = EntryOf.Taken head.command body (answer_bytes (core.take a.core c quiet works).answer) ∷ [];
+  more = LaneEntryOf.Taken head.command body (answer_bytes (core.take a.core c quiet works).answer) ∷ [];
   answers = λ ps es. refl;
   asks = λ ps es. settles_in_lane core (core.take a.core c quiet works).core now a b ps es;
   may = λ ps es. may_settle core (core.take a.core c quiet works).core now a b ps es;
@@ -104,7 +104,7 @@ takes_read_in core quiet works now a b requests m head body (Err code) told = re
   own = refl;
   peer = refl;
   few = fits_each a.unit 1 (omega arith);
-  more = EntryOf.Taken head.command body (code ∷ []) ∷ [];
+  more = LaneEntryOf.Taken head.command body (code ∷ []) ∷ [];
   answers = λ ps es. refl;
   asks = λ ps es. settles_in_lane core a.core now a b ps es;
   may = λ ps es. may_settle core a.core now a b ps es;
@@ -112,7 +112,7 @@ takes_read_in core quiet works now a b requests m head body (Err code) told = re
 
 takes_if_in : {A B : Type 0} (five : Bool) (core : CoreOf A) (works : Bool) (now : Times) (a : HalfOf A) (b : HalfOf B)
     (requests : List (Option Held)) (m : MessageOf) (head : PldmHead) (body : List ℕ)
-    → five ≡ true → IsTold a.unit (takes_if five core works a requests m head body)
+    → five ≡ true → TakenAnswerRoundTrips a.unit (takes_if five core works a requests m head body)
     → TakesIn now a b (TakerRow.TakesUp requests m head body) (reply_read core (is_quiet a.asker.caller) works a.core (read_by core head.command body)).reply
     (settle_steps core a.asker.caller.asked (reply_read core (is_quiet a.asker.caller) works a.core (read_by core head.command body)).core)
     (takes_if five core works a requests m head body)
@@ -128,7 +128,7 @@ IsServed (TakerRow.TakesUp requests m head body) = (head.pldm_type == 5) ≡ tru
 IsServed (TakerRow.Strays requests m) = ⊥
 
 pub takes_in : {A B : Type 0} (core : CoreOf A) (works : Bool) (now : Times) (a : HalfOf A) (b : HalfOf B) (row : TakerRow)
-    → IsServed row → IsTold a.unit (half_takes core works a row)
+    → IsServed row → TakenAnswerRoundTrips a.unit (half_takes core works a row)
     → TakesIn now a b row (reply_in core works a row) (take_steps core works a row) (half_takes core works a row)
 takes_in core works now a b (TakerRow.Silent requests) served told = record {
   passed = tt;
@@ -158,19 +158,19 @@ takes_in core works now a b (TakerRow.Strays requests m) served told = absurd se
 
 -- A reply at a half: in the lane in which it asks, it is learnt, and what isn't wished any more is given up; in the lane in
 -- which it answers, nothing happens.
-pub record LearnsIn {A B : Type 0} (now : Times) (a : HalfOf A) (b : HalfOf B) (row : AskerRow) (settles : List StepOf) (heard : HalfHeard A) : Type 0 where
+pub record LearnsIn {A B : Type 0} (now : Times) (a : HalfOf A) (b : HalfOf B) (row : AskerRow) (settles : List LaneStepOf) (heard : HalfOutcome A) : Type 0 where
   pub passed : IsPassed heard
   pub unit : (half_in heard).unit ≡ a.unit
   pub own : (half_in heard).own ≡ a.own
   pub peer : (half_in heard).peer ≡ a.peer
   pub none : sent_in heard ≡ []
-  pub more : List EntryOf
-  pub asks : (ps : List Sent) (es : List EntryOf) → lane_run (asker_does (lane_of now a b ps es) row) settles ≡ lane_of now (half_in heard) b ps (es ++ more)
-  pub may : (ps : List Sent) (es : List EntryOf) → MayRun (asker_does (lane_of now a b ps es) row) settles
-  pub answers : (ps : List Sent) (es : List EntryOf) → lane_of (turned_times now) b a ps es ≡ lane_of (turned_times now) b (half_in heard) ps es
+  pub more : List LaneEntryOf
+  pub asks : (ps : List Sent) (es : List LaneEntryOf) → lane_run (asker_does (lane_of now a b ps es) row) settles ≡ lane_of now (half_in heard) b ps (es ++ more)
+  pub may : (ps : List Sent) (es : List LaneEntryOf) → MayRun (asker_does (lane_of now a b ps es) row) settles
+  pub answers : (ps : List Sent) (es : List LaneEntryOf) → lane_of (turned_times now) b a ps es ≡ lane_of (turned_times now) b (half_in heard) ps es
 
 pub learns_in : {A B : Type 0} (core : CoreOf A) (works : Bool) (now : Times) (a : HalfOf A) (b : HalfOf B) (row : AskerRow)
-    → LearnsIn now a b row (learn_steps core works a row) (half_hears_by core works a row (TakerRow.Silent a.taker.requests))
+    → LearnsIn now a b row (learn_steps core works a row) (half_on_rows core works a row (TakerRow.Silent a.taker.requests))
 learns_in core works now a b (AskerRow.Ignores replies) = record {
   passed = tt;
   unit = refl;
@@ -188,10 +188,10 @@ learns_in core works now a b (AskerRow.Learns replies caller heard) = record {
   own = refl;
   peer = refl;
   none = refl;
-  more = EntryOf.Learnt heard.reply ∷ [];
+  more = LaneEntryOf.Learnt heard.reply ∷ [];
   asks = λ ps es. settles_in_lane core (core.learn a.core (answer_read heard.command heard.reply) works) now
-      (record a { asker = record a.asker { caller = caller; replies = replies } }) b ps (es ++ EntryOf.Learnt heard.reply ∷ []);
+      (record a { asker = record a.asker { caller = caller; replies = replies } }) b ps (es ++ LaneEntryOf.Learnt heard.reply ∷ []);
   may = λ ps es. may_settle core (core.learn a.core (answer_read heard.command heard.reply) works) now
-      (record a { asker = record a.asker { caller = caller; replies = replies } }) b ps (es ++ EntryOf.Learnt heard.reply ∷ []);
+      (record a { asker = record a.asker { caller = caller; replies = replies } }) b ps (es ++ LaneEntryOf.Learnt heard.reply ∷ []);
   answers = λ ps es. refl;
 }

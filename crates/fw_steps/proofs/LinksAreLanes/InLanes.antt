@@ -1,28 +1,28 @@
 -- A step of a link is steps of its two lanes.
 use Rattle.mctp_wire.specs.declared.unit.Unit.{«Unit»}
 use Rattle.mctp_wire.specs.declared.unit.Unit.TheVariants.{U64}
-use Rattle.fw_node.specs.Nodes.{IsTold}
+use Rattle.fw_node.specs.Nodes.{TakenAnswerRoundTrips}
 use Rattle.fw_steps.proofs.LinksAreLanes.Hears.{fits_each}
 use Rattle.fw_steps.proofs.LinksAreLanes.Units.{activated_keeps, cancelled_keeps, hears_keeps, session_keeps, ticks_keep}
 use Rattle.std.proofs.Common.{◌≡◌, ◌∙◌, sym, subst, ◌≤◌, ◌+◌, ◌-◌, ◌^◌, ◌&&◌, ℕ, nat_lt, Bool, true, false, if◌then◌else◌, List, [], ◌∷◌, Option, Some, None, IfSome, IsSomeAnd, is_some, refl}
 use Rattle.std.proofs.lemmas.Bool.{le-ltb, ltb-true}
 use Rattle.fw_package.specs.Package.{PackageText}
-use Rattle.fd_core.specs.Steps.{Judged, device_verdict}
+use Rattle.fd_core.specs.Steps.{VerdictEffect, device_verdict}
 use Rattle.ua_core.specs.Calls.{agent_activated, agent_started}
 use Rattle.ua_core.specs.Session.{SessionOf, TimedOf}
 use Rattle.exch_lane.specs.Clocks.{may_beat}
-use Rattle.exch_lane.specs.Lanes.{Sent, StepOf, numbered}
+use Rattle.exch_lane.specs.Lanes.{Sent, LaneStepOf, item_numbered}
 use Rattle.exch_lane.specs.Laws.{LaneIsACell}
 use Rattle.exch_lane.specs.declared.step.End.TheVariants as ends
 use Rattle.fw_message.specs.Pairs.{may_start}
 use Rattle.fw_message.specs.declared.side.Side.{Side}
 use Rattle.fw_message.specs.declared.side.Side.TheVariants as sides
-use Rattle.fw_node.specs.Agents.{activates, cancels, starts}
+use Rattle.fw_node.specs.Agents.{half_after_activate, half_after_cancel, half_after_start}
 use Rattle.fw_node.specs.Cores.{TimedDevice, device_core, session_core}
-use Rattle.fw_node.specs.Halves.{HalfHeard, HalfOf, half_hears}
-use Rattle.fw_steps.specs.Lanes.{LinkExplained, Times, tick_steps, times_of, turned_times, activate_steps, down_comes, down_steps, judge_steps, up_comes, up_steps}
-use Rattle.fw_steps.specs.LinksAreLanes.{CanBeSaid, Speaks, IsToldOn, LinksAreLanes, MayHappen, StepsInLanes}
-use Rattle.fw_steps.specs.Links.{LinkOf, LinkStep, LinkStepped, activates_on, agent_heard, delivers_on, device_heard, hears_on, judges_on, link_after, link_ticks, posted, time_after, unnoted}
+use Rattle.fw_node.specs.Halves.{HalfOutcome, HalfOf, half_on_packet}
+use Rattle.fw_steps.specs.Lanes.{LinkExplained, Times, tick_steps, times_of, turned_times, activate_steps, down_packet_steps, down_steps, judge_steps, up_packet_steps, up_steps}
+use Rattle.fw_steps.specs.LinksAreLanes.{LinkStepRoundTrips, PendingRoundTrips, AnswerRoundTripsOn, LinksAreLanes, MayHappen, StepsInLanes}
+use Rattle.fw_steps.specs.Links.{LinkOf, LinkStep, LinkStepped, activates_on, link_step_of_agent, delivers_on, link_step_of_device, link_step_of_packet, link_step_of_verdict, link_after, link_ticks, packets_with_messages, time_after, link_step_without_entries}
 use Rattle.fw_steps.proofs.LinksAreLanes.Comings.{hears_in_lane}
 use Rattle.fw_steps.proofs.LinksAreLanes.Hears.{IsPassed, half_in, sent_in}
 use Rattle.fw_steps.proofs.LinksAreLanes.Moves.{call_ways, restart_ways, tick_ways}
@@ -41,12 +41,12 @@ ways_of now l e = record {
   packets = e.packets;
 }
 
-ways_turned : {A B : Type 0} (now later : Times) (a x : HalfOf A) (b y : HalfOf B) (ps qs : List Sent) (ss ts : List StepOf) (h : BothWays now a b ps)
+ways_turned : {A B : Type 0} (now later : Times) (a x : HalfOf A) (b y : HalfOf B) (ps qs : List Sent) (ss ts : List LaneStepOf) (h : BothWays now a b ps)
     → WaysGo (turned_times now) (turned_times later) b y a x ps qs ts ss (turned now a b ps h) → WaysGo now later a x b y ps qs ss ts h
 ways_turned now later a x b y ps qs ss ts h w = record { same = record { unit = w.same.other_unit; own = w.same.other; peer = w.same.back; other_unit = w.same.unit; other = w.same.own; back = w.same.peer }; explained = turned (turned_times later) y x qs w.explained; asks = w.answers; answers = w.asks }
 
 -- A link takes a step, and both ways go on.
-pub record LinkGoes (now later : ℕ) (l : LinkOf) (e : LinkExplained now l) (o : Option LinkStepped) (ds us : List StepOf) : Type 0 where
+pub record LinkGoes (now later : ℕ) (l : LinkOf) (e : LinkExplained now l) (o : Option LinkStepped) (ds us : List LaneStepOf) : Type 0 where
   pub stepped : LinkStepped
   pub after : o ≡ Some stepped
   pub session_unit : stepped.after.agent.core.session.unit ≡ l.agent.core.session.unit
@@ -69,53 +69,53 @@ in_lanes now packages l s e g =
     }
 
 -- what was heard, on the link
-agent_goes : (now : ℕ) (packages : List PackageText) (l : LinkOf) (e : LinkExplained now l) (heard : HalfHeard TimedOf) (ds us : List StepOf) → IsPassed heard
-    → WaysGo (times_of now l) (times_of now l) l.agent (half_in heard) l.device l.device l.packets (posted l.agent.unit now l.packets (sent_in heard)) ds us (ways_of now l e)
+agent_goes : (now : ℕ) (packages : List PackageText) (l : LinkOf) (e : LinkExplained now l) (heard : HalfOutcome TimedOf) (ds us : List LaneStepOf) → IsPassed heard
+    → WaysGo (times_of now l) (times_of now l) l.agent (half_in heard) l.device l.device l.packets (packets_with_messages l.agent.unit now l.packets (sent_in heard)) ds us (ways_of now l e)
     → (half_in heard).core.session.unit ≡ l.agent.core.session.unit
-    → LinkGoes now now l e (agent_heard now packages l heard) ds us
-agent_goes now packages l e (HalfHeard.Went half sent) ds us passed ways keeps = record { stepped = _; after = refl; session_unit = keeps; ways = ways }
-agent_goes now packages l e (HalfHeard.Took half sent command answer) ds us passed ways keeps = record { stepped = _; after = refl; session_unit = keeps; ways = ways }
-agent_goes now packages l e (HalfHeard.Asks half m head body) ds us passed ways keeps = absurd passed
-agent_goes now packages l e (HalfHeard.Strayed half m) ds us passed ways keeps = absurd passed
+    → LinkGoes now now l e (link_step_of_agent now packages l heard) ds us
+agent_goes now packages l e (HalfOutcome.Went half sent) ds us passed ways keeps = record { stepped = _; after = refl; session_unit = keeps; ways = ways }
+agent_goes now packages l e (HalfOutcome.Took half sent command answer) ds us passed ways keeps = record { stepped = _; after = refl; session_unit = keeps; ways = ways }
+agent_goes now packages l e (HalfOutcome.Asks half m head body) ds us passed ways keeps = absurd passed
+agent_goes now packages l e (HalfOutcome.Strayed half m) ds us passed ways keeps = absurd passed
 
-device_goes : (now : ℕ) (works : Bool) (l : LinkOf) (e : LinkExplained now l) (heard : HalfHeard TimedDevice) (ds us : List StepOf) → IsPassed heard
-    → WaysGo (times_of now l) (times_of now l) l.agent l.agent l.device (half_in heard) l.packets (posted l.device.unit now l.packets (sent_in heard)) ds us (ways_of now l e)
-    → LinkGoes now now l e (device_heard now works l heard) ds us
-device_goes now works l e (HalfHeard.Went half sent) ds us passed ways = record { stepped = _; after = refl; session_unit = refl; ways = ways }
-device_goes now works l e (HalfHeard.Took half sent command answer) ds us passed ways = record { stepped = _; after = refl; session_unit = refl; ways = ways }
-device_goes now works l e (HalfHeard.Asks half m head body) ds us passed ways = absurd passed
-device_goes now works l e (HalfHeard.Strayed half m) ds us passed ways = absurd passed
+device_goes : (now : ℕ) (works : Bool) (l : LinkOf) (e : LinkExplained now l) (heard : HalfOutcome TimedDevice) (ds us : List LaneStepOf) → IsPassed heard
+    → WaysGo (times_of now l) (times_of now l) l.agent l.agent l.device (half_in heard) l.packets (packets_with_messages l.device.unit now l.packets (sent_in heard)) ds us (ways_of now l e)
+    → LinkGoes now now l e (link_step_of_device now works l heard) ds us
+device_goes now works l e (HalfOutcome.Went half sent) ds us passed ways = record { stepped = _; after = refl; session_unit = refl; ways = ways }
+device_goes now works l e (HalfOutcome.Took half sent command answer) ds us passed ways = record { stepped = _; after = refl; session_unit = refl; ways = ways }
+device_goes now works l e (HalfOutcome.Asks half m head body) ds us passed ways = absurd passed
+device_goes now works l e (HalfOutcome.Strayed half m) ds us passed ways = absurd passed
 
 -- what is told of one unit is told of another that is the same; and what fits the smaller fits each
-pub told_fits : {C : Type 0} (u v : «Unit») (heard : HalfHeard C) → u ≡ v → IsTold u heard → IsTold v heard
-told_fits u v heard same told = subst (λ n. IsTold n heard) same told
+pub told_fits : {C : Type 0} (u v : «Unit») (heard : HalfOutcome C) → u ≡ v → TakenAnswerRoundTrips u heard → TakenAnswerRoundTrips v heard
+told_fits u v heard same told = subst (λ n. TakenAnswerRoundTrips n heard) same told
 
-pub told_any : {C : Type 0} (u : «Unit») (heard : HalfHeard C) → IsTold U64 heard → IsTold u heard
-told_any u (HalfHeard.Went half sent) told = tt
-told_any u (HalfHeard.Took half sent command answer) told = record { reads = told.reads; fits = fits_each u _ told.fits }
-told_any u (HalfHeard.Asks half m head body) told = tt
-told_any u (HalfHeard.Strayed half m) told = tt
+pub told_any : {C : Type 0} (u : «Unit») (heard : HalfOutcome C) → TakenAnswerRoundTrips U64 heard → TakenAnswerRoundTrips u heard
+told_any u (HalfOutcome.Went half sent) told = tt
+told_any u (HalfOutcome.Took half sent command answer) told = record { reads = told.reads; fits = fits_each u _ told.fits }
+told_any u (HalfOutcome.Asks half m head body) told = tt
+told_any u (HalfOutcome.Strayed half m) told = tt
 
 -- a packet comes
 hears_go : (law : LaneIsACell) (now : ℕ) (packages : List PackageText) (l : LinkOf) (e : LinkExplained now l) (to : Side) (works : Bool) (number : ℕ) (p : Sent)
-    → numbered l.packets number ≡ Some p → now ≤ p.date + 8 → IsToldOn packages l to works p.bytes
-    → LinkGoes now now l e (hears_on now packages l to works p.bytes) (down_comes packages l to works number (Some p)) (up_comes packages l to works number (Some p))
+    → item_numbered l.packets number ≡ Some p → now ≤ p.date + 8 → AnswerRoundTripsOn packages l to works p.bytes
+    → LinkGoes now now l e (link_step_of_packet now packages l to works p.bytes) (down_packet_steps packages l to works number (Some p)) (up_packet_steps packages l to works number (Some p))
 hears_go law now packages l e sides.Agent works number p is soon told =
     let k = hears_in_lane law (session_core packages) true (times_of now l) l.agent l.device l.packets (ways_of now l e) number p is soon (told_fits l.agent.core.session.unit l.agent.unit _ e.session_unit told) in
-    agent_goes now packages l e (half_hears (session_core packages) true l.agent p.bytes)
-    (down_comes packages l sides.Agent works number (Some p)) (up_comes packages l sides.Agent works number (Some p)) k.passed k.ways
+    agent_goes now packages l e (half_on_packet (session_core packages) true l.agent p.bytes)
+    (down_packet_steps packages l sides.Agent works number (Some p)) (up_packet_steps packages l sides.Agent works number (Some p)) k.passed k.ways
     (hears_keeps (session_core packages) (session_keeps packages) true l.agent p.bytes)
 hears_go law now packages l e sides.Device works number p is soon told =
-    let k = hears_in_lane law device_core works (turned_times (times_of now l)) l.device l.agent l.packets (turned (times_of now l) l.agent l.device l.packets (ways_of now l e)) number p is soon (told_any l.device.unit (half_hears device_core works l.device p.bytes) told) in
-    let heard = half_hears device_core works l.device p.bytes in
-    let ds = down_comes packages l sides.Device works number (Some p) in
-    let us = up_comes packages l sides.Device works number (Some p) in
+    let k = hears_in_lane law device_core works (turned_times (times_of now l)) l.device l.agent l.packets (turned (times_of now l) l.agent l.device l.packets (ways_of now l e)) number p is soon (told_any l.device.unit (half_on_packet device_core works l.device p.bytes) told) in
+    let heard = half_on_packet device_core works l.device p.bytes in
+    let ds = down_packet_steps packages l sides.Device works number (Some p) in
+    let us = up_packet_steps packages l sides.Device works number (Some p) in
     device_goes now works l e heard ds us k.passed
-    (ways_turned (times_of now l) (times_of now l) l.agent l.agent l.device (half_in heard) l.packets (posted l.device.unit now l.packets (sent_in heard)) ds us (ways_of now l e) k.ways)
+    (ways_turned (times_of now l) (times_of now l) l.agent l.agent l.device (half_in heard) l.packets (packets_with_messages l.device.unit now l.packets (sent_in heard)) ds us (ways_of now l e) k.ways)
 
 comes_go : (law : LaneIsACell) (now : ℕ) (packages : List PackageText) (l : LinkOf) (e : LinkExplained now l) (to : Side) (works : Bool) (number : ℕ) (o : Option Sent)
-    → numbered l.packets number ≡ o → IsSomeAnd o (λ p. now ≤ p.date + 8) → IfSome o (λ p. IsToldOn packages l to works p.bytes)
-    → LinkGoes now now l e (delivers_on now packages l to works o) (down_comes packages l to works number o) (up_comes packages l to works number o)
+    → item_numbered l.packets number ≡ o → IsSomeAnd o (λ p. now ≤ p.date + 8) → IfSome o (λ p. AnswerRoundTripsOn packages l to works p.bytes)
+    → LinkGoes now now l e (delivers_on now packages l to works o) (down_packet_steps packages l to works number o) (up_packet_steps packages l to works number o)
 comes_go law now packages l e to works number None is soon told = absurd soon
 comes_go law now packages l e to works number (Some p) is soon told =
     rw (le-ltb (p.date + 8) now soon) (hears_go law now packages l e to works number p is soon told)
@@ -130,15 +130,15 @@ activates_go : (law : LaneIsACell) (now : ℕ) (packages : List PackageText) (l 
     → LinkGoes now now l e (activates_on packages l o) (activate_steps packages l o) []
 activates_go law now packages l e None may keeps = absurd (cc)
 activates_go law now packages l e (Some s) may keeps = record {
-  stepped = unnoted (record l { agent = activates packages l.agent s });
+  stepped = link_step_without_entries (record l { agent = half_after_activate packages l.agent s });
   after = refl;
   session_unit = keeps;
   ways = call_ways law (session_core packages) (record { session = s; idle = 0 }) (times_of now l) l.agent l.device l.packets (ways_of now l e);
 }
 
 -- a verdict
-judges_go : (law : LaneIsACell) (now : ℕ) (l : LinkOf) (e : LinkExplained now l) (o : Option Judged) → is_some (judges_on l o) ≡ true
-    → LinkGoes now now l e (judges_on l o) [] (judge_steps l o)
+judges_go : (law : LaneIsACell) (now : ℕ) (l : LinkOf) (e : LinkExplained now l) (o : Option VerdictEffect) → is_some (link_step_of_verdict l o) ≡ true
+    → LinkGoes now now l e (link_step_of_verdict l o) [] (judge_steps l o)
 judges_go law now l e None may = absurd (cc)
 judges_go law now l e (Some j) may = record {
   stepped = _;
@@ -154,36 +154,36 @@ allows true x e = refl
 allows false x e = absurd (cc)
 
 tick_goes : (law : LaneIsACell) (now : ℕ) (packages : List PackageText) (l : LinkOf) (agent device : Bool) (e : LinkExplained now l)
-    → is_some (link_after now packages l (LinkStep.Tick agent device)) ≡ true → (agent ≡ true → Speaks (session_core packages) l.agent) → (device ≡ true → Speaks device_core l.device)
+    → is_some (link_after now packages l (LinkStep.Tick agent device)) ≡ true → (agent ≡ true → PendingRoundTrips (session_core packages) l.agent) → (device ≡ true → PendingRoundTrips device_core l.device)
     → LinkGoes now (now + 1) l e (link_after now packages l (LinkStep.Tick agent device)) (tick_steps (session_core packages) agent device l.agent) (tick_steps device_core device agent l.device)
 tick_goes law now packages l agent device e may agent_said device_said =
     let beats = may_beat agent l.agent_since_miss && may_beat device l.device_since_miss in
-    let all = both_hold (nat_lt now (2 ^ 32 - 1)) beats (allows (nat_lt now (2 ^ 32 - 1) && beats) (unnoted (link_ticks now packages l agent device)) may) in
+    let all = both_hold (nat_lt now (2 ^ 32 - 1)) beats (allows (nat_lt now (2 ^ 32 - 1) && beats) (link_step_without_entries (link_ticks now packages l agent device)) may) in
     let each = both_hold (may_beat agent l.agent_since_miss) (may_beat device l.device_since_miss) all.1 in
     record {
-      stepped = unnoted (link_ticks now packages l agent device);
-      after = allowed (nat_lt now (2 ^ 32 - 1) && beats) (unnoted (link_ticks now packages l agent device)) may;
+      stepped = link_step_without_entries (link_ticks now packages l agent device);
+      after = allowed (nat_lt now (2 ^ 32 - 1) && beats) (link_step_without_entries (link_ticks now packages l agent device)) may;
       session_unit = ticks_keep (session_core packages) (session_keeps packages) agent l.agent;
       ways = tick_ways law (session_core packages) device_core agent device (times_of now l) l.agent l.device l.packets (ways_of now l e) (ltb-true now (2 ^ 32 - 1) all.0) each.0 each.1 agent_said device_said;
     }
 
 -- each step
-link_goes : (law : LaneIsACell) (now : ℕ) (packages : List PackageText) (l : LinkOf) (s : LinkStep) (e : LinkExplained now l) → MayHappen now packages l s → CanBeSaid packages l s
+link_goes : (law : LaneIsACell) (now : ℕ) (packages : List PackageText) (l : LinkOf) (s : LinkStep) (e : LinkExplained now l) → MayHappen now packages l s → LinkStepRoundTrips packages l s
     → LinkGoes now (time_after now s) l e (link_after now packages l s) (down_steps packages l s) (up_steps packages l s)
 link_goes law now packages l (LinkStep.Deliver number to works) e may said =
-    comes_go law now packages l e to works number (numbered l.packets number) refl may said
+    comes_go law now packages l e to works number (item_numbered l.packets number) refl may said
 link_goes law now packages l (LinkStep.Tick agent device) e may said = tick_goes law now packages l agent device e may said.0 said.1
 link_goes law now packages l (LinkStep.Start number) e may said = record {
-  stepped = unnoted (record l { agent = starts packages l.agent number });
-  after = allowed (may_start packages l.agent.core.session number) (unnoted (record l { agent = starts packages l.agent number })) may;
+  stepped = link_step_without_entries (record l { agent = half_after_start packages l.agent number });
+  after = allowed (may_start packages l.agent.core.session number) (link_step_without_entries (record l { agent = half_after_start packages l.agent number })) may;
   session_unit = refl;
   ways = call_ways law (session_core packages) (record { session = agent_started l.agent.core.session number; idle = 0 }) (times_of now l) l.agent l.device l.packets (ways_of now l e);
 }
 link_goes law now packages l LinkStep.Cancel e may said = record {
-  stepped = unnoted (record l { agent = cancels packages l.agent });
+  stepped = link_step_without_entries (record l { agent = half_after_cancel packages l.agent });
   after = refl;
   session_unit = cancelled_keeps l.agent.core.session;
-  ways = call_ways law (session_core packages) (cancels packages l.agent).core (times_of now l) l.agent l.device l.packets (ways_of now l e);
+  ways = call_ways law (session_core packages) (half_after_cancel packages l.agent).core (times_of now l) l.agent l.device l.packets (ways_of now l e);
 }
 link_goes law now packages l LinkStep.Activate e may said = activates_go law now packages l e (agent_activated l.agent.core.session) may (activated_keeps l.agent.core.session)
 link_goes law now packages l (LinkStep.Judge verdict works) e may said = judges_go law now l e (device_verdict l.device.core.device verdict works) may
@@ -197,7 +197,7 @@ link_goes law now packages l (LinkStep.Restart sides.Device) e may said = record
   stepped = _;
   after = refl;
   session_unit = refl;
-  ways = ways_turned (times_of now l) (times_of now l) l.agent l.agent l.device _ l.packets l.packets (StepOf.Restart ends.Taker ∷ []) (StepOf.Restart ends.Asker ∷ []) (ways_of now l e)
+  ways = ways_turned (times_of now l) (times_of now l) l.agent l.agent l.device _ l.packets l.packets (LaneStepOf.Restart ends.Taker ∷ []) (LaneStepOf.Restart ends.Asker ∷ []) (ways_of now l e)
       (restart_ways law device_core (turned_times (times_of now l)) l.device l.agent l.packets (turned (times_of now l) l.agent l.device l.packets (ways_of now l e)));
 }
 

@@ -11,8 +11,8 @@ use Rattle.mctp_wire.specs.declared.layout.Head.{Head}
 use Rattle.mctp_reasm.specs.Inboxes.{for_end, is_for}
 use Rattle.pldm_exch.specs.Sides.{AskerRow, TakerRow, asker_row, taker_row}
 use Rattle.exch_lane.specs.Laws.{in_lane, read_between}
-use Rattle.fw_node.specs.Halves.{CoreOf, HalfHeard, HalfOf, half_hears, half_hears_by}
-use Rattle.exch_lane.specs.Lanes.{Sent, numbered}
+use Rattle.fw_node.specs.Halves.{CoreOf, HalfOutcome, HalfOf, half_on_packet, half_on_rows}
+use Rattle.exch_lane.specs.Lanes.{Sent, item_numbered}
 use Rattle.fw_steps.specs.Lanes.{LinkExplained}
 use Rattle.fw_steps.specs.Links.{LinkOf}
 use Rattle.fw_steps.proofs.LinksAreLanes.Comings.{fact_of}
@@ -22,10 +22,10 @@ use Rattle.fw_steps.proofs.LinksAreLanes.Routes.{both_hold, silent_asker, silent
 -- neither end of the half does anything
 silent_half : {C : Type 0} (core : CoreOf C) (works : Bool) (h : HalfOf C) (bytes : List ℕ)
     → asker_row h.unit h.own h.peer h.asker bytes ≡ AskerRow.Ignores h.asker.replies → taker_row h.unit h.own h.peer h.taker bytes ≡ TakerRow.Silent h.taker.requests
-    → half_hears core works h bytes ≡ HalfHeard.Went h []
+    → half_on_packet core works h bytes ≡ HalfOutcome.Went h []
 silent_half core works h bytes asks answers =
-    ap (λ r. half_hears_by core works h r (taker_row h.unit h.own h.peer h.taker bytes)) asks
-    ∙ ap (half_hears_by core works h (AskerRow.Ignores h.asker.replies)) answers
+    ap (λ r. half_on_rows core works h r (taker_row h.unit h.own h.peer h.taker bytes)) asks
+    ∙ ap (half_on_rows core works h (AskerRow.Ignores h.asker.replies)) answers
 
 -- what is a packet at one transmission unit is one for who only asks who sent it
 if_short : {A : Type 0} (version empty long longer : Bool) (x y : A) → (long ≡ false → longer ≡ false)
@@ -60,7 +60,7 @@ missed_by own peer to (Err fault) far = refl
 
 -- A packet to another node changes nothing.
 pub others_packet : {C : Type 0} (core : CoreOf C) (works : Bool) (h : HalfOf C) (bytes : List ℕ)
-    → ((p : Head × List ℕ) → any_packet bytes ≡ Ok p → p.0.dest ≢ h.own) → half_hears core works h bytes ≡ HalfHeard.Went h []
+    → ((p : Head × List ℕ) → any_packet bytes ≡ Ok p → p.0.dest ≢ h.own) → half_on_packet core works h bytes ≡ HalfOutcome.Went h []
 others_packet core works h bytes far =
     let misses : (p : Head × List ℕ) → wire.packet_of h.unit bytes ≡ Ok p → p.0.dest ≢ h.own = λ p e. far p (reads_any h.unit bytes p e) in
     silent_half core works h bytes
@@ -69,7 +69,7 @@ others_packet core works h bytes far =
 
 -- A deaf half hears nothing.
 pub deaf_hears_nothing : {C : Type 0} (core : CoreOf C) (works : Bool) (h : HalfOf C) (bytes : List ℕ) → h.asker.deaf ≢ 0 → h.taker.deaf ≢ 0
-    → half_hears core works h bytes ≡ HalfHeard.Went h []
+    → half_on_packet core works h bytes ≡ HalfOutcome.Went h []
 deaf_hears_nothing core works h bytes asker taker =
     silent_half core works h bytes (rw (ne_eqb h.asker.deaf 0 asker) refl) (rw (ne_eqb h.taker.deaf 0 taker) refl)
 
@@ -105,7 +105,7 @@ between_either u v x y bytes (inl e) = goes_between u x y bytes e
 between_either u v x y bytes (inr e) = between_turned x y bytes (goes_between v y x bytes e)
 
 -- A packet of a link that can still come goes between its two nodes.
-pub link_packet_between : (now : ℕ) (l : LinkOf) (number : ℕ) (s : Sent) → LinkExplained now l → numbered l.packets number ≡ Some s → now ≤ s.date + 8
+pub link_packet_between : (now : ℕ) (l : LinkOf) (number : ℕ) (s : Sent) → LinkExplained now l → item_numbered l.packets number ≡ Some s → now ≤ s.date + 8
     → GoesBetween l.agent.own l.device.own s.bytes
 link_packet_between now l number s e is soon =
     between_either l.agent.unit l.device.unit l.agent.own l.device.own s.bytes (fact_of (IsOfEither l.agent.unit l.device.unit now l.agent.own l.device.own) l.packets number s e.packets is soon)

@@ -7,7 +7,7 @@ use Rattle.std.proofs.lemmas.Bool.Decides.{eqb_tells}
 use Rattle.arrayvec.specs.declared.array_vec.ArrayVec.{ArrayVec}
 use Rattle.exch_lane.specs.Clocks.{may_beat}
 use Rattle.fd_core.specs.States.{DeviceState, Phase}
-use Rattle.fd_core.specs.Steps.{Judged, device_verdict, judged_or, verdict_at}
+use Rattle.fd_core.specs.Steps.{VerdictEffect, device_verdict, judged_or, verdict_at}
 use Rattle.fd_core.specs.declared.states.Progress.TheVariants as progress
 use Rattle.fd_core.specs.declared.states.Verdict.{Verdict}
 use Rattle.fd_core.specs.declared.states.Verdict.TheVariants as verdicts
@@ -16,12 +16,12 @@ use Rattle.ua_core.specs.Calls.{agent_activated, is_free}
 use Rattle.ua_core.specs.Session.{SessionOf, TimedOf}
 use Rattle.fw_message.specs.Pairs.{may_start}
 use Rattle.fw_message.specs.declared.side.Side.TheVariants as sides
-use Rattle.fw_node.specs.Agents.{activates, cancels, free_for, free_in, half_for, ready_for, ready_in, starts}
+use Rattle.fw_node.specs.Agents.{half_after_activate, half_after_cancel, free_for, free_in, half_for, ready_for, ready_in, half_after_start}
 use Rattle.fw_node.specs.Cores.{device_core, session_core}
-use Rattle.fw_node.specs.Halves.{HalfOf, half_restarts, recast}
+use Rattle.fw_node.specs.Halves.{HalfOf, half_restarts, half_with_core}
 use Rattle.fw_steps.specs.Headline.{is_package, may_step, ready_fault, start_fault, verdict_fault, where_known}
-use Rattle.fw_steps.specs.Links.{LinkOf, LinkStep, LinkStepped, judges_on, link_after, link_ticks, unnoted}
-use Rattle.fw_steps.specs.Worlds.{SiteOf, WorldOf, activates_on, asks_log, calls, counts, judges, place_of, restarts, site_for, ticks}
+use Rattle.fw_steps.specs.Links.{LinkOf, LinkStep, LinkStepped, link_step_of_verdict, link_after, link_ticks, link_step_without_entries}
+use Rattle.fw_steps.specs.Worlds.{SiteOf, WorldOf, activates_on, world_after_log_request, world_after_call, counts, world_after_verdict, place_of, world_after_restart, site_for, world_after_tick}
 use Rattle.fw_steps.specs.declared.step.Step.{Step}
 use Rattle.fw_steps.specs.declared.step.Step.TheVariants as steps
 use Rattle.fw_steps.specs.declared.step.StepFault.{StepFault}
@@ -55,9 +55,9 @@ link_step works agent (steps.Restart node) eid = restart_as (node == agent) (nod
 link_step works agent (steps.Sel bytes) eid = None
 
 -- The link goes where its step leads, or stays.
-abbrev pub StepsTo : (now : ℕ) → List PackageText → LinkOf → Option LinkStep → Option LinkOf → Type 0
-StepsTo now packages l None after = after ≡ Some l
-StepsTo now packages l (Some s) after = IsSomeAnd (link_after now packages l s) (λ t. after ≡ Some t.after)
+abbrev pub LinkStepsTo : (now : ℕ) → List PackageText → LinkOf → Option LinkStep → Option LinkOf → Type 0
+LinkStepsTo now packages l None after = after ≡ Some l
+LinkStepsTo now packages l (Some s) after = IsSomeAnd (link_after now packages l s) (λ t. after ≡ Some t.after)
 
 -- the halves of a link
 pub link_half : (since : ℕ) (o : Option (HalfOf TimedOf)) (s : Option SiteOf) (l : LinkOf) → link_from since o s ≡ Some l → o ≡ Some l.agent
@@ -79,27 +79,27 @@ leads_to (Some t) g y l e k = e ∙ ap Some k
 -- a step of one link
 one_link : (now : ℕ) (packages : List PackageText) (l : LinkOf) (mine : Bool) (s : LinkStep) (g : LinkOf → LinkOf) (y x : Option LinkOf) → x ≡ Some l
     → y ≡ (if mine then option_map g x else x) → (mine ≡ true → IsSomeAnd (link_after now packages l s) (λ t. g l ≡ t.after))
-    → StepsTo now packages l (where_mine mine (Some s)) y
+    → LinkStepsTo now packages l (where_mine mine (Some s)) y
 one_link now packages l true s g y x is e k = leads_to (link_after now packages l s) g y l (e ∙ ap (option_map g) is) (k refl)
 one_link now packages l false s g y x is e k = e ∙ is
 
 -- the event log
-pub sel_at : (w : WorldOf) (bytes : List ℕ) (eid : ℕ) → link_at (asks_log w bytes) eid ≡ link_at w eid
+pub sel_at : (w : WorldOf) (bytes : List ℕ) (eid : ℕ) → link_at (world_after_log_request w bytes) eid ≡ link_at w eid
 sel_at w [] eid = refl
 sel_at w (command ∷ bytes) eid = refl
 
 -- a tick
 tick_goes : (now : ℕ) (packages : List PackageText) (l : LinkOf) (agent device may : Bool) (y : Option LinkOf) → may ≡ true → y ≡ Some (link_ticks now packages l agent device)
-    → IsSomeAnd (if may then Some (unnoted (link_ticks now packages l agent device)) else None) (λ t. y ≡ Some t.after)
+    → IsSomeAnd (if may then Some (link_step_without_entries (link_ticks now packages l agent device)) else None) (λ t. y ≡ Some t.after)
 tick_goes now packages l agent device may y e is = rw e is
 
 pub tick_projects : (missed : ArrayVec ℕ 17 (Unit {0})) (w : WorldOf) (eid : ℕ) (l : LinkOf) → AllByRecursion (IsHalfOf w.agent.deaf) w.agent.halves → AreApart w.agent.halves
     → may_step w (steps.Tick missed) ≡ None → link_at w eid ≡ Some l
-    → StepsTo w.now w.packages l (Some (LinkStep.Tick (counts missed.items w.agent.endpoint.eid) (counts missed.items eid))) (link_at (ticks missed.items w) eid)
+    → LinkStepsTo w.now w.packages l (Some (LinkStep.Tick (counts missed.items w.agent.endpoint.eid) (counts missed.items eid))) (link_at (world_after_tick missed.items w) eid)
 tick_projects missed w eid l halves apart may is =
     let agent = counts missed.items w.agent.endpoint.eid in
     let device = counts missed.items eid in
-    tick_goes w.now w.packages l agent device (nat_lt w.now (2 ^ 32 - 1) && (may_beat agent l.agent_since_miss && may_beat device l.device_since_miss)) (link_at (ticks missed.items w) eid)
+    tick_goes w.now w.packages l agent device (nat_lt w.now (2 ^ 32 - 1) && (may_beat agent l.agent_since_miss && may_beat device l.device_since_miss)) (link_at (world_after_tick missed.items w) eid)
     (tick_may missed w eid l may is) (tick_at agent missed.items w eid halves apart ∙ ap (option_map (λ x. link_ticks w.now w.packages x agent device)) is)
 
 -- the operator's calls
@@ -122,25 +122,25 @@ free_there w device eid l e is free =
     cc
 
 start_goes : (now : ℕ) (packages : List PackageText) (l : LinkOf) (number : ℕ) → may_start packages l.agent.core.session number ≡ true
-    → IsSomeAnd (link_after now packages l (LinkStep.Start number)) (λ t. on_agent (λ h. starts packages h number) l ≡ t.after)
+    → IsSomeAnd (link_after now packages l (LinkStep.Start number)) (λ t. on_agent (λ h. half_after_start packages h number) l ≡ t.after)
 start_goes now packages l number may = rw may refl
 
 pub start_projects : (w : WorldOf) (device number eid : ℕ) (l : LinkOf) → start_fault (is_package w.packages number) (free_for w.agent device) ≡ None → link_at w eid ≡ Some l
-    → StepsTo w.now w.packages l (where_mine (device == eid) (Some (LinkStep.Start number))) (link_at (calls w device (λ h. starts w.packages h number)) eid)
+    → LinkStepsTo w.now w.packages l (where_mine (device == eid) (Some (LinkStep.Start number))) (link_at (world_after_call w device (λ h. half_after_start w.packages h number)) eid)
 start_projects w device number eid l may is =
     let k = started_if (is_package w.packages number) (free_for w.agent device) may in
-    one_link w.now w.packages l (device == eid) (LinkStep.Start number) (on_agent (λ h. starts w.packages h number))
-    (link_at (calls w device (λ h. starts w.packages h number)) eid) (link_at w eid) is
-    (call_at w device eid (λ h. starts w.packages h number) (λ h. refl))
+    one_link w.now w.packages l (device == eid) (LinkStep.Start number) (on_agent (λ h. half_after_start w.packages h number))
+    (link_at (world_after_call w device (λ h. half_after_start w.packages h number)) eid) (link_at w eid) is
+    (call_at w device eid (λ h. half_after_start w.packages h number) (λ h. refl))
     (λ e. start_goes w.now w.packages l number
     (both_true (is_free l.agent.core.session) (is_package w.packages number)
     (free_there w device eid l e is k.1) k.0))
 
 pub cancel_projects : (w : WorldOf) (device eid : ℕ) (l : LinkOf) → link_at w eid ≡ Some l
-    → StepsTo w.now w.packages l (where_mine (device == eid) (Some LinkStep.Cancel)) (link_at (calls w device (cancels w.packages)) eid)
+    → LinkStepsTo w.now w.packages l (where_mine (device == eid) (Some LinkStep.Cancel)) (link_at (world_after_call w device (half_after_cancel w.packages)) eid)
 cancel_projects w device eid l is =
-    one_link w.now w.packages l (device == eid) LinkStep.Cancel (on_agent (cancels w.packages)) (link_at (calls w device (cancels w.packages)) eid) (link_at w eid) is
-    (call_at w device eid (cancels w.packages) (λ h. refl)) (λ e. refl)
+    one_link w.now w.packages l (device == eid) LinkStep.Cancel (on_agent (half_after_cancel w.packages)) (link_at (world_after_call w device (half_after_cancel w.packages)) eid) (link_at w eid) is
+    (call_at w device eid (half_after_cancel w.packages) (λ h. refl)) (λ e. refl)
 
 -- an activation
 pub known_if : (known : Bool) (fault : Option StepFault) → where_known known fault ≡ None → fault ≡ None
@@ -148,21 +148,21 @@ known_if true fault e = e
 known_if false fault e = absurd (cc)
 
 activate_goes : (now : ℕ) (packages : List PackageText) (l : LinkOf) (s : SessionOf) → agent_activated l.agent.core.session ≡ Some s
-    → IsSomeAnd (link_after now packages l LinkStep.Activate) (λ t. on_agent (λ h. activates packages h s) l ≡ t.after)
+    → IsSomeAnd (link_after now packages l LinkStep.Activate) (λ t. on_agent (λ h. half_after_activate packages h s) l ≡ t.after)
 activate_goes now packages l s e = rw e refl
 
 activate_by : (w : WorldOf) (device eid : ℕ) (l : LinkOf) (o : Option SessionOf) → ready_for w.agent device ≡ o → ready_fault o ≡ None → link_at w eid ≡ Some l
-    → StepsTo w.now w.packages l (where_mine (device == eid) (Some LinkStep.Activate)) (link_at (activates_on w device o) eid)
+    → LinkStepsTo w.now w.packages l (where_mine (device == eid) (Some LinkStep.Activate)) (link_at (activates_on w device o) eid)
 activate_by w device eid l None there may is = absurd (cc)
 activate_by w device eid l (Some s) there may is =
-    one_link w.now w.packages l (device == eid) LinkStep.Activate (on_agent (λ h. activates w.packages h s))
-    (link_at (calls w device (λ h. activates w.packages h s)) eid) (link_at w eid) is
-    (call_at w device eid (λ h. activates w.packages h s) (λ h. refl))
+    one_link w.now w.packages l (device == eid) LinkStep.Activate (on_agent (λ h. half_after_activate w.packages h s))
+    (link_at (world_after_call w device (λ h. half_after_activate w.packages h s)) eid) (link_at w eid) is
+    (call_at w device eid (λ h. half_after_activate w.packages h s) (λ h. refl))
     (λ e. activate_goes w.now w.packages l s
     (sym (ap ready_in (half_there w device eid l e is)) ∙ there))
 
 pub activate_projects : (w : WorldOf) (device eid : ℕ) (l : LinkOf) (known : Bool) → where_known known (ready_fault (ready_for w.agent device)) ≡ None → link_at w eid ≡ Some l
-    → StepsTo w.now w.packages l (where_mine (device == eid) (Some LinkStep.Activate)) (link_at (activates_on w device (ready_for w.agent device)) eid)
+    → LinkStepsTo w.now w.packages l (where_mine (device == eid) (Some LinkStep.Activate)) (link_at (activates_on w device (ready_for w.agent device)) eid)
 activate_projects w device eid l known may is =
     activate_by w device eid l (ready_for w.agent device) refl (known_if known (ready_fault (ready_for w.agent device)) may) is
 
@@ -184,8 +184,8 @@ verdict_found verdict None l may is = absurd is
 verdict_found verdict (Some x) l may is =
     subst (λ h. is_some (device_verdict h.core.device verdict true) ≡ true) is.0 (counts_if (is_some (device_verdict x.node.half.core.device verdict true)) _ may)
 
-judged_goes : (l : LinkOf) (o : Option Judged) → is_some o ≡ true
-    → IsSomeAnd (judges_on l o) (λ t. on_device (λ h. recast device_core h (record { device = judged_or h.core.device o; idle = 0 })) l ≡ t.after)
+judged_goes : (l : LinkOf) (o : Option VerdictEffect) → is_some o ≡ true
+    → IsSomeAnd (link_step_of_verdict l o) (λ t. on_device (λ h. half_with_core device_core h (record { device = judged_or h.core.device o; idle = 0 })) l ≡ t.after)
 judged_goes l None e = absurd (cc)
 judged_goes l (Some j) e = refl
 
@@ -197,22 +197,22 @@ verdict_there w device eid l verdict works e is may =
     (link_site _ (half_for w.agent eid) (site_for w.sites eid) l is))
 
 pub verdict_projects : (works : Bool) (faults : ℕ) (w : WorldOf) (device eid : ℕ) (verdict : Verdict) (l : LinkOf) → verdict_fault verdict (site_for w.sites device) ≡ None → link_at w eid ≡ Some l
-    → StepsTo w.now w.packages l (where_mine (device == eid) (Some (LinkStep.Judge verdict works)))
-    (link_at (judges works faults w verdict (place_of w.sites device) (site_for w.sites device)) eid)
+    → LinkStepsTo w.now w.packages l (where_mine (device == eid) (Some (LinkStep.Judge verdict works)))
+    (link_at (world_after_verdict works faults w verdict (place_of w.sites device) (site_for w.sites device)) eid)
 verdict_projects works faults w device eid verdict l may is =
     one_link w.now w.packages l (device == eid) (LinkStep.Judge verdict works) (on_device (judged_by verdict works))
-    (link_at (judges works faults w verdict (place_of w.sites device) (site_for w.sites device)) eid) (link_at w eid) is
+    (link_at (world_after_verdict works faults w verdict (place_of w.sites device) (site_for w.sites device)) eid) (link_at w eid) is
     (verdict_on works faults w device eid verdict)
     (λ e. judged_goes l (device_verdict l.device.core.device verdict works) (verdict_there w device eid l verdict works e is may))
 
 -- a restart
 device_restarts_by : (now : ℕ) (packages : List PackageText) (l : LinkOf) (mine : Bool) (y x : Option LinkOf) → x ≡ Some l
-    → y ≡ (if mine then option_map (on_device (half_restarts device_core)) x else x) → StepsTo now packages l (restart_as false mine) y
+    → y ≡ (if mine then option_map (on_device (half_restarts device_core)) x else x) → LinkStepsTo now packages l (restart_as false mine) y
 device_restarts_by now packages l true y x is e = e ∙ ap (option_map (on_device (half_restarts device_core))) is
 device_restarts_by now packages l false y x is e = e ∙ is
 
 pub restart_projects : (w : WorldOf) (node eid : ℕ) (l : LinkOf) → link_at w eid ≡ Some l
-    → StepsTo w.now w.packages l (restart_as (node == w.agent.endpoint.eid) (node == eid)) (link_at (restarts w node) eid)
+    → LinkStepsTo w.now w.packages l (restart_as (node == w.agent.endpoint.eid) (node == eid)) (link_at (world_after_restart w node) eid)
 restart_projects w node eid l is = elim (eqb_tells node w.agent.endpoint.eid) [
   | inl agent ↦ rw agent.0 (agent_restart_at w eid ∙ ap (option_map (on_agent (half_restarts (session_core w.packages)))) is)
   | inr other ↦ rw other.0 (device_restarts_by w.now w.packages l (node == eid) _ (link_at w eid) is (device_restart_at w node eid))

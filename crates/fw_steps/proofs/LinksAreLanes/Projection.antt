@@ -9,11 +9,11 @@ use Rattle.fd_core.specs.Steps.{verdict_after}
 use Rattle.fd_core.specs.declared.states.Verdict.{Verdict}
 use Rattle.fw_node.specs.Agents.{AgentOf, agent_restarts, becomes_at, half_at, half_for, place_of as half_place}
 use Rattle.fw_node.specs.Cores.{TimedDevice, device_core, session_core}
-use Rattle.fw_node.specs.Halves.{HalfOf, half_restarts, half_ticks, recast}
-use Rattle.fw_node.specs.Nodes.{device_judges, device_restarts}
+use Rattle.fw_node.specs.Halves.{HalfOf, half_restarts, half_ticks, half_with_core}
+use Rattle.fw_node.specs.Nodes.{device_on_verdict, device_restarts}
 use Rattle.fw_node.specs.Packets.{all_packets}
-use Rattle.fw_steps.specs.Links.{LinkOf, link_ticks, posted}
-use Rattle.fw_steps.specs.Worlds.{SiteOf, WorldOf, calls, judges, node_becomes, place_of, sent_now, agent_pass_sends, agent_passes, counts, site_for, site_goes_on, site_passes, site_restarts, ticks_by}
+use Rattle.fw_steps.specs.Links.{LinkOf, link_ticks, packets_with_messages}
+use Rattle.fw_steps.specs.Worlds.{SiteOf, WorldOf, world_after_call, world_after_verdict, node_becomes, place_of, sent_now, agent_pass_sends, agent_passes, counts, site_for, site_after_tick, site_passes, site_restarts, ticks_by}
 use Rattle.fw_steps.proofs.LinksAreLanes.AgentTicks.{AreApart, IsHalfOf, agent_tick_sends_at, agent_ticks_at, half_changed, half_put, sent_for}
 use Rattle.fw_steps.proofs.LinksAreLanes.Firsts.{put_at}
 use Rattle.fw_steps.proofs.LinksAreLanes.Posting.{is_to, posts_at, site_changed, site_eid, site_of, site_put, with_packets}
@@ -38,9 +38,9 @@ half_packets counts packages h = all_packets h.unit (half_ticks (session_core pa
 -- the packets of a link, whoever counts it
 tick_packets : (agent device : Bool) (packages : List PackageText) (now : ℕ) (h : HalfOf TimedOf) (x : SiteOf)
     → (x.packets ++ sent_now (now + 1) (half_packets agent packages h)) ++ sent_now (now + 1) (all_packets x.node.half.unit (half_ticks device_core device x.node.half).sent)
-    ≡ posted x.node.half.unit (now + 1) (posted h.unit (now + 1) x.packets (half_ticks (session_core packages) agent h).sent) (half_ticks device_core device x.node.half).sent
+    ≡ packets_with_messages x.node.half.unit (now + 1) (packets_with_messages h.unit (now + 1) x.packets (half_ticks (session_core packages) agent h).sent) (half_ticks device_core device x.node.half).sent
 tick_packets agent device packages now h x =
-    sym (posted_behind x.node.half.unit (now + 1) (posted h.unit (now + 1) x.packets (half_ticks (session_core packages) agent h).sent) (half_ticks device_core device x.node.half).sent
+    sym (posted_behind x.node.half.unit (now + 1) (packets_with_messages h.unit (now + 1) x.packets (half_ticks (session_core packages) agent h).sent) (half_ticks device_core device x.node.half).sent
     ∙ ap (λ ps. ps ++ sent_now (now + 1) (all_packets x.node.half.unit (half_ticks device_core device x.node.half).sent)) (posted_behind h.unit (now + 1) x.packets (half_ticks (session_core packages) agent h).sent))
 
 -- the link of a device that counts it, or misses it
@@ -70,12 +70,12 @@ pub passes_eid : (counts : Bool) (now : ℕ) (x : SiteOf) → (site_passes count
 passes_eid true now x = refl
 passes_eid false now x = refl
 
-pub goes_on_eid : (missed : List ℕ) (now : ℕ) (x : SiteOf) → site_eid (site_goes_on missed now x) ≡ site_eid x
+pub goes_on_eid : (missed : List ℕ) (now : ℕ) (x : SiteOf) → site_eid (site_after_tick missed now x) ≡ site_eid x
 goes_on_eid missed now x = ap (λ e. e.eid) (passes_eid (counts missed x.node.endpoint.eid) now x)
 
 -- the device of an identifier counts it if that isn't among those that miss it
 goes_on_here : (missed : List ℕ) (now eid : ℕ) (packets : List (List ℕ)) (s : Option SiteOf) → IfSome s (λ x. site_eid x ≡ eid)
-    → option_map (site_goes_on missed now) (option_map (with_packets now packets) s) ≡ option_map (site_passes (counts missed eid) now) (option_map (with_packets now packets) s)
+    → option_map (site_after_tick missed now) (option_map (with_packets now packets) s) ≡ option_map (site_passes (counts missed eid) now) (option_map (with_packets now packets) s)
 goes_on_here missed now eid packets None is = refl
 goes_on_here missed now eid packets (Some x) is = ap (λ e. Some (site_passes (counts missed e) now (with_packets now packets x))) is
 
@@ -104,9 +104,9 @@ tick_at agent missed w eid k apart =
     let device = counts missed eid in
     let sent = sent_for (half_packets agent w.packages) (half_for w.agent eid) in
     let sites : site_for (ticks_by agent missed w).sites eid ≡ option_map (site_passes device (w.now + 1)) (option_map (with_packets (w.now + 1) sent) (site_for w.sites eid)) =
-    site_changed (site_goes_on missed (w.now + 1)) (goes_on_eid missed (w.now + 1)) _ eid
-    ∙ ap (option_map (site_goes_on missed (w.now + 1))) (posts_at (w.now + 1) (agent_pass_sends agent w.packages w.agent) w.sites eid)
-    ∙ ap (λ ps. option_map (site_goes_on missed (w.now + 1)) (option_map (with_packets (w.now + 1) ps) (site_for w.sites eid))) (half_sends agent w.packages w.agent eid k apart)
+    site_changed (site_after_tick missed (w.now + 1)) (goes_on_eid missed (w.now + 1)) _ eid
+    ∙ ap (option_map (site_after_tick missed (w.now + 1))) (posts_at (w.now + 1) (agent_pass_sends agent w.packages w.agent) w.sites eid)
+    ∙ ap (λ ps. option_map (site_after_tick missed (w.now + 1)) (option_map (with_packets (w.now + 1) ps) (site_for w.sites eid))) (half_sends agent w.packages w.agent eid k apart)
     ∙ goes_on_here missed (w.now + 1) eid sent (site_for w.sites eid) (site_of w.sites eid) in
     ap (λ o. link_from (since_after agent w.since_miss) o (site_for (ticks_by agent missed w).sites eid)) (half_passes agent w.packages (w.now + 1) w.agent eid k)
     ∙ ap (link_from (since_after agent w.since_miss) (option_map (half_after agent w.packages) (half_for w.agent eid))) sites
@@ -133,7 +133,7 @@ becomes_put n now g (Some p) (Some h) = refl
 
 -- A call of the operator is one of the device's link.
 pub call_at : (w : WorldOf) (device eid : ℕ) (g : HalfOf TimedOf → HalfOf TimedOf) → ((h : HalfOf TimedOf) → (g h).peer ≡ h.peer)
-    → link_at (calls w device g) eid ≡ (if device == eid then option_map (on_agent g) (link_at w eid) else link_at w eid)
+    → link_at (world_after_call w device g) eid ≡ (if device == eid then option_map (on_agent g) (link_at w eid) else link_at w eid)
 call_at w device eid g same =
     ap (λ hs. link_from w.since_miss (half_at hs (half_place hs eid)) (site_for w.sites eid)) (becomes_put w.agent w.now g (half_place w.agent.halves device) (half_for w.agent device))
     ∙ ap (λ o. link_from w.since_miss o (site_for w.sites eid)) (half_put g same w.agent.halves device eid)
@@ -180,35 +180,35 @@ device_restart_at w node eid =
 
 -- a verdict on what a device has written
 abbrev pub judged_by : Verdict → Bool → HalfOf TimedDevice → HalfOf TimedDevice
-judged_by verdict works h = recast device_core h (record { device = verdict_after h.core.device verdict works; idle = 0 })
+judged_by verdict works h = half_with_core device_core h (record { device = verdict_after h.core.device verdict works; idle = 0 })
 
 abbrev pub judged_site : Bool → (faults : ℕ) → Verdict → SiteOf → SiteOf
-judged_site works faults verdict x = record x { node = node_becomes x.node faults x.node.tid (device_judges works x.node verdict) }
+judged_site works faults verdict x = record x { node = node_becomes x.node faults x.node.tid (device_on_verdict works x.node verdict) }
 
 pub judges_put : (works : Bool) (faults : ℕ) (w : WorldOf) (verdict : Verdict) (o : Option ℕ) (s : Option SiteOf)
-    → (judges works faults w verdict o s).sites ≡ put_at (judged_site works faults verdict) w.sites o s
+    → (world_after_verdict works faults w verdict o s).sites ≡ put_at (judged_site works faults verdict) w.sites o s
 judges_put works faults w verdict None s = refl
 judges_put works faults w verdict (Some p) None = refl
 judges_put works faults w verdict (Some p) (Some x) = refl
 
-pub judges_agent : (works : Bool) (faults : ℕ) (w : WorldOf) (verdict : Verdict) (o : Option ℕ) (s : Option SiteOf) → (judges works faults w verdict o s).agent ≡ w.agent
+pub judges_agent : (works : Bool) (faults : ℕ) (w : WorldOf) (verdict : Verdict) (o : Option ℕ) (s : Option SiteOf) → (world_after_verdict works faults w verdict o s).agent ≡ w.agent
 judges_agent works faults w verdict None s = refl
 judges_agent works faults w verdict (Some p) None = refl
 judges_agent works faults w verdict (Some p) (Some x) = refl
 
-judges_since : (works : Bool) (faults : ℕ) (w : WorldOf) (verdict : Verdict) (o : Option ℕ) (s : Option SiteOf) → (judges works faults w verdict o s).since_miss ≡ w.since_miss
+judges_since : (works : Bool) (faults : ℕ) (w : WorldOf) (verdict : Verdict) (o : Option ℕ) (s : Option SiteOf) → (world_after_verdict works faults w verdict o s).since_miss ≡ w.since_miss
 judges_since works faults w verdict None s = refl
 judges_since works faults w verdict (Some p) None = refl
 judges_since works faults w verdict (Some p) (Some x) = refl
 
 -- A verdict is one of the device's link.
 pub verdict_at : (works : Bool) (faults : ℕ) (w : WorldOf) (device eid : ℕ) (verdict : Verdict)
-    → link_at (judges works faults w verdict (place_of w.sites device) (site_for w.sites device)) eid
+    → link_at (world_after_verdict works faults w verdict (place_of w.sites device) (site_for w.sites device)) eid
     ≡ (if device == eid then option_map (on_device (judged_by verdict works)) (link_at w eid) else link_at w eid)
 verdict_at works faults w device eid verdict =
-    ap (λ k. link_from k (half_for (judges works faults w verdict (place_of w.sites device) (site_for w.sites device)).agent eid) (site_for (judges works faults w verdict (place_of w.sites device) (site_for w.sites device)).sites eid))
+    ap (λ k. link_from k (half_for (world_after_verdict works faults w verdict (place_of w.sites device) (site_for w.sites device)).agent eid) (site_for (world_after_verdict works faults w verdict (place_of w.sites device) (site_for w.sites device)).sites eid))
     (judges_since works faults w verdict (place_of w.sites device) (site_for w.sites device))
-    ∙ ap (λ n. link_from w.since_miss (half_for n eid) (site_for (judges works faults w verdict (place_of w.sites device) (site_for w.sites device)).sites eid))
+    ∙ ap (λ n. link_from w.since_miss (half_for n eid) (site_for (world_after_verdict works faults w verdict (place_of w.sites device) (site_for w.sites device)).sites eid))
     (judges_agent works faults w verdict (place_of w.sites device) (site_for w.sites device))
     ∙ ap (λ xs. link_from w.since_miss (half_for w.agent eid) (site_for xs eid)) (judges_put works faults w verdict (place_of w.sites device) (site_for w.sites device))
     ∙ ap (link_from w.since_miss (half_for w.agent eid)) (site_put (judged_site works faults verdict) (λ x. refl) w.sites device eid)

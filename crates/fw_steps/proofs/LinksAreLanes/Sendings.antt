@@ -5,15 +5,15 @@ use Rattle.mctp_wire.specs.declared.unit.Unit.{«Unit»}
 use Rattle.mctp_wire.specs.Units.{bytes_of}
 use Rattle.mctp_wire.specs.declared.unit.TheConstants.{MAX_PACKETS}
 use Rattle.mctp_reasm.specs.Held.{Held}
-use Rattle.mctp_reasm.specs.Pieces.{MessageOf, Route, message_route, piece, pieces_from, spelled}
+use Rattle.mctp_reasm.specs.Pieces.{MessageOf, Route, message_route, piece, pieces_from, spelling_of}
 use Rattle.pldm_base.specs.declared.header.PldmHead.{PldmHead}
 use Rattle.fwup_wire.specs.Values.{CommandOf}
 use Rattle.pldm_exch.specs.Caller.{CallerState, Open, is_quiet, may_begin}
 use Rattle.pldm_exch.specs.Sides.{AskerRow, AskerTick, TakerRow, asker_counts, asker_row, taker_counts, taker_row}
-use Rattle.exch_lane.specs.Lanes.{EntryOf, LaneOf, Sent}
+use Rattle.exch_lane.specs.Lanes.{LaneEntryOf, LaneOf, Sent}
 use Rattle.fw_package.specs.Package.{PackageText}
 use Rattle.fw_node.specs.Cores.{session_core}
-use Rattle.fw_node.specs.Halves.{CoreOf, HalfOf, begins_if, begins_wish, called, half_hears, half_hears_by, half_takes, half_ticks, hears_if, kept_if, read_by, still_wished, takes_if, takes_read, unwished_abandoned, unwished_for, with_caller}
+use Rattle.fw_node.specs.Halves.{CoreOf, HalfOf, begins_if, begins_wish, half_tick_by_row, half_on_packet, half_on_rows, half_takes, half_ticks, tick_if, kept_if, read_by, still_wished, takes_if, takes_read, unwished_abandoned, unwished_for, with_caller}
 use Rattle.fw_node.specs.Packets.{all_packets, packets_of}
 use Rattle.fw_steps.specs.Lanes.{Explained, LinkExplained, Times, times_of}
 use Rattle.fw_steps.specs.Links.{LinkOf}
@@ -28,7 +28,7 @@ pub record IsRoutedHalf {C : Type 0} (h : HalfOf C) : Type 0 where
   pub asks : AsksPeer h.peer h.asker.caller
   pub answers : AnswersPeer h.peer h.taker.kept
 
-routed_lane : (u : «Unit») (asker taker : ℕ) (lane : List EntryOf → LaneOf) (e : Explained u asker taker lane) → IsRouted (lane e.run.entries)
+routed_lane : (u : «Unit») (asker taker : ℕ) (lane : List LaneEntryOf → LaneOf) (e : Explained u asker taker lane) → IsRouted (lane e.run.entries)
 routed_lane u asker taker lane e = subst IsRouted e.is (lane_routed u asker taker e.steps)
 
 -- The first of two halves, between which all is explained.
@@ -59,13 +59,13 @@ unwished_peer : (wish : Option CommandOf) (c : CallerState) (o : Option Open) �
 unwished_peer wish c None = refl
 unwished_peer wish c (Some o) = kept_peer (still_wished wish o) c
 
-hears_if_to : {C : Type 0} (peer : ℕ) (hearing : Bool) (f : CoreOf C) (h : HalfOf C) (ms : List MessageOf) → h.asker.caller.peer ≡ peer → AreTo peer ms → AreTo peer (hears_if hearing f h ms).sent
+hears_if_to : {C : Type 0} (peer : ℕ) (hearing : Bool) (f : CoreOf C) (h : HalfOf C) (ms : List MessageOf) → h.asker.caller.peer ≡ peer → AreTo peer ms → AreTo peer (tick_if hearing f h ms).sent
 hears_if_to peer true f h ms to k =
     begins_wish_to peer (f.wish (f.ticked h.core)) (with_caller (record h { core = f.ticked h.core }) (unwished_abandoned (f.wish (f.ticked h.core)) h.asker.caller)) ms
     (unwished_peer (f.wish (f.ticked h.core)) h.asker.caller h.asker.caller.asked ∙ to) k
 hears_if_to peer false f h ms to k = k
 
-called_to : {C : Type 0} (peer : ℕ) (f : CoreOf C) (h : HalfOf C) (row : AskerTick) → TickGoes peer row → AreTo peer (called f h row).sent
+called_to : {C : Type 0} (peer : ℕ) (f : CoreOf C) (h : HalfOf C) (row : AskerTick) → TickGoes peer row → AreTo peer (half_tick_by_row f h row).sent
 called_to peer f h (AskerTick.Waits a) k = hears_if_to peer (a.deaf == 0) f (record h { asker = a }) [] k.to tt
 called_to peer f h (AskerTick.Resends a m) k = hears_if_to peer (a.deaf == 0) f (record h { asker = a }) (m ∷ []) k.0.to (k.1, tt)
 called_to peer f h (AskerTick.GivesUp a) k = hears_if_to peer (a.deaf == 0) f (record h { asker = a; core = f.silent h.core }) [] k.to tt
@@ -91,11 +91,11 @@ takes_to peer core works h (TakerRow.TakesUp requests m head body) k = takes_if_
 takes_to peer core works h (TakerRow.Strays requests m) k = tt
 
 hears_by_to : {C : Type 0} (peer : ℕ) (core : CoreOf C) (works : Bool) (h : HalfOf C) (asks : AskerRow) (answers : TakerRow) → TakesFrom peer answers
-    → AreTo peer (sent_in (half_hears_by core works h asks answers))
+    → AreTo peer (sent_in (half_on_rows core works h asks answers))
 hears_by_to peer core works h (AskerRow.Ignores replies) answers k = takes_to peer core works (record h { asker = record h.asker { replies = replies } }) answers k
 hears_by_to peer core works h (AskerRow.Learns replies caller heard) answers k = tt
 
-pub heard_sends_to : {C : Type 0} (core : CoreOf C) (works : Bool) (h : HalfOf C) (bytes : List ℕ) → IsRoutedHalf h → AreTo h.peer (sent_in (half_hears core works h bytes))
+pub heard_sends_to : {C : Type 0} (core : CoreOf C) (works : Bool) (h : HalfOf C) (bytes : List ℕ) → IsRoutedHalf h → AreTo h.peer (sent_in (half_on_packet core works h bytes))
 heard_sends_to core works h bytes k =
     hears_by_to h.peer core works h (asker_row h.unit h.own h.peer h.asker bytes) (taker_row h.unit h.own h.peer h.taker bytes) (taker_row_from h.unit h.own h.peer h.taker bytes k.answers)
 
@@ -104,11 +104,11 @@ abbrev pub GoesTo : ℕ → List ℕ → Type 0
 GoesTo dest (version ∷ to ∷ rest) = to ≡ dest
 GoesTo dest bytes = ⊥
 
-pieces_to : (u : «Unit») (most : ℕ) (r : Route) (n : ℕ) (bytes : List ℕ) → AllByRecursion (GoesTo r.dest) (map spelled (pieces_from u most r n bytes))
+pieces_to : (u : «Unit») (most : ℕ) (r : Route) (n : ℕ) (bytes : List ℕ) → AllByRecursion (GoesTo r.dest) (map spelling_of (pieces_from u most r n bytes))
 unfolding pieces_from
 pieces_to u zero r n bytes = tt
 pieces_to u (suc most) r n bytes =
-    if_either (λ ps. AllByRecursion (GoesTo r.dest) (map spelled ps)) (nat_le (length bytes) (bytes_of u)) (piece r n true bytes ∷ [])
+    if_either (λ ps. AllByRecursion (GoesTo r.dest) (map spelling_of ps)) (nat_le (length bytes) (bytes_of u)) (piece r n true bytes ∷ [])
     (piece r n false (take (bytes_of u) bytes) ∷ pieces_from u most r (n + 1) (drop (bytes_of u) bytes))
     (refl, tt) (refl, pieces_to u most r (n + 1) (drop (bytes_of u) bytes))
 
@@ -128,8 +128,8 @@ agent_tick_to now packages l e =
     (tick_sends_to (session_core packages) l.agent (routed_half (times_of now l) l.agent l.device l.packets (ways_of now l e))))
 
 pub agent_heard_to : (now : ℕ) (packages : List PackageText) (l : LinkOf) (works : Bool) (bytes : List ℕ) → LinkExplained now l
-    → AllByRecursion (GoesTo l.device.own) (all_packets l.agent.unit (sent_in (half_hears (session_core packages) works l.agent bytes)))
+    → AllByRecursion (GoesTo l.device.own) (all_packets l.agent.unit (sent_in (half_on_packet (session_core packages) works l.agent bytes)))
 agent_heard_to now packages l works bytes e =
-    packets_to l.agent.unit l.device.own (sent_in (half_hears (session_core packages) works l.agent bytes))
-    (subst (λ p. AreTo p (sent_in (half_hears (session_core packages) works l.agent bytes))) e.agent_peer
+    packets_to l.agent.unit l.device.own (sent_in (half_on_packet (session_core packages) works l.agent bytes))
+    (subst (λ p. AreTo p (sent_in (half_on_packet (session_core packages) works l.agent bytes))) e.agent_peer
     (heard_sends_to (session_core packages) works l.agent bytes (routed_half (times_of now l) l.agent l.device l.packets (ways_of now l e))))

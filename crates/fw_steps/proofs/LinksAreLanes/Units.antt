@@ -9,11 +9,11 @@ use Rattle.pldm_exch.specs.Caller.{is_quiet}
 use Rattle.pldm_exch.specs.Sides.{AskerRow, AskerTick, TakerRow, asker_counts, asker_row, taker_counts, taker_row}
 use Rattle.fw_package.specs.Package.{PackageText}
 use Rattle.ua_core.specs.Calls.{activated_stage, agent_activated, agent_cancelled, may_cancel, times_out}
-use Rattle.ua_core.specs.Learn.{LearnRow, learn_by, learn_row}
+use Rattle.ua_core.specs.Learn.{SessionLearnRow, learn_by, learn_row}
 use Rattle.ua_core.specs.Serve.{ServeRow, after_by, serve_row}
 use Rattle.ua_core.specs.Session.{SessionOf, Stage, TimedOf, at_stage}
 use Rattle.fw_node.specs.Cores.{package_of, session_core}
-use Rattle.fw_node.specs.Halves.{CoreOf, HalfOf, called, half_hears, half_hears_by, half_takes, half_ticks, hears_if, read_by, takes_if, takes_read, unwished_abandoned, with_caller}
+use Rattle.fw_node.specs.Halves.{CoreOf, HalfOf, half_tick_by_row, half_on_packet, half_on_rows, half_takes, half_ticks, tick_if, read_by, takes_if, takes_read, unwished_abandoned, with_caller}
 use Rattle.fw_steps.proofs.LinksAreLanes.Hears.{half_in}
 use Rattle.fw_steps.proofs.LinksAreLanes.Ticks.{core_stays}
 
@@ -25,13 +25,13 @@ pub record KeepsUnit {C : Type 0} (core : CoreOf C) : Type 0 where
   pub ticked : (x : C) → core.unit (core.ticked x) ≡ core.unit x
 
 -- a tick of its half
-hears_if_keeps : {C : Type 0} (core : CoreOf C) → KeepsUnit core → (hearing : Bool) (h : HalfOf C) (ms : List MessageOf) → core.unit (hears_if hearing core h ms).half.core ≡ core.unit h.core
+hears_if_keeps : {C : Type 0} (core : CoreOf C) → KeepsUnit core → (hearing : Bool) (h : HalfOf C) (ms : List MessageOf) → core.unit (tick_if hearing core h ms).half.core ≡ core.unit h.core
 hears_if_keeps core k true h ms =
     ap core.unit (core_stays (core.wish (core.ticked h.core)) (with_caller (record h { core = core.ticked h.core }) (unwished_abandoned (core.wish (core.ticked h.core)) h.asker.caller)) ms)
     ∙ k.ticked h.core
 hears_if_keeps core k false h ms = refl
 
-called_keeps : {C : Type 0} (core : CoreOf C) → KeepsUnit core → (h : HalfOf C) (row : AskerTick) → core.unit (called core h row).half.core ≡ core.unit h.core
+called_keeps : {C : Type 0} (core : CoreOf C) → KeepsUnit core → (h : HalfOf C) (row : AskerTick) → core.unit (half_tick_by_row core h row).half.core ≡ core.unit h.core
 called_keeps core k h (AskerTick.Waits a) = hears_if_keeps core k (a.deaf == 0) (record h { asker = a }) []
 called_keeps core k h (AskerTick.Resends a m) = hears_if_keeps core k (a.deaf == 0) (record h { asker = a }) (m ∷ [])
 called_keeps core k h (AskerTick.GivesUp a) = hears_if_keeps core k (a.deaf == 0) (record h { asker = a; core = core.silent h.core }) [] ∙ k.silent h.core
@@ -58,17 +58,17 @@ takes_keep core k works h (TakerRow.TakesUp requests m head body) = takes_if_kee
 takes_keep core k works h (TakerRow.Strays requests m) = refl
 
 hears_by_keeps : {C : Type 0} (core : CoreOf C) → KeepsUnit core → (works : Bool) (h : HalfOf C) (asks : AskerRow) (answers : TakerRow)
-    → core.unit (half_in (half_hears_by core works h asks answers)).core ≡ core.unit h.core
+    → core.unit (half_in (half_on_rows core works h asks answers)).core ≡ core.unit h.core
 hears_by_keeps core k works h (AskerRow.Ignores replies) answers = takes_keep core k works (record h { asker = record h.asker { replies = replies } }) answers
 hears_by_keeps core k works h (AskerRow.Learns replies caller heard) answers = k.learn h.core _ works
 
-pub hears_keeps : {C : Type 0} (core : CoreOf C) → KeepsUnit core → (works : Bool) (h : HalfOf C) (bytes : List ℕ) → core.unit (half_in (half_hears core works h bytes)).core ≡ core.unit h.core
+pub hears_keeps : {C : Type 0} (core : CoreOf C) → KeepsUnit core → (works : Bool) (h : HalfOf C) (bytes : List ℕ) → core.unit (half_in (half_on_packet core works h bytes)).core ≡ core.unit h.core
 hears_keeps core k works h bytes = hears_by_keeps core k works h (asker_row h.unit h.own h.peer h.asker bytes) (taker_row h.unit h.own h.peer h.taker bytes)
 
 -- a session by its rows
-learn_keeps : (s : SessionOf) (row : LearnRow) → (learn_by s row).unit ≡ s.unit
-learn_keeps s LearnRow.Stay = refl
-learn_keeps s (LearnRow.Go g) = refl
+learn_keeps : (s : SessionOf) (row : SessionLearnRow) → (learn_by s row).unit ≡ s.unit
+learn_keeps s SessionLearnRow.Stay = refl
+learn_keeps s (SessionLearnRow.Go g) = refl
 
 after_keeps : (s : SessionOf) (row : ServeRow) → (after_by s row).unit ≡ s.unit
 after_keeps s (ServeRow.Say a) = refl

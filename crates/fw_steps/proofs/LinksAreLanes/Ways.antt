@@ -4,14 +4,14 @@ use Rattle.std.specs.List.{AllByRecursion, filter}
 use Rattle.mctp_wire.specs.declared.unit.Unit.{«Unit»}
 use Rattle.mctp_reasm.specs.Pieces.{MessageOf}
 use Rattle.exch_lane.specs.Cells.{cells_along, no_cell_yet}
-use Rattle.exch_lane.specs.Lanes.{AreEnds, EntryOf, LaneOf, Sent, StepOf, lane_new}
+use Rattle.exch_lane.specs.Lanes.{AreEnds, LaneEntryOf, LaneOf, Sent, LaneStepOf, lane_new}
 use Rattle.exch_lane.specs.Laws.{IsCellOf, LaneIsACell, in_lane}
 use Rattle.exch_lane.specs.Steps.{MayRun, lane_run, sent_at}
 use Rattle.fw_node.specs.Halves.{HalfOf}
 use Rattle.fw_node.specs.Packets.{all_packets}
 use Rattle.fw_steps.specs.Lanes.{Explained, Times, is_of, lane_of, turned_times, way_of}
-use Rattle.fw_steps.specs.LinksAreLanes.{GoesAlong}
-use Rattle.fw_steps.specs.Links.{posted}
+use Rattle.fw_steps.specs.LinksAreLanes.{StepsLane}
+use Rattle.fw_steps.specs.Links.{packets_with_messages}
 use Rattle.fw_steps.proofs.LinksAreLanes.Following.{LaneGoes, follows, goes_on}
 use Rattle.fw_steps.proofs.LinksAreLanes.Routes.{other_lane}
 use Rattle.fw_steps.proofs.LinksAreLanes.Sorted.{both_all, each_all, posted_behind, sent_in_lane, sorted_in, sorted_out}
@@ -58,29 +58,29 @@ pub record AreSame {A B : Type 0} (a x : HalfOf A) (b y : HalfOf B) : Type 0 whe
   pub back : y.peer ≡ b.peer
 
 -- Both ways after steps of theirs: the halves and the packets are these, and both are explained again.
-pub record WaysGo {A B : Type 0} (now then : Times) (a x : HalfOf A) (b y : HalfOf B) (ps qs : List Sent) (asked answered : List StepOf) (before : BothWays now a b ps) : Type 0 where
+pub record WaysGo {A B : Type 0} (now then : Times) (a x : HalfOf A) (b y : HalfOf B) (ps qs : List Sent) (asked answered : List LaneStepOf) (before : BothWays now a b ps) : Type 0 where
   pub same : AreSame a x b y
   pub explained : BothWays then x y qs
-  pub asks : GoesAlong (way_of now a b ps) (way_of then x y qs) asked before.asks.run explained.asks.run
-  pub answers : GoesAlong (way_of (turned_times now) b a ps) (way_of (turned_times then) y x qs) answered before.answers.run explained.answers.run
+  pub asks : StepsLane (way_of now a b ps) (way_of then x y qs) asked before.asks.run explained.asks.run
+  pub answers : StepsLane (way_of (turned_times now) b a ps) (way_of (turned_times then) y x qs) answered before.answers.run explained.answers.run
 
 -- What a way's steps come to, when what the half sends isn't sorted yet.
-pub record Comes {A B : Type 0} (now then : Times) (a x : HalfOf A) (b y : HalfOf B) (ps : List Sent) (ms : List MessageOf) (es : List EntryOf) (ss : List StepOf) : Type 0 where
+pub record Comes {A B : Type 0} (now then : Times) (a x : HalfOf A) (b y : HalfOf B) (ps : List Sent) (ms : List MessageOf) (es : List LaneEntryOf) (ss : List LaneStepOf) : Type 0 where
   pub may : MayRun (way_of now a b ps es) ss
-  pub more : List EntryOf
-  pub leads : lane_run (way_of now a b ps es) ss ≡ lane_of then x y (posted a.unit then.now (filter (is_of a.unit a.own b.own) ps) ms) (es ++ more)
+  pub more : List LaneEntryOf
+  pub leads : lane_run (way_of now a b ps es) ss ≡ lane_of then x y (packets_with_messages a.unit then.now (filter (is_of a.unit a.own b.own) ps) ms) (es ++ more)
 
 -- what is sent on a way is of this way
-sent_mine : {A B : Type 0} (law : LaneIsACell) (now then : Times) (a x : HalfOf A) (b y : HalfOf B) (ps : List Sent) (ms : List MessageOf) (ss : List StepOf)
+sent_mine : {A B : Type 0} (law : LaneIsACell) (now then : Times) (a x : HalfOf A) (b y : HalfOf B) (ps : List Sent) (ms : List MessageOf) (ss : List LaneStepOf)
     (h : BothWays now a b ps) → AreSame a x b y → Comes now then a x b y ps ms h.asks.run.entries ss
     → AllByRecursion (λ s. is_of a.unit a.own b.own s ≡ true) (map (sent_at then.now) (all_packets a.unit ms))
 sent_mine law now then a x b y ps ms ss h same c =
     let f = follows law a.unit a.own b.own (way_of now a b ps) h.asks ss h.ends c.may in
-    let w = lane_of then x y (posted a.unit then.now (filter (is_of a.unit a.own b.own) ps) ms) (h.asks.run.entries ++ c.more) in
+    let w = lane_of then x y (packets_with_messages a.unit then.now (filter (is_of a.unit a.own b.own) ps) ms) (h.asks.run.entries ++ c.more) in
     let cell : IsCellOf w f.run = subst (λ v. IsCellOf v f.run) c.leads f.cell in
     let unit : x.unit ≡ a.unit = same.unit in
     let mine : AllByRecursion (λ s. in_lane x.unit x.own x.peer s.bytes ≡ true) (map (sent_at then.now) (all_packets x.unit ms)) =
-    sent_in_lane w then.now (filter (is_of a.unit a.own b.own) ps) ms (omega arith) (ap (λ u. posted u then.now (filter (is_of a.unit a.own b.own) ps) ms) (sym unit)) cell.packets in
+    sent_in_lane w then.now (filter (is_of a.unit a.own b.own) ps) ms (omega arith) (ap (λ u. packets_with_messages u then.now (filter (is_of a.unit a.own b.own) ps) ms) (sym unit)) cell.packets in
     let own : x.own ≡ a.own = same.own in
     let peer : x.peer ≡ b.own = same.peer ∙ h.peer in
     subst (λ e. AllByRecursion (λ s. in_lane a.unit a.own e s.bytes ≡ true) (map (sent_at then.now) (all_packets a.unit ms))) peer
@@ -96,28 +96,28 @@ sent_theirs u v x y ps same differ h =
 -- the packets after it
 packets_after : (u v : «Unit») (now then x y : ℕ) (ps : List Sent) (ms ns : List MessageOf) → now ≤ then → AllByRecursion (IsOfEither u v now x y) ps
     → AllByRecursion (λ s. is_of u x y s ≡ true) (map (sent_at then) (all_packets u ms)) → AllByRecursion (λ s. is_of v y x s ≡ true) (map (sent_at then) (all_packets v ns))
-    → AllByRecursion (IsOfEither u v then x y) (posted v then (posted u then ps ms) ns)
+    → AllByRecursion (IsOfEither u v then x y) (packets_with_messages v then (packets_with_messages u then ps ms) ns)
 packets_after u v now then x y ps ms ns later old mine theirs =
     let sent = map (sent_at then) (all_packets u ms) in
     let sent_back = map (sent_at then) (all_packets v ns) in
     let still : AllByRecursion (IsOfEither u v then x y) ps = each_all (IsOfEither u v now x y) (IsOfEither u v then x y) ps old (λ s k soon. k (omega (arith, later, soon))) in
     let more : AllByRecursion (IsOfEither u v then x y) sent = each_all (λ s. is_of u x y s ≡ true) (IsOfEither u v then x y) sent mine (λ s e soon. inl e) in
     let back : AllByRecursion (IsOfEither u v then x y) sent_back = each_all (λ s. is_of v y x s ≡ true) (IsOfEither u v then x y) sent_back theirs (λ s e soon. inr e) in
-    subst (AllByRecursion (IsOfEither u v then x y)) (sym (posted_behind v then (posted u then ps ms) ns))
-    (both_all (IsOfEither u v then x y) (posted u then ps ms) sent_back
+    subst (AllByRecursion (IsOfEither u v then x y)) (sym (posted_behind v then (packets_with_messages u then ps ms) ns))
+    (both_all (IsOfEither u v then x y) (packets_with_messages u then ps ms) sent_back
     (subst (AllByRecursion (IsOfEither u v then x y)) (sym (posted_behind u then ps ms)) (both_all (IsOfEither u v then x y) ps sent still more)) back)
 
 -- a way's packets among all after it
 first_sorted : (u v : «Unit») (then x y : ℕ) (ps : List Sent) (ms ns : List MessageOf)
     → AllByRecursion (λ s. is_of u x y s ≡ true) (map (sent_at then) (all_packets u ms)) → AllByRecursion (λ s. is_of u x y s ≡ false) (map (sent_at then) (all_packets v ns))
-    → filter (is_of u x y) (posted v then (posted u then ps ms) ns) ≡ posted u then (filter (is_of u x y) ps) ms
-first_sorted u v then x y ps ms ns mine theirs = sorted_out v (is_of u x y) then (posted u then ps ms) ns theirs ∙ sorted_in u (is_of u x y) then ps ms mine
+    → filter (is_of u x y) (packets_with_messages v then (packets_with_messages u then ps ms) ns) ≡ packets_with_messages u then (filter (is_of u x y) ps) ms
+first_sorted u v then x y ps ms ns mine theirs = sorted_out v (is_of u x y) then (packets_with_messages u then ps ms) ns theirs ∙ sorted_in u (is_of u x y) then ps ms mine
 
 second_sorted : (u v : «Unit») (then x y : ℕ) (ps : List Sent) (ms ns : List MessageOf)
     → AllByRecursion (λ s. is_of v x y s ≡ false) (map (sent_at then) (all_packets u ms)) → AllByRecursion (λ s. is_of v x y s ≡ true) (map (sent_at then) (all_packets v ns))
-    → filter (is_of v x y) (posted v then (posted u then ps ms) ns) ≡ posted v then (filter (is_of v x y) ps) ns
+    → filter (is_of v x y) (packets_with_messages v then (packets_with_messages u then ps ms) ns) ≡ packets_with_messages v then (filter (is_of v x y) ps) ns
 second_sorted u v then x y ps ms ns theirs mine =
-    sorted_in v (is_of v x y) then (posted u then ps ms) ns mine ∙ ap (λ qs. posted v then qs ns) (sorted_out u (is_of v x y) then ps ms theirs)
+    sorted_in v (is_of v x y) then (packets_with_messages u then ps ms) ns mine ∙ ap (λ qs. packets_with_messages v then qs ns) (sorted_out u (is_of v x y) then ps ms theirs)
 
 ends_as : (x y u v : ℕ) → u ≡ x → v ≡ y → AreEnds x y → AreEnds u v
 ends_as x y u v own other e = rw (own, other) e
@@ -129,7 +129,7 @@ either_as m n k l now x y u v ps unit other_unit own other h = rw (unit, other_u
 new_same : (m n : «Unit») (x y u v : ℕ) → n ≡ m → u ≡ x → v ≡ y → lane_new m x y ≡ lane_new n u v
 new_same m n x y u v unit own other = rw (unit, own, other) refl
 
-abbrev explained_as : {m n : «Unit»} {x y u v : ℕ} {lane : List EntryOf → LaneOf} → lane_new m x y ≡ lane_new n u v → Explained m x y lane → Explained n u v lane
+abbrev explained_as : {m n : «Unit»} {x y u v : ℕ} {lane : List LaneEntryOf → LaneOf} → lane_new m x y ≡ lane_new n u v → Explained m x y lane → Explained n u v lane
 explained_as same e = record {
   steps = e.steps;
   may = subst (λ w. MayRun w e.steps) same e.may;
@@ -139,8 +139,8 @@ explained_as same e = record {
 }
 
 -- One way goes on.
-way_goes : {A B : Type 0} (law : LaneIsACell) (now then : Times) (a x : HalfOf A) (b y : HalfOf B) (ps qs : List Sent) (ms : List MessageOf) (ss : List StepOf)
-    (h : BothWays now a b ps) → x.unit ≡ a.unit → x.own ≡ a.own → y.own ≡ b.own → filter (is_of a.unit a.own b.own) qs ≡ posted a.unit then.now (filter (is_of a.unit a.own b.own) ps) ms
+way_goes : {A B : Type 0} (law : LaneIsACell) (now then : Times) (a x : HalfOf A) (b y : HalfOf B) (ps qs : List Sent) (ms : List MessageOf) (ss : List LaneStepOf)
+    (h : BothWays now a b ps) → x.unit ≡ a.unit → x.own ≡ a.own → y.own ≡ b.own → filter (is_of a.unit a.own b.own) qs ≡ packets_with_messages a.unit then.now (filter (is_of a.unit a.own b.own) ps) ms
     → Comes now then a x b y ps ms h.asks.run.entries ss
     → LaneGoes a.unit a.own b.own (way_of now a b ps) (way_of then x y qs) ss h.asks.run
 way_goes law now then a x b y ps qs ms ss h unit own other is c =
@@ -149,16 +149,16 @@ way_goes law now then a x b y ps qs ms ss h unit own other is c =
     (λ z. refl)
 
 -- Both ways go on.
-pub ways_go : {A B : Type 0} (law : LaneIsACell) (now then : Times) (a x : HalfOf A) (b y : HalfOf B) (ps : List Sent) (ms ns : List MessageOf) (asked answered : List StepOf)
+pub ways_go : {A B : Type 0} (law : LaneIsACell) (now then : Times) (a x : HalfOf A) (b y : HalfOf B) (ps : List Sent) (ms ns : List MessageOf) (asked answered : List LaneStepOf)
     (h : BothWays now a b ps) → now.now ≤ then.now → AreSame a x b y
     → Comes now then a x b y ps ms h.asks.run.entries asked → Comes (turned_times now) (turned_times then) b y a x ps ns h.answers.run.entries answered
-    → WaysGo now then a x b y ps (posted b.unit then.now (posted a.unit then.now ps ms) ns) asked answered h
+    → WaysGo now then a x b y ps (packets_with_messages b.unit then.now (packets_with_messages a.unit then.now ps ms) ns) asked answered h
 ways_go law now then a x b y ps ms ns asked answered h later same c d =
     let differ : a.own ≢ b.own = h.ends.differ in
     let mine = sent_mine law now then a x b y ps ms asked h same c in
     let theirs = sent_mine law (turned_times now) (turned_times then) b y a x ps ns answered (turned now a b ps h)
     (record { unit = same.other_unit; own = same.other; peer = same.back; other_unit = same.unit; other = same.own; back = same.peer }) d in
-    let qs = posted b.unit then.now (posted a.unit then.now ps ms) ns in
+    let qs = packets_with_messages b.unit then.now (packets_with_messages a.unit then.now ps ms) ns in
     let there = way_goes law now then a x b y ps qs ms asked h same.unit same.own same.other
     (first_sorted a.unit b.unit then.now a.own b.own ps ms ns mine (sent_theirs b.unit a.unit b.own a.own (map (sent_at then.now) (all_packets b.unit ns)) (sym h.unit) (λ z. differ (sym z)) theirs)) c in
     let back = way_goes law (turned_times now) (turned_times then) b y a x ps qs ns answered (turned now a b ps h) same.other_unit same.other same.own

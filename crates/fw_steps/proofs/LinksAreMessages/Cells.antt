@@ -2,15 +2,15 @@
 use Rattle.std.proofs.Common.{◌≡◌, ◌∙◌, ℕ, ◌==◌, ◌&&◌, Bool, true, false, List, [], ◌∷◌, Option, Some, None, refl, sym, ap, subst, inl, inr}
 use Rattle.std.specs.Option.{option_map}
 use Rattle.std.proofs.lemmas.Bool.Decides.{eqb_tells}
-use Rattle.pldm_exch.specs.Caller.{Open, asking}
+use Rattle.pldm_exch.specs.Caller.{Open, request_of_open}
 use Rattle.exch_lane.specs.Cells.{Cell, same_bytes}
-use Rattle.exch_lane.specs.Laws.{awaited}
+use Rattle.exch_lane.specs.Laws.{awaited_request}
 use Rattle.fwup_wire.specs.Values.{CommandOf}
 use Rattle.fwup_wire.specs.Commands.{command_read}
-use Rattle.fw_message.specs.Pairs.{HeldOf, closed, closed_unless, is_wished}
+use Rattle.fw_message.specs.Pairs.{CellContentOf, cell_after_close, closed_unless, is_wished}
 use Rattle.fw_node.specs.Halves.{still_wished, wished_read}
 use Rattle.fw_node.specs.Halves.{is_wished as is_wished_there}
-use Rattle.fw_steps.specs.Joins.{IsAnsweredAs, IsAskedAs, IsFor, IsHeldFor, IsSaid, IsWishedIn, StandsFor, cell_kept, cell_unless}
+use Rattle.fw_steps.specs.Joins.{IsAnsweredAs, IsAskedAs, IsCommandFor, IsCellFor, DecodesToCommand, IsWishedIn, MatchesCell, cell_kept, cell_unless}
 use Rattle.fw_steps.proofs.LinksAreLanes.Routes.{both_hold}
 
 -- a node and a pair ask the same of a wish
@@ -19,26 +19,26 @@ same_wish c None = refl
 same_wish c (Some d) = refl
 
 -- whether an open request is still wished is whether its command is
-wished_as : (wish : Option CommandOf) (o : Open) (command : ℕ) (body : List ℕ) (c : CommandOf) → Some (command, body) ≡ Some (asking o) → IsSaid command body c
+wished_as : (wish : Option CommandOf) (o : Open) (command : ℕ) (body : List ℕ) (c : CommandOf) → Some (command, body) ≡ Some (request_of_open o) → DecodesToCommand command body c
     → still_wished wish o ≡ is_wished c wish
 wished_as wish o command body c e said =
-    let same : (command, body) ≡ asking o = cc in
+    let same : (command, body) ≡ request_of_open o = cc in
     ap (λ p. wished_read wish (command_read p.0 p.1)) (sym same) ∙ ap (wished_read wish) said.reads ∙ same_wish c wish
 
 -- the request of an asked cell is given up where its command isn't wished, and so is that of whole messages
-asked_kept : (wished : Bool) (command : ℕ) (body : List ℕ) (h : HeldOf) → IsAskedAs command body true h
-    → StandsFor (cell_kept wished (Cell.Asked command body true)) (Some (record h { live = h.live && wished }))
+asked_kept : (wished : Bool) (command : ℕ) (body : List ℕ) (h : CellContentOf) → IsAskedAs command body true h
+    → MatchesCell (cell_kept wished (Cell.Asked command body true)) (Some (record h { live = h.live && wished }))
 asked_kept true command body h k = record { said = k.said; reply = k.reply; live_is = rw k.live_is refl }
 asked_kept false command body h k = record { said = k.said; reply = k.reply; live_is = rw k.live_is refl }
 
-answered_kept : (wished : Bool) (command : ℕ) (body reply : List ℕ) (h : HeldOf) → IsAnsweredAs command body reply true h
-    → StandsFor (cell_kept wished (Cell.Answered command body reply true)) (Some (record h { live = h.live && wished }))
+answered_kept : (wished : Bool) (command : ℕ) (body reply : List ℕ) (h : CellContentOf) → IsAnsweredAs command body reply true h
+    → MatchesCell (cell_kept wished (Cell.Answered command body reply true)) (Some (record h { live = h.live && wished }))
 answered_kept true command body reply h k = record { said = k.said; answer = k.answer; reply_is = k.reply_is; reads = k.reads; live_is = rw k.live_is refl }
 answered_kept false command body reply h k = record { said = k.said; answer = k.answer; reply_is = k.reply_is; reads = k.reads; live_is = rw k.live_is refl }
 
 -- A lane's cell after its asker gave up what isn't wished stands for the cell of whole messages after its closing.
-pub gives_up : (wish : Option CommandOf) (o : Option Open) (cell : Cell) (held : Option HeldOf) → awaited cell ≡ option_map asking o → StandsFor cell held
-    → StandsFor (cell_unless wish o cell) (closed_unless wish held)
+pub gives_up : (wish : Option CommandOf) (o : Option Open) (cell : Cell) (held : Option CellContentOf) → awaited_request cell ≡ option_map request_of_open o → MatchesCell cell held
+    → MatchesCell (cell_unless wish o cell) (closed_unless wish held)
 gives_up wish None Cell.Empty None e k = tt
 gives_up wish (Some o) Cell.Empty None e k = absurd (cc)
 gives_up wish None (Cell.Asked command body true) (Some h) e k = absurd (cc)
@@ -58,7 +58,7 @@ wished_left : (live wished : Bool) → (live && wished) ≡ true → wished ≡ 
 wished_left true wished e = e
 wished_left false wished e = absurd (cc)
 
-pub left_wished : (wish : Option CommandOf) (held : Option HeldOf) → IsWishedIn (closed_unless wish held) wish
+pub left_wished : (wish : Option CommandOf) (held : Option CellContentOf) → IsWishedIn (closed_unless wish held) wish
 left_wished wish None = tt
 left_wished wish (Some h) = λ e. wished_left h.live (is_wished h.command wish) e
 
@@ -67,17 +67,17 @@ stays_by : (live wished : Bool) → (live ≡ true → wished ≡ true) → (liv
 stays_by true wished k = k refl
 stays_by false wished k = refl
 
-pub stays : (wish : Option CommandOf) (held : Option HeldOf) → IsWishedIn held wish → closed_unless wish held ≡ held
+pub stays : (wish : Option CommandOf) (held : Option CellContentOf) → IsWishedIn held wish → closed_unless wish held ≡ held
 stays wish None k = refl
 stays wish (Some h) k = rw (stays_by h.live (is_wished h.command wish) k) refl
 
 -- what is closed stays closed
-pub closed_stays : (wish : Option CommandOf) (own : Option HeldOf) → closed_unless wish (closed own) ≡ closed own
+pub closed_stays : (wish : Option CommandOf) (own : Option CellContentOf) → closed_unless wish (cell_after_close own) ≡ cell_after_close own
 closed_stays wish None = refl
 closed_stays wish (Some h) = refl
 
 -- whom a command is for stays
-pub still_for : (agent : Bool) (wish : Option CommandOf) (held : Option HeldOf) → IsHeldFor agent held → IsHeldFor agent (closed_unless wish held)
+pub still_for : (agent : Bool) (wish : Option CommandOf) (held : Option CellContentOf) → IsCellFor agent held → IsCellFor agent (closed_unless wish held)
 still_for agent wish None k = tt
 still_for agent wish (Some h) k = k
 
@@ -98,7 +98,7 @@ pub numbers_are : (m n : ℕ) → (m == n) ≡ true → m ≡ n
 numbers_are m n e = elim (eqb_tells m n) [ inl same ↦ same.1 | inr other ↦ absurd (let o = other.0 in cc) ]
 
 -- whom a command is for that is this one
-pub told_for : (agent : Bool) (c d : CommandOf) → Some c ≡ Some d → IsFor agent c → IsFor agent d
+pub told_for : (agent : Bool) (c d : CommandOf) → Some c ≡ Some d → IsCommandFor agent c → IsCommandFor agent d
 told_for agent c d e k =
     let same : c ≡ d = cc in
-    subst (λ x. IsFor agent x) same k
+    subst (λ x. IsCommandFor agent x) same k

@@ -4,9 +4,9 @@ use Rattle.std.specs.List.{All, AllByRecursion}
 use Rattle.std.proofs.lemmas.List.{append_assoc}
 use Rattle.std.proofs.lemmas.List.Elements.{All-head, All-tail}
 use Rattle.fw_package.specs.Package.{PackageText}
-use Rattle.fw_message.specs.Names.{HasName, IsNamed}
+use Rattle.fw_message.specs.Names.{HasName, IsNamedStep}
 use Rattle.fw_message.specs.Pairs.{StepOf}
-use Rattle.fw_message.specs.Worlds.{NodeOf, NotedOf, WorldOf, WorldStepOf, node_at, noted_of, world_along}
+use Rattle.fw_message.specs.Worlds.{NodeOf, NotedOf, MessageWorldOf, WorldStepOf, node_at, noted_of, world_along}
 use Rattle.fw_message.specs.declared.side.Side.TheVariants as sides
 use Rattle.fw_message.proofs.Apart.{absent_more}
 use Rattle.fw_message.proofs.Safety.Worlds.{along_append}
@@ -43,11 +43,11 @@ away_all [] = tt
 away_all (eid ∷ eids) = (refl, away_all eids)
 
 -- the world of messages with these nodes and this history
-abbrev pub nodes_in : WorldOf → List NodeOf → List NotedOf → WorldOf
+abbrev pub nodes_in : MessageWorldOf → List NodeOf → List NotedOf → MessageWorldOf
 nodes_in w ns history = record w { nodes = ns; history = history }
 
 -- the front grew by one
-moved_on : (w : WorldOf) (front : List NodeOf) (n : NodeOf) (ns : List NodeOf) (history : List NotedOf) → nodes_in w ((front ++ n ∷ []) ++ ns) history ≡ nodes_in w (front ++ n ∷ ns) history
+moved_on : (w : MessageWorldOf) (front : List NodeOf) (n : NodeOf) (ns : List NodeOf) (history : List NotedOf) → nodes_in w ((front ++ n ∷ []) ++ ns) history ≡ nodes_in w (front ++ n ∷ ns) history
 moved_on w front n ns history = ap (λ xs. nodes_in w xs history) (append_assoc front (n ∷ []) ns)
 
 -- a step of a link that isn't a restart of the agent, which is one of all links
@@ -60,27 +60,27 @@ named_alone : (s : LinkStep) (steps : List StepOf) → IsAlone s → AreStepsOf 
 named_alone (LinkStep.Restart sides.Agent) steps alone k = absurd alone
 named_alone s steps alone k = k
 
-named_among : (eid : ℕ) (steps : List StepOf) → AllByRecursion HasName steps → AllByRecursion IsNamed (map (WorldStepOf.OfPair eid) steps)
+named_among : (eid : ℕ) (steps : List StepOf) → AllByRecursion HasName steps → AllByRecursion IsNamedStep (map (WorldStepOf.OfPair eid) steps)
 named_among eid [] k = tt
 named_among eid (s ∷ steps) k = (k.0, named_among eid steps k.1)
 
 -- ONE LINK
 
 -- one link took a step, and its pair went along; all others stay
-pub record OneGone (packages : List PackageText) (now : ℕ) (s : LinkStep) (w : WorldOf) (front ns : List NodeOf) (ls : List LinkOf) (place : ℕ) (l : LinkOf) (history : List NotedOf) : Type 0 where
+pub record OneGone (packages : List PackageText) (now : ℕ) (s : LinkStep) (w : MessageWorldOf) (front ns : List NodeOf) (ls : List LinkOf) (place : ℕ) (l : LinkOf) (history : List NotedOf) : Type 0 where
   pub stepped : LinkStepped
   pub after : link_after now packages l s ≡ Some stepped
   pub eid : ℕ
   pub is_eid : slice_get (map eid_of ns) place ≡ Some eid
   pub steps : List WorldStepOf
-  pub named : AllByRecursion IsNamed steps
+  pub named : AllByRecursion IsNamedStep steps
   pub nodes : List NodeOf
   pub along : world_along (Some (nodes_in w (front ++ ns) history)) steps ≡ Some (nodes_in w (front ++ nodes) (history ++ map (noted_of eid) stepped.noted))
   pub stand : AllStand packages now (slice_set ls place stepped.after) nodes
   pub same : map eid_of nodes ≡ map eid_of ns
 
 -- the first
-one_here : (now : ℕ) (s : LinkStep) (w : WorldOf) (front : List NodeOf) (n : NodeOf) (ns : List NodeOf) (l : LinkOf) (ls : List LinkOf) (history : List NotedOf) → IsAlone s → time_after now s ≡ now → node_at front n.eid ≡ None
+one_here : (now : ℕ) (s : LinkStep) (w : MessageWorldOf) (front : List NodeOf) (n : NodeOf) (ns : List NodeOf) (l : LinkOf) (ls : List LinkOf) (history : List NotedOf) → IsAlone s → time_after now s ≡ now → node_at front n.eid ≡ None
     → AllStand w.packages now ls ns → StandsOn w.packages now l s n.pair → OneGone w.packages now s w front (n ∷ ns) (l ∷ ls) zero l history
 one_here now s w front n ns l ls history alone is away stand on = record {
   stepped = on.stepped;
@@ -96,7 +96,7 @@ one_here now s w front n ns l ls history alone is away stand on = record {
 }
 
 -- one behind it
-one_there : (now : ℕ) (s : LinkStep) (w : WorldOf) (front : List NodeOf) (n : NodeOf) (ns : List NodeOf) (x : LinkOf) (ls : List LinkOf) (place : ℕ) (l : LinkOf) (history : List NotedOf)
+one_there : (now : ℕ) (s : LinkStep) (w : MessageWorldOf) (front : List NodeOf) (n : NodeOf) (ns : List NodeOf) (x : LinkOf) (ls : List LinkOf) (place : ℕ) (l : LinkOf) (history : List NotedOf)
     → Stands w.packages now x n.pair → OneGone w.packages now s w (front ++ n ∷ []) ns ls place l history → OneGone w.packages now s w front (n ∷ ns) (x ∷ ls) (suc place) l history
 one_there now s w front n ns x ls place l history here g = record {
   stepped = g.stepped;
@@ -111,7 +111,7 @@ one_there now s w front n ns x ls place l history here g = record {
   same = ap (λ es. n.eid ∷ es) g.same;
 }
 
-one_from : (now : ℕ) (s : LinkStep) (w : WorldOf) (front ns : List NodeOf) (ls : List LinkOf) (place : ℕ) (l : LinkOf) (history : List NotedOf) → IsAlone s → time_after now s ≡ now
+one_from : (now : ℕ) (s : LinkStep) (w : MessageWorldOf) (front ns : List NodeOf) (ls : List LinkOf) (place : ℕ) (l : LinkOf) (history : List NotedOf) → IsAlone s → time_after now s ≡ now
     → AreAway front (map eid_of ns) → AreDifferent (map eid_of ns) → AllStand w.packages now ls ns → slice_get ls place ≡ Some l → ((n : NodeOf) → Stands w.packages now l n.pair → StandsOn w.packages now l s n.pair)
     → OneGone w.packages now s w front ns ls place l history
 one_from now s w front [] [] place l history alone is away apart stand e go = absurd (cc)
@@ -126,7 +126,7 @@ one_from now s w front [] (x ∷ ls) place l history alone is away apart stand e
 one_from now s w front (n ∷ ns) [] place l history alone is away apart stand e go = absurd stand
 
 -- One link of many takes a step that takes no time.
-pub one_goes : (now : ℕ) (s : LinkStep) (w : WorldOf) (ls : List LinkOf) (place : ℕ) (l : LinkOf) → IsAlone s → time_after now s ≡ now
+pub one_goes : (now : ℕ) (s : LinkStep) (w : MessageWorldOf) (ls : List LinkOf) (place : ℕ) (l : LinkOf) → IsAlone s → time_after now s ≡ now
     → AreDifferent (map eid_of w.nodes) → AllStand w.packages now ls w.nodes → slice_get ls place ≡ Some l → ((n : NodeOf) → Stands w.packages now l n.pair → StandsOn w.packages now l s n.pair)
     → OneGone w.packages now s w [] w.nodes ls place l w.history
 one_goes now s w ls place l alone is apart stand e go = one_from now s w [] w.nodes ls place l w.history alone is (away_all (map eid_of w.nodes)) apart stand e go
@@ -147,11 +147,11 @@ abbrev pub notes_of : List ℕ → List LinkStepped → List NotedOf
 notes_of (eid ∷ eids) (t ∷ ts) = map (noted_of eid) t.noted ++ notes_of eids ts
 notes_of eids ts = []
 
-pub record AllGone (packages : List PackageText) (now then : ℕ) (s : LinkOf → LinkStep) (w : WorldOf) (front ns : List NodeOf) (ls : List LinkOf) (history : List NotedOf) : Type 0 where
+pub record AllGone (packages : List PackageText) (now then : ℕ) (s : LinkOf → LinkStep) (w : MessageWorldOf) (front ns : List NodeOf) (ls : List LinkOf) (history : List NotedOf) : Type 0 where
   pub stepped : List LinkStepped
   pub after : AllAfter packages now s ls stepped
   pub steps : List WorldStepOf
-  pub named : AllByRecursion IsNamed steps
+  pub named : AllByRecursion IsNamedStep steps
   pub nodes : List NodeOf
   pub along : world_along (Some (nodes_in w (front ++ ns) history)) steps ≡ Some (nodes_in w (front ++ nodes) (history ++ notes_of (map eid_of ns) stepped))
   pub stand : AllStand packages then (map link_of stepped) nodes
@@ -162,14 +162,14 @@ abbrev pub AllMay : List PackageText → (now : ℕ) → (LinkOf → LinkStep) �
 AllMay packages now s [] = Unit {0}
 AllMay packages now s (l ∷ ls) = ((n : NodeOf) → Stands packages now l n.pair → StandsOn packages now l (s l) n.pair) × AllMay packages now s ls
 
-all_more : (now then : ℕ) (s : LinkOf → LinkStep) (w : WorldOf) (front : List NodeOf) (n : NodeOf) (ns : List NodeOf) (l : LinkOf) (ls : List LinkOf) (history : List NotedOf) → IsAlone (s l) → time_after now (s l) ≡ then → node_at front n.eid ≡ None
+all_more : (now then : ℕ) (s : LinkOf → LinkStep) (w : MessageWorldOf) (front : List NodeOf) (n : NodeOf) (ns : List NodeOf) (l : LinkOf) (ls : List LinkOf) (history : List NotedOf) → IsAlone (s l) → time_after now (s l) ≡ then → node_at front n.eid ≡ None
     → (on : StandsOn w.packages now l (s l) n.pair) → AllGone w.packages now then s w (front ++ node_of n.eid on.pair ∷ []) ns ls (history ++ map (noted_of n.eid) on.stepped.noted)
     → AllGone w.packages now then s w front (n ∷ ns) (l ∷ ls) history
 all_more now then s w front n ns l ls history alone time away on g = record {
   stepped = on.stepped ∷ g.stepped;
   after = (on.after, g.after);
   steps = map (WorldStepOf.OfPair n.eid) on.steps ++ g.steps;
-  named = all_along IsNamed (map (WorldStepOf.OfPair n.eid) on.steps) g.steps (named_among n.eid on.steps (named_alone (s l) on.steps alone on.named)) g.named;
+  named = all_along IsNamedStep (map (WorldStepOf.OfPair n.eid) on.steps) g.steps (named_among n.eid on.steps (named_alone (s l) on.steps alone on.named)) g.named;
   nodes = node_of n.eid on.pair ∷ g.nodes;
   along =
       let noted = history ++ map (noted_of n.eid) on.stepped.noted in
@@ -185,7 +185,7 @@ all_more now then s w front n ns l ls history alone time away on g = record {
   same = ap (λ es. n.eid ∷ es) g.same;
 }
 
-all_from : (now then : ℕ) (s : LinkOf → LinkStep) (w : WorldOf) (front ns : List NodeOf) (ls : List LinkOf) (history : List NotedOf) → ((l : LinkOf) → IsAlone (s l)) → ((l : LinkOf) → time_after now (s l) ≡ then)
+all_from : (now then : ℕ) (s : LinkOf → LinkStep) (w : MessageWorldOf) (front ns : List NodeOf) (ls : List LinkOf) (history : List NotedOf) → ((l : LinkOf) → IsAlone (s l)) → ((l : LinkOf) → time_after now (s l) ≡ then)
     → AreAway front (map eid_of ns) → AreDifferent (map eid_of ns) → AllStand w.packages now ls ns → AllMay w.packages now s ls
     → AllGone w.packages now then s w front ns ls history
 all_from now then s w front [] [] history alone time away apart stand may = record {
@@ -207,6 +207,6 @@ all_from now then s w front [] (l ∷ ls) history alone time away apart stand ma
 all_from now then s w front (n ∷ ns) [] history alone time away apart stand may = absurd stand
 
 -- Each link takes a step of its own, all in the same time.
-pub all_go : (now then : ℕ) (s : LinkOf → LinkStep) (w : WorldOf) (ls : List LinkOf) → ((l : LinkOf) → IsAlone (s l)) → ((l : LinkOf) → time_after now (s l) ≡ then) → AreDifferent (map eid_of w.nodes) → AllStand w.packages now ls w.nodes → AllMay w.packages now s ls
+pub all_go : (now then : ℕ) (s : LinkOf → LinkStep) (w : MessageWorldOf) (ls : List LinkOf) → ((l : LinkOf) → IsAlone (s l)) → ((l : LinkOf) → time_after now (s l) ≡ then) → AreDifferent (map eid_of w.nodes) → AllStand w.packages now ls w.nodes → AllMay w.packages now s ls
     → AllGone w.packages now then s w [] w.nodes ls w.history
 all_go now then s w ls alone time apart stand may = all_from now then s w [] w.nodes ls w.history alone time (away_all (map eid_of w.nodes)) apart stand may

@@ -3,23 +3,23 @@ use Rattle.std.proofs.Common.{◌≡◌, ◌∙◌, ℕ, ◌==◌, not, Bool, tr
 use Rattle.std.specs.Option.{option_map}
 use Rattle.mctp_wire.specs.declared.unit.Unit.{«Unit»}
 use Rattle.mctp_reasm.specs.Held.{Held}
-use Rattle.mctp_reasm.specs.Inboxes.{fed_at, held_with, packet_for}
+use Rattle.mctp_reasm.specs.Inboxes.{feed_outcome_at, held_with, packet_for}
 use Rattle.mctp_reasm.specs.Pieces.{MessageOf, PacketOf}
 use Rattle.mctp_reasm.specs.declared.outcomes.Fed.{Fed}
 use Rattle.mctp_reasm.specs.declared.outcomes.Fed.TheVariants as outcomes
-use Rattle.pldm_exch.specs.Caller.{CallerState, Heard, Open, answer_body, answer_heard, asking, closed_by, heard_as, is_quiet}
+use Rattle.pldm_exch.specs.Caller.{CallerState, ReplyInOf, Open, answer_body, answer_outcome, request_of_open, closed_by, answer_outcome_for, is_quiet}
 use Rattle.pldm_exch.specs.Ends.{AskerOf}
 use Rattle.pldm_exch.specs.Sides.{AskerRow, TakerRow, asker_answered, asker_fed, asker_packet, asker_row}
-use Rattle.exch_lane.specs.Cells.{Cell, CellRun, cell_at_asker, cell_learn, cells_along, learn_in, same_bytes, turned_by}
-use Rattle.exch_lane.specs.Lanes.{EntryOf, LaneOf}
-use Rattle.exch_lane.specs.Laws.{awaited}
+use Rattle.exch_lane.specs.Cells.{Cell, CellRun, cell_at_asker, cell_learn, cells_along, learn_in, same_bytes, cell_run_with_entry}
+use Rattle.exch_lane.specs.Lanes.{LaneEntryOf, LaneOf}
+use Rattle.exch_lane.specs.Laws.{awaited_request}
 use Rattle.fw_package.specs.Package.{PackageText}
 use Rattle.fwup_wire.specs.Answers.{answer_in, answer_read, ok_or_malformed}
 use Rattle.fwup_wire.specs.Values.{AnswerOf, CommandOf}
 use Rattle.fw_message.specs.History.{EntryOf as NoteOf}
-use Rattle.fw_message.specs.Pairs.{HeldOf, PairOf}
-use Rattle.fw_node.specs.Halves.{CoreOf, HalfHeard, HalfOf, half_hears_by, settled}
-use Rattle.fw_steps.specs.Joins.{IsHeldFor, IsWishedIn, StandsFor}
+use Rattle.fw_message.specs.Pairs.{CellContentOf, PairOf}
+use Rattle.fw_node.specs.Halves.{CoreOf, HalfOutcome, HalfOf, half_on_rows, half_after_settle}
+use Rattle.fw_steps.specs.Joins.{IsCellFor, IsWishedIn, MatchesCell}
 use Rattle.fw_steps.specs.Lanes.{learn_steps, settle_steps}
 use Rattle.fw_steps.proofs.LinksAreMessages.Cells.{bytes_are}
 use Rattle.fw_steps.proofs.LinksAreMessages.Holding.{Holds, holds_still, settled_cell, unless_empty, went}
@@ -29,7 +29,7 @@ use Rattle.fw_steps.proofs.LinksAreMessages.Sides.{PairLeads, Notes, Place, Side
 -- WHAT IS HEARD ANSWERS WHAT IS OPEN
 
 -- what a row brings is the answer to the open request
-pub record Answers (o : Option (ℕ × List ℕ)) (heard : Heard) : Type 0 where
+pub record Answers (o : Option (ℕ × List ℕ)) (heard : ReplyInOf) : Type 0 where
   pub body : List ℕ
   pub is : o ≡ Some (heard.command, body)
 
@@ -37,65 +37,65 @@ abbrev pub RowAnswers : AskerRow → Option (ℕ × List ℕ) → Type 0
 RowAnswers (AskerRow.Ignores replies) o = Prim.Unit {0}
 RowAnswers (AskerRow.Learns replies caller heard) o = Answers o heard
 
-abbrev HeardAnswers : Option Heard → Option (ℕ × List ℕ) → Type 0
+abbrev HeardAnswers : Option ReplyInOf → Option (ℕ × List ℕ) → Type 0
 HeardAnswers None o = Prim.Unit {0}
 HeardAnswers (Some heard) o = Answers o heard
 
-closed_answers : (c : CallerState) (o : Open) (body : Option (List ℕ)) → HeardAnswers (closed_by c o body).1 (Some (asking o))
+closed_answers : (c : CallerState) (o : Open) (body : Option (List ℕ)) → HeardAnswers (closed_by c o body).1 (Some (request_of_open o))
 closed_answers c o None = tt
-closed_answers c o (Some body) = record { body = (asking o).1; is = refl }
+closed_answers c o (Some body) = record { body = (request_of_open o).1; is = refl }
 
-heard_answers : (c : CallerState) (o : Option Open) (m : MessageOf) → HeardAnswers (heard_as c o m).1 (option_map asking o)
+heard_answers : (c : CallerState) (o : Option Open) (m : MessageOf) → HeardAnswers (answer_outcome_for c o m).1 (option_map request_of_open o)
 heard_answers c None m = tt
 heard_answers c (Some o) m = closed_answers c o (answer_body o m)
 
-answered_row : (replies : List (Option Held)) (caller : CallerState) (heard : Option Heard) (o : Option (ℕ × List ℕ)) → HeardAnswers heard o → RowAnswers (asker_answered replies caller heard) o
+answered_row : (replies : List (Option Held)) (caller : CallerState) (heard : Option ReplyInOf) (o : Option (ℕ × List ℕ)) → HeardAnswers heard o → RowAnswers (asker_answered replies caller heard) o
 answered_row replies caller None o k = tt
 answered_row replies caller (Some heard) o k = k
 
-fed_row : (replies : List (Option Held)) (caller : CallerState) (f : Fed) → RowAnswers (asker_fed replies caller f) (option_map asking caller.asked)
+fed_row : (replies : List (Option Held)) (caller : CallerState) (f : Fed) → RowAnswers (asker_fed replies caller f) (option_map request_of_open caller.asked)
 fed_row replies caller (outcomes.Whole m) =
-    answered_row replies (answer_heard caller m).0 (answer_heard caller m).1 (option_map asking caller.asked) (heard_answers caller caller.asked m)
+    answered_row replies (answer_outcome caller m).0 (answer_outcome caller m).1 (option_map request_of_open caller.asked) (heard_answers caller caller.asked m)
 fed_row replies caller outcomes.Open = tt
 fed_row replies caller (outcomes.Dropped cause) = tt
 
-packet_row : (u : «Unit») (a : AskerOf) (p : Option PacketOf) → RowAnswers (asker_packet u a p) (option_map asking a.caller.asked)
+packet_row : (u : «Unit») (a : AskerOf) (p : Option PacketOf) → RowAnswers (asker_packet u a p) (option_map request_of_open a.caller.asked)
 packet_row u a None = tt
-packet_row u a (Some p) = fed_row (held_with u a.replies p) a.caller (fed_at u a.replies p)
+packet_row u a (Some p) = fed_row (held_with u a.replies p) a.caller (feed_outcome_at u a.replies p)
 
-hearing_row : (u : «Unit») (hears : Bool) (a : AskerOf) (p : Option PacketOf) → RowAnswers (if hears then asker_packet u a p else AskerRow.Ignores a.replies) (option_map asking a.caller.asked)
+hearing_row : (u : «Unit») (hears : Bool) (a : AskerOf) (p : Option PacketOf) → RowAnswers (if hears then asker_packet u a p else AskerRow.Ignores a.replies) (option_map request_of_open a.caller.asked)
 hearing_row u true a p = packet_row u a p
 hearing_row u false a p = tt
 
-pub row_answers : (u : «Unit») (own peer : ℕ) (a : AskerOf) (bytes : List ℕ) → RowAnswers (asker_row u own peer a bytes) (option_map asking a.caller.asked)
+pub row_answers : (u : «Unit») (own peer : ℕ) (a : AskerOf) (bytes : List ℕ) → RowAnswers (asker_row u own peer a bytes) (option_map request_of_open a.caller.asked)
 row_answers u own peer a bytes = hearing_row u (a.deaf == 0) a (packet_for u own peer false bytes)
 
 -- A HALF THAT HEARD
 
 -- what another half asks, in its cell
-pub record Others (agent : Bool) (wish : Option CommandOf) (cell : Cell) (held : Option HeldOf) : Type 0 where
-  pub stands : StandsFor cell held
+pub record Others (agent : Bool) (wish : Option CommandOf) (cell : Cell) (held : Option CellContentOf) : Type 0 where
+  pub stands : MatchesCell cell held
   pub wished : IsWishedIn held wish
-  pub is_for : IsHeldFor agent held
+  pub is_for : IsCellFor agent held
 
-pub others_still : (agent : Bool) (wish : Option CommandOf) (run last : CellRun) (held : Option HeldOf) → Some run ≡ Some last → Others agent wish run.cell held → Others agent wish last.cell held
+pub others_still : (agent : Bool) (wish : Option CommandOf) (run last : CellRun) (held : Option CellContentOf) → Some run ≡ Some last → Others agent wish run.cell held → Others agent wish last.cell held
 others_still agent wish run last held e k =
     let same : run ≡ last = cc in
     subst (λ r. Others agent wish r.cell held) same k
 
 -- what was heard is this half, with these entries
-abbrev pub IsHeardAs : {C : Type 0} → Notes C → C → (quiet works : Bool) → HalfHeard C → HalfOf C → List NoteOf → Type 0
-IsHeardAs notes x quiet works (HalfHeard.Went half sent) h es = (half ≡ h) × (es ≡ [])
-IsHeardAs notes x quiet works (HalfHeard.Took half sent command answer) h es = (half ≡ h) × (es ≡ notes x command quiet works)
+abbrev pub IsHeardAs : {C : Type 0} → Notes C → C → (quiet works : Bool) → HalfOutcome C → HalfOf C → List NoteOf → Type 0
+IsHeardAs notes x quiet works (HalfOutcome.Went half sent) h es = (half ≡ h) × (es ≡ [])
+IsHeardAs notes x quiet works (HalfOutcome.Took half sent command answer) h es = (half ≡ h) × (es ≡ notes x command quiet works)
 IsHeardAs notes x quiet works heard h es = ⊥
 
 -- What a half heard is steps of its pair.
 pub record HeardGoes {C : Type 0} (packages : List PackageText) (core : CoreOf C) (agent : Bool) (place : Place C) (peer_wish : Option CommandOf) (notes : Notes C)
-    (m : PairOf) (x : C) (quiet works : Bool) (heard : HalfHeard C) (cell other_cell : Cell) : Type 0 where
+    (m : PairOf) (x : C) (quiet works : Bool) (heard : HalfOutcome C) (cell other_cell : Cell) : Type 0 where
   pub half : HalfOf C
   pub es : List NoteOf
-  pub own : Option HeldOf
-  pub other : Option HeldOf
+  pub own : Option CellContentOf
+  pub other : Option CellContentOf
   pub is : IsHeardAs notes x quiet works heard half es
   pub leads : PairLeads packages m es (place half.core own other)
   pub holds : Holds core agent half.core cell own
@@ -103,8 +103,8 @@ pub record HeardGoes {C : Type 0} (packages : List PackageText) (core : CoreOf C
   pub deaf : IsOneDeaf half
 
 -- A reply in a cell: it is the answer that the pair's cell holds.
-record Learnt (own : Option HeldOf) (heard : Heard) (after : CellRun) : Type 0 where
-  held : HeldOf
+record Learnt (own : Option CellContentOf) (heard : ReplyInOf) (after : CellRun) : Type 0 where
+  held : CellContentOf
   answer : AnswerOf
   own_is : own ≡ Some held
   live : held.live ≡ true
@@ -112,15 +112,15 @@ record Learnt (own : Option HeldOf) (heard : Heard) (after : CellRun) : Type 0 w
   reads : answer_in heard.command heard.reply ≡ Some answer
   cell : after.cell ≡ Cell.Empty
 
-learnt_if : (same : Bool) (run after : CellRun) (entry : EntryOf) → (if same then turned_by run Cell.Empty entry else None) ≡ Some after → (same ≡ true) × (after.cell ≡ Cell.Empty)
+learnt_if : (same : Bool) (run after : CellRun) (entry : LaneEntryOf) → (if same then cell_run_with_entry run Cell.Empty entry else None) ≡ Some after → (same ≡ true) × (after.cell ≡ Cell.Empty)
 learnt_if true run after entry e =
     let is : ◌≡◌ {A = CellRun} (record { cell = Cell.Empty; entries = run.entries ++ entry ∷ [] }) after = cc in
     (refl, sym (ap (λ r. r.cell) is))
 learnt_if false run after entry e = absurd (cc)
 
-learns_from : (run after : CellRun) (heard : Heard) (cell : Cell) (own : Option HeldOf) → StandsFor cell own → Answers (awaited cell) heard → learn_in run heard.reply cell ≡ Some after → Learnt own heard after
+learns_from : (run after : CellRun) (heard : ReplyInOf) (cell : Cell) (own : Option CellContentOf) → MatchesCell cell own → Answers (awaited_request cell) heard → learn_in run heard.reply cell ≡ Some after → Learnt own heard after
 learns_from run after heard (Cell.Answered command body reply true) (Some h) k o e =
-    let l = learnt_if (same_bytes heard.reply reply) run after (EntryOf.Learnt heard.reply) e in
+    let l = learnt_if (same_bytes heard.reply reply) run after (LaneEntryOf.Learnt heard.reply) e in
     let bytes : heard.reply ≡ reply = bytes_are heard.reply reply l.0 in
     let there = o.is in
     let pair : ◌≡◌ {A = ℕ × List ℕ} (command, body) (heard.command, o.body) = cc in
@@ -140,7 +140,7 @@ learns_from run after heard Cell.Empty own k o e = absurd (cc)
 learns_from run after heard (Cell.Answered command body reply true) None k o e = absurd k
 
 learns_by : {C : Type 0} {packages : List PackageText} {core : CoreOf C} {agent : Bool} {place : Place C} {peer_wish : Option CommandOf} {notes : Notes C} (side : Sided packages core agent place peer_wish notes)
-    (works : Bool) (x : C) (heard : Heard) (own other : Option HeldOf) (after : CellRun) → IsWishedIn other peer_wish → Learnt own heard after
+    (works : Bool) (x : C) (heard : ReplyInOf) (own other : Option CellContentOf) (after : CellRun) → IsWishedIn other peer_wish → Learnt own heard after
     → PairLeads packages (place x own other) [] (place (core.learn x (answer_read heard.command heard.reply) works) None other)
 learns_by {C} {packages} {core} {agent} {place} side works x heard own other after k l =
     rw (l.own_is, ap ok_or_malformed l.reads) (side.learn x l.held l.answer works other k l.live l.reply)
@@ -150,10 +150,10 @@ empty_holds core agent x cell e = rw e (record { stands = tt; wished = tt; is_fo
 
 -- A packet at a half, in the lane in which it asks.
 pub hears_reply : {C : Type 0} {packages : List PackageText} {core : CoreOf C} {agent : Bool} {place : Place C} {peer_wish : Option CommandOf} {notes : Notes C} (side : Sided packages core agent place peer_wish notes)
-    (works : Bool) (h : HalfOf C) (row : AskerRow) (own other : Option HeldOf) (w : LaneOf) (run last other_run other_last : CellRun)
-    → Holds core agent h.core run.cell own → Others (not agent) peer_wish other_run.cell other → IsOneDeaf h → RowAnswers row (awaited run.cell)
+    (works : Bool) (h : HalfOf C) (row : AskerRow) (own other : Option CellContentOf) (w : LaneOf) (run last other_run other_last : CellRun)
+    → Holds core agent h.core run.cell own → Others (not agent) peer_wish other_run.cell other → IsOneDeaf h → RowAnswers row (awaited_request run.cell)
     → cells_along w (learn_steps core works h row) (cell_at_asker row run) ≡ Some last → Some other_run ≡ Some other_last
-    → HeardGoes packages core agent place peer_wish notes (place h.core own other) h.core (is_quiet h.asker.caller) works (half_hears_by core works h row (TakerRow.Silent h.taker.requests)) last.cell other_last.cell
+    → HeardGoes packages core agent place peer_wish notes (place h.core own other) h.core (is_quiet h.asker.caller) works (half_on_rows core works h row (TakerRow.Silent h.taker.requests)) last.cell other_last.cell
 hears_reply {C} {packages} {core} {agent} {place} {peer_wish} side works h (AskerRow.Ignores replies) own other w run last other_run other_last holds theirs deaf answers e f = record {
   half = record h { asker = record h.asker { replies = replies } };
   es = [];
@@ -171,7 +171,7 @@ hears_reply {C} {packages} {core} {agent} {place} {peer_wish} side works h (Aske
     let l = learns_from run on.run heard run.cell own holds.stands answers on.is in
     let cell = settled_cell (core.wish x) caller.asked w on.run last (ap (cells_along w (settle_steps core caller.asked x)) (sym on.is) ∙ e) in
     record {
-      half = settled core (record h { core = x; asker = record h.asker { caller = caller; replies = replies } });
+      half = half_after_settle core (record h { core = x; asker = record h.asker { caller = caller; replies = replies } });
       es = [];
       own = None;
       other = other;

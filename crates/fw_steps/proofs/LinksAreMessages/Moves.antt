@@ -2,25 +2,25 @@
 use Rattle.std.proofs.Common.{◌≡◌, ◌∙◌, ℕ, List, [], ◌∷◌, ◌++◌, map, slice_get, slice_set, Option, Some, refl, sym, ap, subst}
 use Rattle.std.specs.List.{AllByRecursion}
 use Rattle.fw_package.specs.Package.{PackageText}
-use Rattle.fw_message.specs.Names.{IsNamed}
-use Rattle.fw_message.specs.Worlds.{NotedOf, WorldOf, WorldStepOf, noted_of, world_along}
+use Rattle.fw_message.specs.Names.{IsNamedStep}
+use Rattle.fw_message.specs.Worlds.{NotedOf, MessageWorldOf, WorldStepOf, noted_of, world_along}
 use Rattle.fw_steps.specs.Headline.{AreDifferent}
 use Rattle.fw_steps.specs.LinksAreMessages.{LinksAreMessages}
-use Rattle.fw_steps.specs.LinksAreLanes.{CanBeSaid, LinksAreLanes, MayHappen}
+use Rattle.fw_steps.specs.LinksAreLanes.{LinkStepRoundTrips, LinksAreLanes, MayHappen}
 use Rattle.fw_steps.specs.Links.{LinkOf, LinkStep, LinkStepped, link_after, time_after}
 use Rattle.fw_steps.proofs.LinksAreMessages.Each.{AllAfter, AllMay, AllStand, IsAlone, all_go, eid_of, link_of, nodes_in, notes_of, one_goes}
 use Rattle.fw_steps.proofs.LinksAreMessages.Stands.{stands_on}
 
 -- Each link stands with the pair in its place, and no identifier stands twice.
-pub record WorldStands (now : ℕ) (ls : List LinkOf) (v : WorldOf) : Type 0 where
+pub record WorldStands (now : ℕ) (ls : List LinkOf) (v : MessageWorldOf) : Type 0 where
   pub stand : AllStand v.packages now ls v.nodes
   pub apart : AreDifferent (map eid_of v.nodes)
 
 -- The world of messages goes along: it stands for these links then, and this is added to its history.
-pub record MovesOn (now : ℕ) (ls : List LinkOf) (notes : List NotedOf) (v : WorldOf) : Type 0 where
+pub record MovesOn (now : ℕ) (ls : List LinkOf) (notes : List NotedOf) (v : MessageWorldOf) : Type 0 where
   pub steps : List WorldStepOf
-  pub named : AllByRecursion IsNamed steps
-  pub after : WorldOf
+  pub named : AllByRecursion IsNamedStep steps
+  pub after : MessageWorldOf
   pub along : world_along (Some v) steps ≡ Some after
   pub packages : after.packages ≡ v.packages
   pub agent : after.agent ≡ v.agent
@@ -44,9 +44,9 @@ one_eid : (o : Option ℕ) (x y : ℕ) → o ≡ Some x → o ≡ Some y → x �
 one_eid o x y e f = cc
 
 -- One link takes a step that takes no time.
-pub one_moves : LinksAreLanes → LinksAreMessages → (now : ℕ) (v : WorldOf) (ls : List LinkOf) (place : ℕ) (l : LinkOf) (s : LinkStep) (t : LinkStepped) (eid : ℕ)
+pub one_moves : LinksAreLanes → LinksAreMessages → (now : ℕ) (v : MessageWorldOf) (ls : List LinkOf) (place : ℕ) (l : LinkOf) (s : LinkStep) (t : LinkStepped) (eid : ℕ)
     → WorldStands now ls v → slice_get ls place ≡ Some l → slice_get (map eid_of v.nodes) place ≡ Some eid → time_after now s ≡ now → IsAlone s
-    → MayHappen now v.packages l s → CanBeSaid v.packages l s → link_after now v.packages l s ≡ Some t
+    → MayHappen now v.packages l s → LinkStepRoundTrips v.packages l s → link_after now v.packages l s ≡ Some t
     → MovesOn now (slice_set ls place t.after) (map (noted_of eid) t.noted) v
 one_moves lanes messages now v ls place l s t eid stands is at time alone may said after =
     let g = one_goes now s v ls place l alone time stands.apart stands.stand is (λ n here. stands_on lanes messages now v.packages l s n.pair here may said) in
@@ -70,7 +70,7 @@ one_moves lanes messages now v ls place l s t eid stands is at time alone may sa
 -- each link can take the step
 abbrev pub AllMayHappen : (now : ℕ) → List PackageText → (LinkOf → LinkStep) → List LinkOf → Type 0
 AllMayHappen now packages s [] = Unit {0}
-AllMayHappen now packages s (l ∷ ls) = MayHappen now packages l (s l) × CanBeSaid packages l (s l) × AllMayHappen now packages s ls
+AllMayHappen now packages s (l ∷ ls) = MayHappen now packages l (s l) × LinkStepRoundTrips packages l (s l) × AllMayHappen now packages s ls
 
 pub all_may : LinksAreLanes → LinksAreMessages → (now : ℕ) (packages : List PackageText) (s : LinkOf → LinkStep) (ls : List LinkOf) → AllMayHappen now packages s ls → AllMay packages now s ls
 all_may lanes messages now packages s [] may = tt
@@ -80,7 +80,7 @@ all_may lanes messages now packages s (l ∷ ls) may = (
 )
 
 -- All links take a step.
-pub all_move : LinksAreLanes → LinksAreMessages → (now then : ℕ) (v : WorldOf) (ls : List LinkOf) (s : LinkOf → LinkStep) (ts : List LinkStepped) → ((l : LinkOf) → IsAlone (s l)) → ((l : LinkOf) → time_after now (s l) ≡ then) → WorldStands now ls v
+pub all_move : LinksAreLanes → LinksAreMessages → (now then : ℕ) (v : MessageWorldOf) (ls : List LinkOf) (s : LinkOf → LinkStep) (ts : List LinkStepped) → ((l : LinkOf) → IsAlone (s l)) → ((l : LinkOf) → time_after now (s l) ≡ then) → WorldStands now ls v
     → AllMayHappen now v.packages s ls → AllAfter v.packages now s ls ts
     → MovesOn then (map link_of ts) (notes_of (map eid_of v.nodes) ts) v
 all_move lanes messages now then v ls s ts alone time stands may after =

@@ -4,14 +4,14 @@ use Rattle.std.specs.Option.{option_map}
 use Rattle.std.proofs.lemmas.Bool.{eq-eqb}
 use Rattle.std.proofs.lemmas.List.{map-append, append_assoc}
 use Rattle.fw_message.specs.History.{EntryOf}
-use Rattle.fw_message.specs.Pairs.{PairOf, PairRun, StepOf, Stepped, message_along, noted, pair_after, ran_on}
-use Rattle.fw_message.specs.Worlds.{NodeOf, NotedOf, WorldOf, WorldStepOf, node_at, noted_of, step_at, went_on, with_pair, world_after, world_along}
+use Rattle.fw_message.specs.Pairs.{PairOf, PairRun, StepOf, Stepped, message_along, history_with, pair_after, ran_on}
+use Rattle.fw_message.specs.Worlds.{NodeOf, NotedOf, MessageWorldOf, WorldStepOf, node_at, noted_of, step_at, went_on, with_pair, message_world_after, world_along}
 
 -- a device among others
 abbrev pub node_of : ℕ → PairOf → NodeOf
 node_of eid m = record { eid = eid; pair = m }
 
-abbrev pub among : WorldOf → (front back : List NodeOf) → ℕ → PairOf → List NotedOf → WorldOf
+abbrev pub among : MessageWorldOf → (front back : List NodeOf) → ℕ → PairOf → List NotedOf → MessageWorldOf
 among w front back eid m history = record w { nodes = front ++ node_of eid m ∷ back; history = history }
 
 -- it is found where none before it has its identifier
@@ -37,14 +37,14 @@ put_behind (n ∷ front) back eid m after e =
     (λ none. put_behind front back eid m after none)
 
 -- what is noted stands behind
-pub noted_behind : (es more : List EntryOf) → noted es more ≡ es ++ more
+pub noted_behind : (es more : List EntryOf) → history_with es more ≡ es ++ more
 noted_behind es [] = sym (append-nil es)
 noted_behind es (x ∷ more) = noted_behind (es ++ x ∷ []) more ∙ append_assoc es (x ∷ []) more
 
 -- One step of the pair is one step of the world.
-step_among : (w : WorldOf) (front back : List NodeOf) (eid : ℕ) (m : PairOf) (history : List NotedOf) (s : StepOf) (t : Stepped) → node_at front eid ≡ None → pair_after w.packages m s ≡ Some t
-    → world_after (among w front back eid m history) (WorldStepOf.OfPair eid s) ≡ Some (among w front back eid t.after (history ++ map (noted_of eid) t.noted))
-unfolding world_after
+step_among : (w : MessageWorldOf) (front back : List NodeOf) (eid : ℕ) (m : PairOf) (history : List NotedOf) (s : StepOf) (t : Stepped) → node_at front eid ≡ None → pair_after w.packages m s ≡ Some t
+    → message_world_after (among w front back eid m history) (WorldStepOf.OfPair eid s) ≡ Some (among w front back eid t.after (history ++ map (noted_of eid) t.noted))
+unfolding message_world_after
 step_among w front back eid m history s t away e =
     let here = among w front back eid m history in
     let found : node_at here.nodes eid ≡ Some (node_of eid m) = found_behind front back eid m away in
@@ -56,18 +56,18 @@ step_among w front back eid m history s t away e =
 abbrev pub told : List NotedOf → ℕ → List EntryOf → List NotedOf
 told history eid es = history ++ map (noted_of eid) es
 
-told_more : (history : List NotedOf) (eid : ℕ) (es more : List EntryOf) → told history eid es ++ map (noted_of eid) more ≡ told history eid (noted es more)
+told_more : (history : List NotedOf) (eid : ℕ) (es more : List EntryOf) → told history eid es ++ map (noted_of eid) more ≡ told history eid (history_with es more)
 told_more history eid es more =
     append_assoc history (map (noted_of eid) es) (map (noted_of eid) more)
     ∙ ap (λ xs. history ++ xs) (sym (map-append (noted_of eid) es more))
     ∙ ap (λ xs. history ++ map (noted_of eid) xs) (sym (noted_behind es more))
 
 -- a run of the pair is a run of the world
-abbrev pub Runs : WorldOf → (front back : List NodeOf) → ℕ → List NotedOf → List StepOf → (r last : PairRun) → Type 0
+abbrev pub Runs : MessageWorldOf → (front back : List NodeOf) → ℕ → List NotedOf → List StepOf → (r last : PairRun) → Type 0
 Runs w front back eid history steps r last =
     world_along (Some (among w front back eid r.pair (told history eid r.entries))) (map (WorldStepOf.OfPair eid) steps) ≡ Some (among w front back eid last.pair (told history eid last.entries))
 
-goes_by : (w : WorldOf) (front back : List NodeOf) (eid : ℕ) (history : List NotedOf) (s : StepOf) (steps : List StepOf) (r last : PairRun) (o : Option Stepped) → node_at front eid ≡ None → pair_after w.packages r.pair s ≡ o
+goes_by : (w : MessageWorldOf) (front back : List NodeOf) (eid : ℕ) (history : List NotedOf) (s : StepOf) (steps : List StepOf) (r last : PairRun) (o : Option Stepped) → node_at front eid ≡ None → pair_after w.packages r.pair s ≡ o
     → ((next : PairRun) → message_along w.packages (Some next) steps ≡ Some last → Runs w front back eid history steps next last)
     → message_along w.packages (option_map (ran_on r) o) steps ≡ Some last → Runs w front back eid history (s ∷ steps) r last
 goes_by w front back eid history s steps r last None away is rest e = absurd (cc)
@@ -75,9 +75,9 @@ goes_by w front back eid history s steps r last (Some t) away is rest e =
     ap (λ o. world_along o (map (WorldStepOf.OfPair eid) steps))
     (step_among w front back eid r.pair (told history eid r.entries) s t away is
     ∙ ap (λ xs. Some (among w front back eid t.after xs)) (told_more history eid r.entries t.noted))
-    ∙ rest (record { pair = t.after; entries = noted r.entries t.noted }) e
+    ∙ rest (record { pair = t.after; entries = history_with r.entries t.noted }) e
 
-pub runs_among : (w : WorldOf) (front back : List NodeOf) (eid : ℕ) (history : List NotedOf) (steps : List StepOf) (r last : PairRun) → node_at front eid ≡ None → message_along w.packages (Some r) steps ≡ Some last
+pub runs_among : (w : MessageWorldOf) (front back : List NodeOf) (eid : ℕ) (history : List NotedOf) (steps : List StepOf) (r last : PairRun) → node_at front eid ≡ None → message_along w.packages (Some r) steps ≡ Some last
     → Runs w front back eid history steps r last
 runs_among w front back eid history [] r last away e =
     let same : r ≡ last = cc in
@@ -86,10 +86,10 @@ runs_among w front back eid history (s ∷ steps) r last away e =
     goes_by w front back eid history s steps r last (pair_after w.packages r.pair s) away refl (λ next k. runs_among w front back eid history steps next last away k) e
 
 -- A device's pair goes on in the world, from an empty history of its own.
-pub pair_among : (w : WorldOf) (front back : List NodeOf) (eid : ℕ) (history : List NotedOf) (steps : List StepOf) (m after : PairOf) (more : List EntryOf) → node_at front eid ≡ None
-    → message_along w.packages (Some (record { pair = m; entries = [] })) steps ≡ Some (record { pair = after; entries = noted [] more })
+pub pair_among : (w : MessageWorldOf) (front back : List NodeOf) (eid : ℕ) (history : List NotedOf) (steps : List StepOf) (m after : PairOf) (more : List EntryOf) → node_at front eid ≡ None
+    → message_along w.packages (Some (record { pair = m; entries = [] })) steps ≡ Some (record { pair = after; entries = history_with [] more })
     → world_along (Some (among w front back eid m history)) (map (WorldStepOf.OfPair eid) steps) ≡ Some (among w front back eid after (history ++ map (noted_of eid) more))
 pair_among w front back eid history steps m after more away e =
     ap (λ xs. world_along (Some (among w front back eid m xs)) (map (WorldStepOf.OfPair eid) steps)) (sym (append-nil history))
-    ∙ runs_among w front back eid history steps (record { pair = m; entries = [] }) (record { pair = after; entries = noted [] more }) away e
+    ∙ runs_among w front back eid history steps (record { pair = m; entries = [] }) (record { pair = after; entries = history_with [] more }) away e
     ∙ ap (λ xs. Some (among w front back eid after (history ++ map (noted_of eid) xs))) (noted_behind [] more)

@@ -3,8 +3,8 @@ use Rattle.std.proofs.Common.{◌≡◌, ℕ, List, [], ◌∷◌, map, append-n
 use Rattle.std.specs.Option.{option_map}
 use Rattle.fw_package.specs.Package.{PackageText}
 use Rattle.fw_message.specs.History.{EntryOf}
-use Rattle.fw_message.specs.Pairs.{PairOf, PairRun, StepOf, Stepped, message_along, noted, pair_after, ran_on}
-use Rattle.fw_message.specs.Worlds.{NodeOf, WorldOf, WorldStepOf, after_or, agent_restarted, world_after, world_along}
+use Rattle.fw_message.specs.Pairs.{PairOf, PairRun, StepOf, Stepped, message_along, history_with, pair_after, ran_on}
+use Rattle.fw_message.specs.Worlds.{NodeOf, MessageWorldOf, WorldStepOf, after_or, agent_restarted, message_world_after, world_along}
 use Rattle.fw_message.specs.declared.side.Side.TheVariants as sides
 use Rattle.fw_steps.specs.Headline.{AreDifferent}
 use Rattle.fw_steps.specs.LinksAreMessages.{LinksAreMessages}
@@ -29,8 +29,8 @@ pair_then packages m pair es later (Some t) e =
 
 restarted_pair : (packages : List PackageText) (now : ℕ) (l : LinkOf) (m : PairOf) → (on : StandsOn packages now l anew m) → after_or m (pair_after packages m (StepOf.Restart sides.Agent)) ≡ on.pair
 restarted_pair packages now l m on =
-    let along = subst (λ ss. message_along packages (Some (record { pair = m; entries = [] })) ss ≡ Some (record { pair = on.pair; entries = noted [] on.stepped.noted })) on.named (on.along []) in
-    pair_then packages m on.pair [] (noted [] on.stepped.noted) (pair_after packages m (StepOf.Restart sides.Agent)) along
+    let along = subst (λ ss. message_along packages (Some (record { pair = m; entries = [] })) ss ≡ Some (record { pair = on.pair; entries = history_with [] on.stepped.noted })) on.named (on.along []) in
+    pair_then packages m on.pair [] (history_with [] on.stepped.noted) (pair_after packages m (StepOf.Restart sides.Agent)) along
 
 -- ALL LINKS
 
@@ -56,12 +56,12 @@ same_eids : (packages : List PackageText) (ns : List NodeOf) → map eid_of (map
 same_eids packages [] = refl
 same_eids packages (n ∷ ns) = ap (λ es. n.eid ∷ es) (same_eids packages ns)
 
-goes_anew : (v : WorldOf) → world_along (Some v) (WorldStepOf.RestartAgent ∷ []) ≡ Some (record v { nodes = map (agent_restarted v.packages) v.nodes })
-unfolding world_after
+goes_anew : (v : MessageWorldOf) → world_along (Some v) (WorldStepOf.RestartAgent ∷ []) ≡ Some (record v { nodes = map (agent_restarted v.packages) v.nodes })
+unfolding message_world_after
 goes_anew v = refl
 
 -- The links start anew, and nothing is noted.
-pub all_restart_move : LinksAreLanes → LinksAreMessages → (now : ℕ) (v : WorldOf) (ls : List LinkOf) (ts : List LinkStepped) → WorldStands now ls v
+pub all_restart_move : LinksAreLanes → LinksAreMessages → (now : ℕ) (v : MessageWorldOf) (ls : List LinkOf) (ts : List LinkStepped) → WorldStands now ls v
     → AllMayHappen now v.packages (λ l. anew) ls → AllAfter v.packages now (λ l. anew) ls ts → MovesOn now (map link_of ts) [] v
 all_restart_move lanes messages now v ls ts stands may after =
     let g = all_restart v.packages now ls v.nodes stands.stand (all_may lanes messages now v.packages (λ l. anew) ls may) in

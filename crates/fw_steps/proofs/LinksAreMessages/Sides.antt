@@ -7,16 +7,16 @@ use Rattle.fwup_wire.specs.Commands.{command_code}
 use Rattle.fwup_wire.specs.Values.{AnswerOf, CommandOf}
 use Rattle.fw_message.specs.History.{EntryOf}
 use Rattle.fw_message.specs.Names.{HasName}
-use Rattle.fw_message.specs.Pairs.{HeldOf, PairOf, PairRun, StepOf, Stepped, closed_unless, closing, fresh_cell, is_empty, message_along, noted, pair_after, ran_on, run_after, step_of, unwished_closed}
+use Rattle.fw_message.specs.Pairs.{CellContentOf, PairOf, PairRun, StepOf, Stepped, closed_unless, closing, fresh_cell, is_empty, message_along, history_with, pair_after, ran_on, run_after, step_of, unwished_closed}
 use Rattle.fw_node.specs.Halves.{CoreOf}
-use Rattle.fw_steps.specs.Joins.{IsFor, IsWishedIn}
+use Rattle.fw_steps.specs.Joins.{IsCommandFor, IsWishedIn}
 
 -- Steps of whole messages lead from one pair to another, and add these entries to the history. None restarts the session alone.
 pub record PairLeads (packages : List PackageText) (m : PairOf) (more : List EntryOf) (after : PairOf) : Type 0 where
   pub steps : List StepOf
   pub named : AllByRecursion HasName steps
   pub along : (es : List EntryOf) → message_along packages (Some (record { pair = m; entries = es })) steps
-      ≡ Some (record { pair = after; entries = noted es more })
+      ≡ Some (record { pair = after; entries = history_with es more })
 
 pub no_step : (packages : List PackageText) (m : PairOf) → PairLeads packages m [] m
 no_step packages m = record { steps = []; named = tt; along = λ es. refl }
@@ -34,7 +34,7 @@ along_more packages None ss ts = refl
 along_more packages (Some r) [] ts = refl
 along_more packages (Some r) (s ∷ ss) ts = along_more packages (run_after packages r s) ss ts
 
-noted_more : (es more later : List EntryOf) → noted es (more ++ later) ≡ noted (noted es more) later
+noted_more : (es more later : List EntryOf) → history_with es (more ++ later) ≡ history_with (history_with es more) later
 noted_more es [] later = refl
 noted_more es (x ∷ more) later = noted_more (es ++ x ∷ []) more later
 
@@ -51,13 +51,13 @@ leads_on {packages} {m} {mid} {after} {more} {later} a b = record {
   named = all_along HasName a.steps b.steps a.named b.named;
   along = λ es. along_more packages (Some (record { pair = m; entries = es })) a.steps b.steps
       ∙ ap (λ r. message_along packages r b.steps) (a.along es)
-      ∙ b.along (noted es more)
+      ∙ b.along (history_with es more)
       ∙ ap (λ x. Some (record { pair = after; entries = x })) (sym (noted_more es more later));
 }
 
 -- the pair by a half's core, what the half asks and what it is asked; and the entries of what it takes
 abbrev pub Place : Type 0 → Type 0
-Place C = C → Option HeldOf → Option HeldOf → PairOf
+Place C = C → Option CellContentOf → Option CellContentOf → PairOf
 
 abbrev pub Notes : Type 0 → Type 0
 Notes C = C → CommandOf → Bool → Bool → List EntryOf
@@ -65,21 +65,21 @@ Notes C = C → CommandOf → Bool → Bool → List EntryOf
 -- What a half with this core does, as steps of its pair: what it asks is for the agent or for a device, and `peer_wish` is
 -- the other's wish.
 pub record Sided {C : Type 0} (packages : List PackageText) (core : CoreOf C) (agent : Bool) (place : Place C) (peer_wish : Option CommandOf) (notes : Notes C) : Type 0 where
-  pub drop : (x : C) (h : HeldOf) (other : Option HeldOf) → IsWishedIn other peer_wish → h.live ≡ false
+  pub drop : (x : C) (h : CellContentOf) (other : Option CellContentOf) → IsWishedIn other peer_wish → h.live ≡ false
       → PairLeads packages (place x (Some h) other) [] (place x None other)
-  pub give : (x : C) (h : HeldOf) (other : Option HeldOf) → IsWishedIn other peer_wish → h.live ≡ true
+  pub give : (x : C) (h : CellContentOf) (other : Option CellContentOf) → IsWishedIn other peer_wish → h.live ≡ true
       → PairLeads packages (place x (Some h) other) [] (place (core.silent x) (Some (record h { live = false })) other)
-  pub tick : (x : C) (own other : Option HeldOf) → IsWishedIn other peer_wish → IsWishedIn own (core.wish x)
+  pub tick : (x : C) (own other : Option CellContentOf) → IsWishedIn other peer_wish → IsWishedIn own (core.wish x)
       → PairLeads packages (place x own other) [] (place (core.ticked x) (closed_unless (core.wish (core.ticked x)) own) other)
-  pub ask : (x : C) (c : CommandOf) (other : Option HeldOf) → IsWishedIn other peer_wish → core.wish x ≡ Some c
+  pub ask : (x : C) (c : CommandOf) (other : Option CellContentOf) → IsWishedIn other peer_wish → core.wish x ≡ Some c
       → PairLeads packages (place x None other) [] (place x (Some (fresh_cell c)) other)
-  pub learn : (x : C) (h : HeldOf) (a : AnswerOf) (works : Bool) (other : Option HeldOf) → IsWishedIn other peer_wish → h.live ≡ true → h.reply ≡ Some a
+  pub learn : (x : C) (h : CellContentOf) (a : AnswerOf) (works : Bool) (other : Option CellContentOf) → IsWishedIn other peer_wish → h.live ≡ true → h.reply ≡ Some a
       → PairLeads packages (place x (Some h) other) [] (place (core.learn x (Ok a) works) None other)
-  pub take : (x : C) (own : Option HeldOf) (h : HeldOf) (quiet works : Bool) → IsWishedIn (Some h) peer_wish → h.reply ≡ None → (quiet && not (is_empty own)) ≡ false
+  pub take : (x : C) (own : Option CellContentOf) (h : CellContentOf) (quiet works : Bool) → IsWishedIn (Some h) peer_wish → h.reply ≡ None → (quiet && not (is_empty own)) ≡ false
       → PairLeads packages (place x own (Some h)) (notes x h.command quiet works)
       (place (core.take x h.command quiet works).core (closed_unless (core.wish (core.take x h.command quiet works).core) own) (Some (record h { reply = Some (core.take x h.command quiet works).answer })))
-  pub wishes : (x : C) (c : CommandOf) → core.wish x ≡ Some c → IsFor agent c
-  pub serves : (c : CommandOf) → IsFor (not agent) c → core.serves (command_code c) ≡ true
+  pub wishes : (x : C) (c : CommandOf) → core.wish x ≡ Some c → IsCommandFor agent c
+  pub serves : (c : CommandOf) → IsCommandFor (not agent) c → core.serves (command_code c) ≡ true
 
 -- a step that leaves this is closed so
 pub closed_to : (packages : List PackageText) (m : PairOf) (t : Stepped) (after : PairOf) (s : StepOf) → step_of packages m s ≡ Some t → unwished_closed packages t.after ≡ after

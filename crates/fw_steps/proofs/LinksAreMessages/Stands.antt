@@ -7,12 +7,12 @@ use Rattle.exch_lane.specs.Lanes.{AreEnds, LaneOf, Sent}
 use Rattle.exch_lane.specs.Laws.{IsCellOf, LaneIsACell}
 use Rattle.fw_package.specs.Package.{PackageText}
 use Rattle.fw_message.specs.History.{EntryOf}
-use Rattle.fw_message.specs.Pairs.{PairOf, StepOf, message_along, noted}
+use Rattle.fw_message.specs.Pairs.{PairOf, StepOf, message_along, history_with}
 use Rattle.fw_steps.specs.LinksAreMessages.{AreStepsOf, LinksAreMessages}
 use Rattle.fw_node.specs.Halves.{HalfOf}
-use Rattle.fw_steps.specs.Joins.{Joined, StandsFor}
+use Rattle.fw_steps.specs.Joins.{LinkMatchesPair, MatchesCell}
 use Rattle.fw_steps.specs.Lanes.{Explained, LinkExplained, Times, times_of, turned_times, way_of}
-use Rattle.fw_steps.specs.LinksAreLanes.{CanBeSaid, LinksAreLanes, MayHappen}
+use Rattle.fw_steps.specs.LinksAreLanes.{LinkStepRoundTrips, LinksAreLanes, MayHappen}
 use Rattle.fw_steps.specs.Links.{LinkOf, LinkStep, LinkStepped, link_after, time_after}
 use Rattle.fw_steps.proofs.LinksAreMessages.BothHalves.{pair_at}
 use Rattle.fw_steps.proofs.LinksAreLanes.Following.{follows}
@@ -22,7 +22,7 @@ use Rattle.fw_steps.proofs.LinksAreLanes.Openings.{IsNewHalf, new_link_explained
 -- a link is explained, and this is its pair
 pub record Stands (packages : List PackageText) (now : ℕ) (l : LinkOf) (m : PairOf) : Type 0 where
   pub explained : LinkExplained now l
-  pub joined : Joined packages l explained.down.run.cell explained.up.run.cell m
+  pub joined : LinkMatchesPair packages l explained.down.run.cell explained.up.run.cell m
 
 -- The link takes the step, and its pair goes along.
 pub record StandsOn (packages : List PackageText) (now : ℕ) (l : LinkOf) (s : LinkStep) (m : PairOf) : Type 0 where
@@ -32,11 +32,11 @@ pub record StandsOn (packages : List PackageText) (now : ℕ) (l : LinkOf) (s : 
   pub named : AreStepsOf s steps
   pub pair : PairOf
   pub along : (es : List EntryOf) → message_along packages (Some (record { pair = m; entries = es })) steps
-      ≡ Some (record { pair = pair; entries = noted es stepped.noted })
+      ≡ Some (record { pair = pair; entries = history_with es stepped.noted })
   pub stands : Stands packages (time_after now s) stepped.after pair
 
 pub stands_on : LinksAreLanes → LinksAreMessages → (now : ℕ) (packages : List PackageText) (l : LinkOf) (s : LinkStep) (m : PairOf) → Stands packages now l m
-    → MayHappen now packages l s → CanBeSaid packages l s → StandsOn packages now l s m
+    → MayHappen now packages l s → LinkStepRoundTrips packages l s → StandsOn packages now l s m
 stands_on lanes messages now packages l s m stands may said =
     let on = lanes now packages l s stands.explained may said in
     let goes = messages now packages l s stands.explained on m said stands.joined in
@@ -69,7 +69,7 @@ new_way law now a b ps e ends new =
 one_deaf : {C : Type 0} (h : HalfOf C) → IsNewHalf h → h.asker.deaf ≡ h.taker.deaf
 one_deaf h new = rw (new.asker, new.taker) refl
 
-nothing_asked : (cell : Cell) → cell ≡ Cell.Empty → StandsFor cell None
+nothing_asked : (cell : Cell) → cell ≡ Cell.Empty → MatchesCell cell None
 nothing_asked cell e = rw e tt
 
 -- A link on which nothing was sent yet stands with a pair that has asked nothing.

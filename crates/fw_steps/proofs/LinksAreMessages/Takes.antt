@@ -7,20 +7,20 @@ use Rattle.mctp_reasm.specs.Held.{Held}
 use Rattle.mctp_reasm.specs.Inboxes.{packet_for}
 use Rattle.mctp_reasm.specs.Pieces.{MessageOf, PacketOf}
 use Rattle.pldm_base.specs.declared.header.PldmHead.{PldmHead}
-use Rattle.pldm_exch.specs.Caller.{asking, is_quiet}
+use Rattle.pldm_exch.specs.Caller.{request_of_open, is_quiet}
 use Rattle.pldm_exch.specs.Ends.{TakerOf}
 use Rattle.pldm_exch.specs.Sides.{TakerRow, taker_packet, taker_row}
-use Rattle.exch_lane.specs.Cells.{Cell, CellRun, cell_at_taker, cell_take, cells_along, same_bytes, take_in, turned_by}
-use Rattle.exch_lane.specs.Lanes.{EntryOf, LaneOf}
-use Rattle.exch_lane.specs.Laws.{awaited}
+use Rattle.exch_lane.specs.Cells.{Cell, CellRun, cell_at_taker, cell_take, cells_along, same_bytes, take_in, cell_run_with_entry}
+use Rattle.exch_lane.specs.Lanes.{LaneEntryOf, LaneOf}
+use Rattle.exch_lane.specs.Laws.{awaited_request}
 use Rattle.fw_package.specs.Package.{PackageText}
 use Rattle.fwup_wire.specs.Answers.{answer_bytes, answer_in}
 use Rattle.fwup_wire.specs.Commands.{command_code, command_read}
 use Rattle.fwup_wire.specs.Values.{AnswerOf, CommandOf}
-use Rattle.fw_message.specs.Pairs.{HeldOf, closed_unless, is_empty}
-use Rattle.fw_node.specs.Halves.{CoreOf, HalfHeard, HalfOf, answers, half_takes, read_by, reply_read, settled, takes_if}
-use Rattle.fw_node.specs.Nodes.{IsHeardAgain, IsTold}
-use Rattle.fw_steps.specs.Joins.{IsFor, IsHeldFor, IsWishedIn, StandsFor, cell_unless}
+use Rattle.fw_message.specs.Pairs.{CellContentOf, closed_unless, is_empty}
+use Rattle.fw_node.specs.Halves.{CoreOf, HalfOutcome, HalfOf, half_after_answer, half_takes, read_by, reply_read, half_after_settle, takes_if}
+use Rattle.fw_node.specs.Nodes.{AnswerRoundTrips, TakenAnswerRoundTrips}
+use Rattle.fw_steps.specs.Joins.{IsCommandFor, IsCellFor, IsWishedIn, MatchesCell, cell_unless}
 use Rattle.fw_steps.specs.Lanes.{replied_by, reply_in, settle_steps, take_steps}
 use Rattle.fw_steps.proofs.LinksAreMessages.Cells.{bytes_are, numbers_are}
 use Rattle.fw_steps.proofs.LinksAreMessages.Holding.{Holds, holds_still, settled_cell, settles}
@@ -50,37 +50,37 @@ pub row_hears : (u : «Unit») (own peer : ℕ) (t : TakerOf) (bytes : List ℕ)
 row_hears u own peer t bytes = hearing_row u (t.deaf == 0) t (packet_for u own peer true bytes) refl
 
 -- a half that is quiet asks nothing, so that it may be told so
-asks_none : (own : Option HeldOf) → StandsFor Cell.Empty own → is_empty own ≡ true
+asks_none : (own : Option CellContentOf) → MatchesCell Cell.Empty own → is_empty own ≡ true
 asks_none None k = refl
 asks_none (Some h) k = absurd k
 
-is_told_so : (quiet : Bool) (cell : Cell) (own : Option HeldOf) → StandsFor cell own → (quiet ≡ true → cell ≡ Cell.Empty) → (quiet && not (is_empty own)) ≡ false
+is_told_so : (quiet : Bool) (cell : Cell) (own : Option CellContentOf) → MatchesCell cell own → (quiet ≡ true → cell ≡ Cell.Empty) → (quiet && not (is_empty own)) ≡ false
 is_told_so true cell own k rests =
-    let none : StandsFor Cell.Empty own = subst (λ c. StandsFor c own) (rests refl) k in
+    let none : MatchesCell Cell.Empty own = subst (λ c. MatchesCell c own) (rests refl) k in
     rw (asks_none own none) refl
 is_told_so false cell own k rests = refl
 
 -- WHAT IS TAKEN IS WHAT WAS ASKED
 
 -- A request in a cell: it is the command that the pair's cell holds.
-record Taken (held : Option HeldOf) (command : ℕ) (body reply : List ℕ) (after : CellRun) : Type 0 where
-  asked : HeldOf
+record Taken (held : Option CellContentOf) (command : ℕ) (body reply : List ℕ) (after : CellRun) : Type 0 where
+  asked : CellContentOf
   is : held ≡ Some asked
   new : asked.reply ≡ None
   code : command ≡ command_code asked.command
   reads : command_read command body ≡ Ok asked.command
-  stands : (a : AnswerOf) → answer_in command reply ≡ Some a → StandsFor after.cell (Some (record asked { reply = Some a }))
+  stands : (a : AnswerOf) → answer_in command reply ≡ Some a → MatchesCell after.cell (Some (record asked { reply = Some a }))
 
-taken_if : (same : Bool) (run after : CellRun) (cell : Cell) (entry : EntryOf) → (if same then turned_by run cell entry else None) ≡ Some after → (same ≡ true) × (after.cell ≡ cell)
+taken_if : (same : Bool) (run after : CellRun) (cell : Cell) (entry : LaneEntryOf) → (if same then cell_run_with_entry run cell entry else None) ≡ Some after → (same ≡ true) × (after.cell ≡ cell)
 taken_if true run after cell entry e =
     let is : ◌≡◌ {A = CellRun} (record { cell = cell; entries = run.entries ++ entry ∷ [] }) after = cc in
     (refl, sym (ap (λ r. r.cell) is))
 taken_if false run after cell entry e = absurd (cc)
 
-takes_from : (run after : CellRun) (command : ℕ) (body reply : List ℕ) (cell : Cell) (held : Option HeldOf) → StandsFor cell held → take_in run command body reply cell ≡ Some after
+takes_from : (run after : CellRun) (command : ℕ) (body reply : List ℕ) (cell : Cell) (held : Option CellContentOf) → MatchesCell cell held → take_in run command body reply cell ≡ Some after
     → Taken held command body reply after
 takes_from run after command body reply (Cell.Asked asked data_of live) (Some h) k e =
-    let is = taken_if ((command == asked) && same_bytes body data_of) run after (Cell.Answered asked data_of reply live) (EntryOf.Taken command body reply) e in
+    let is = taken_if ((command == asked) && same_bytes body data_of) run after (Cell.Answered asked data_of reply live) (LaneEntryOf.Taken command body reply) e in
     let both = both_hold (command == asked) (same_bytes body data_of) is.0 in
     let code : command ≡ asked = numbers_are command asked both.0 in
     let bytes : body ≡ data_of = bytes_are body data_of both.1 in
@@ -111,7 +111,7 @@ read_as core command body c code serves reads =
 -- A half that took a command.
 abbrev taker_after : {C : Type 0} → CoreOf C → Bool → HalfOf C → List (Option Held) → MessageOf → PldmHead → CommandOf → HalfOf C
 taker_after core works h requests m head c =
-    settled core (answers (record h { core = (core.take h.core c (is_quiet h.asker.caller) works).core }) requests m head (answer_bytes (core.take h.core c (is_quiet h.asker.caller) works).answer))
+    half_after_settle core (half_after_answer (record h { core = (core.take h.core c (is_quiet h.asker.caller) works).core }) requests m head (answer_bytes (core.take h.core c (is_quiet h.asker.caller) works).answer))
 
 heard_as : {C : Type 0} (core : CoreOf C) (notes : Notes C) (works : Bool) (h : HalfOf C) (requests : List (Option Held)) (m : MessageOf) (head : PldmHead) (body : List ℕ) (c : CommandOf) (five : Bool) (r : Result CommandOf ℕ)
     → five ≡ true → r ≡ Ok c → read_by core head.command body ≡ r
@@ -119,16 +119,16 @@ heard_as : {C : Type 0} (core : CoreOf C) (notes : Notes C) (works : Bool) (h : 
 heard_as core notes works h requests m head body c five r is_five is reads = rw (is_five, reads, is) (refl, refl)
 
 told_as : {C : Type 0} (core : CoreOf C) (works : Bool) (h : HalfOf C) (requests : List (Option Held)) (m : MessageOf) (head : PldmHead) (body : List ℕ) (c : CommandOf) (five : Bool)
-    → five ≡ true → read_by core head.command body ≡ Ok c → IsTold (core.unit h.core) (takes_if five core works h requests m head body)
-    → IsHeardAgain (core.unit h.core) c (core.take h.core c (is_quiet h.asker.caller) works).answer
+    → five ≡ true → read_by core head.command body ≡ Ok c → TakenAnswerRoundTrips (core.unit h.core) (takes_if five core works h requests m head body)
+    → AnswerRoundTrips (core.unit h.core) c (core.take h.core c (is_quiet h.asker.caller) works).answer
 told_as core works h requests m head body c five is_five reads told = rw (is_five, reads) at told
 
 -- nothing is taken
 nothing : {C : Type 0} {packages : List PackageText} {core : CoreOf C} {agent : Bool} {place : Place C} {peer_wish : Option CommandOf} {notes : Notes C}
-    (works : Bool) (h : HalfOf C) (requests : List (Option Held)) (sent : List MessageOf) (own other : Option HeldOf) (run last other_run other_last : CellRun)
+    (works : Bool) (h : HalfOf C) (requests : List (Option Held)) (sent : List MessageOf) (own other : Option CellContentOf) (run last other_run other_last : CellRun)
     → Holds core agent h.core run.cell own → Others (not agent) peer_wish other_run.cell other → IsOneDeaf h
     → Some run ≡ Some last → Some other_run ≡ Some other_last
-    → HeardGoes packages core agent place peer_wish notes (place h.core own other) h.core (is_quiet h.asker.caller) works (HalfHeard.Went (record h { taker = record h.taker { requests = requests } }) sent) last.cell other_last.cell
+    → HeardGoes packages core agent place peer_wish notes (place h.core own other) h.core (is_quiet h.asker.caller) works (HalfOutcome.Went (record h { taker = record h.taker { requests = requests } }) sent) last.cell other_last.cell
 nothing {C} {packages} {core} {agent} {place} {peer_wish} works h requests sent own other run last other_run other_last holds theirs deaf e f = record {
   half = record h { taker = record h.taker { requests = requests } };
   es = [];
@@ -143,9 +143,9 @@ nothing {C} {packages} {core} {agent} {place} {peer_wish} works h requests sent 
 
 -- a command is taken
 takes_up : {C : Type 0} {packages : List PackageText} {core : CoreOf C} {agent : Bool} {place : Place C} {peer_wish : Option CommandOf} {notes : Notes C} (side : Sided packages core agent place peer_wish notes)
-    (works : Bool) (h : HalfOf C) (requests : List (Option Held)) (m : MessageOf) (head : PldmHead) (body : List ℕ) (own other : Option HeldOf) (w : LaneOf) (run last other_run other_last : CellRun)
-    → Holds core agent h.core run.cell own → Others (not agent) peer_wish other_run.cell other → IsOneDeaf h → awaited run.cell ≡ option_map asking h.asker.caller.asked
-    → (is_quiet h.asker.caller ≡ true → run.cell ≡ Cell.Empty) → IsTold (core.unit h.core) (takes_if (head.pldm_type == 5) core works h requests m head body)
+    (works : Bool) (h : HalfOf C) (requests : List (Option Held)) (m : MessageOf) (head : PldmHead) (body : List ℕ) (own other : Option CellContentOf) (w : LaneOf) (run last other_run other_last : CellRun)
+    → Holds core agent h.core run.cell own → Others (not agent) peer_wish other_run.cell other → IsOneDeaf h → awaited_request run.cell ≡ option_map request_of_open h.asker.caller.asked
+    → (is_quiet h.asker.caller ≡ true → run.cell ≡ Cell.Empty) → TakenAnswerRoundTrips (core.unit h.core) (takes_if (head.pldm_type == 5) core works h requests m head body)
     → cells_along w (settle_steps core h.asker.caller.asked (replied_by core works h head body).core) (Some run) ≡ Some last
     → (head.pldm_type == 5) ≡ true → Taken other head.command body (replied_by core works h head body).reply other_last
     → HeardGoes packages core agent place peer_wish notes (place h.core own other) h.core (is_quiet h.asker.caller) works (takes_if (head.pldm_type == 5) core works h requests m head body) last.cell other_last.cell
@@ -153,7 +153,7 @@ takes_up {C} {packages} {core} {agent} {place} {peer_wish} {notes} side works h 
     let quiet = is_quiet h.asker.caller in
     let c = t.asked.command in
     let taken = core.take h.core c quiet works in
-    let is_for : IsFor (not agent) c = subst (IsHeldFor (not agent)) t.is theirs.is_for in
+    let is_for : IsCommandFor (not agent) c = subst (IsCellFor (not agent)) t.is theirs.is_for in
     let wished : IsWishedIn (Some t.asked) peer_wish = subst (λ o. IsWishedIn o peer_wish) t.is theirs.wished in
     let reads : read_by core head.command body ≡ Ok c = read_as core head.command body c t.code (side.serves c is_for) t.reads in
     let replied : replied_by core works h head body ≡ record { core = taken.core; reply = answer_bytes taken.answer } = ap (reply_read core quiet works h.core) reads in
@@ -179,9 +179,9 @@ takes_up {C} {packages} {core} {agent} {place} {peer_wish} {notes} side works h 
 
 -- A packet at a half, in the lane in which it answers.
 pub hears_request : {C : Type 0} {packages : List PackageText} {core : CoreOf C} {agent : Bool} {place : Place C} {peer_wish : Option CommandOf} {notes : Notes C} (side : Sided packages core agent place peer_wish notes)
-    (works : Bool) (h : HalfOf C) (row : TakerRow) (own other : Option HeldOf) (w : LaneOf) (run last other_run other_last : CellRun)
-    → Holds core agent h.core run.cell own → Others (not agent) peer_wish other_run.cell other → IsOneDeaf h → awaited run.cell ≡ option_map asking h.asker.caller.asked
-    → (h.asker.deaf ≡ 0 → is_quiet h.asker.caller ≡ true → run.cell ≡ Cell.Empty) → RowHears row h.taker → IsTold (core.unit h.core) (half_takes core works h row)
+    (works : Bool) (h : HalfOf C) (row : TakerRow) (own other : Option CellContentOf) (w : LaneOf) (run last other_run other_last : CellRun)
+    → Holds core agent h.core run.cell own → Others (not agent) peer_wish other_run.cell other → IsOneDeaf h → awaited_request run.cell ≡ option_map request_of_open h.asker.caller.asked
+    → (h.asker.deaf ≡ 0 → is_quiet h.asker.caller ≡ true → run.cell ≡ Cell.Empty) → RowHears row h.taker → TakenAnswerRoundTrips (core.unit h.core) (half_takes core works h row)
     → cells_along w (take_steps core works h row) (Some run) ≡ Some last → cell_at_taker (reply_in core works h row) row other_run ≡ Some other_last
     → HeardGoes packages core agent place peer_wish notes (place h.core own other) h.core (is_quiet h.asker.caller) works (half_takes core works h row) last.cell other_last.cell
 hears_request side works h (TakerRow.Silent requests) own other w run last other_run other_last holds theirs deaf waits rests hears told e f =

@@ -3,19 +3,19 @@
 use Rattle.std.proofs.Common.{◌≡◌, ◌∙◌, ℕ, ◌==◌, Bool, true, false, if◌then◌else◌, List, [], ◌∷◌, Option, Some, None, IfSome, refl, sym, ap, subst}
 use Rattle.std.specs.Option.{option_map}
 use Rattle.mctp_reasm.specs.Pieces.{MessageOf}
-use Rattle.pldm_exch.specs.Caller.{CallerState, asking, may_begin}
+use Rattle.pldm_exch.specs.Caller.{CallerState, request_of_open, may_begin}
 use Rattle.pldm_exch.specs.Sides.{AskerTick, asker_counts, asker_tick, taker_counts}
-use Rattle.exch_lane.specs.Cells.{Cell, CellRun, cell_ticks, cells_along, close_in, drop_in, hears_quiet, is_empty_cell}
+use Rattle.exch_lane.specs.Cells.{Cell, CellRun, cell_ticks, cells_along, close_in, drop_in, is_asker_quiet, is_empty_cell}
 use Rattle.exch_lane.specs.Lanes.{LaneOf}
-use Rattle.exch_lane.specs.Laws.{awaited}
+use Rattle.exch_lane.specs.Laws.{awaited_request}
 use Rattle.fw_package.specs.Package.{PackageText}
-use Rattle.fwup_wire.specs.Commands.{IsSpoken}
+use Rattle.fwup_wire.specs.Commands.{CommandRoundTrips}
 use Rattle.fwup_wire.specs.Laws.{WritesCommands}
 use Rattle.fwup_wire.specs.Values.{CommandOf}
-use Rattle.fw_message.specs.Pairs.{HeldOf, PairOf}
-use Rattle.fw_node.specs.Halves.{CoreOf, HalfOf, begins_if, begins_wish, called, half_ticks, hears_if, unwished_abandoned, with_caller}
+use Rattle.fw_message.specs.Pairs.{CellContentOf, PairOf}
+use Rattle.fw_node.specs.Halves.{CoreOf, HalfOf, begins_if, begins_wish, half_tick_by_row, half_ticks, tick_if, unwished_abandoned, with_caller}
 use Rattle.fw_steps.specs.Joins.{IsWishedIn}
-use Rattle.fw_steps.specs.LinksAreLanes.{Speaks}
+use Rattle.fw_steps.specs.LinksAreLanes.{PendingRoundTrips}
 use Rattle.fw_steps.specs.Lanes.{called_steps, counted_steps, hearing_steps}
 use Rattle.fw_steps.proofs.LinksAreMessages.Asks.{after_hearing, goes_on, hears_from}
 use Rattle.fw_steps.proofs.LinksAreMessages.Holding.{CoreGoes, Holds, went}
@@ -24,12 +24,12 @@ use Rattle.fw_steps.proofs.LinksAreLanes.Ticks.{deaf_before, hears_then}
 use Rattle.fw_steps.proofs.LinksAreMessages.Sides.{PairLeads, Notes, Place, Sided, no_step}
 
 -- A half goes on, and the request that waits is the one that waited.
-record Rests {C : Type 0} (packages : List PackageText) (core : CoreOf C) (agent : Bool) (place : Place C) (m : PairOf) (other : Option HeldOf) (x : C) (cell : Cell) (waits : Option (ℕ × List ℕ)) : Type 0 where
+record Rests {C : Type 0} (packages : List PackageText) (core : CoreOf C) (agent : Bool) (place : Place C) (m : PairOf) (other : Option CellContentOf) (x : C) (cell : Cell) (waits : Option (ℕ × List ℕ)) : Type 0 where
   pub goes : CoreGoes packages core agent place m other x cell
-  pub waiting : awaited cell ≡ waits
+  pub waiting : awaited_request cell ≡ waits
 
 -- nothing is left
-rested : {C : Type 0} {packages : List PackageText} {core : CoreOf C} {agent : Bool} {place : Place C} (m : PairOf) (other : Option HeldOf) (x : C) (cell : Cell)
+rested : {C : Type 0} {packages : List PackageText} {core : CoreOf C} {agent : Bool} {place : Place C} (m : PairOf) (other : Option CellContentOf) (x : C) (cell : Cell)
     → cell ≡ Cell.Empty → PairLeads packages m [] (place x None other) → Rests packages core agent place m other x cell None
 rested m other x cell is leads = rw is (record { goes = record { own = None; leads = leads; holds = record { stands = tt; wished = tt; is_for = tt } }; waiting = refl })
 
@@ -39,9 +39,9 @@ emptied run after e =
     sym (ap (λ r. r.cell) is)
 
 rests_from : {C : Type 0} {packages : List PackageText} {core : CoreOf C} {agent : Bool} {place : Place C} {peer_wish : Option CommandOf} {notes : Notes C} (side : Sided packages core agent place peer_wish notes)
-    (x : C) (own other : Option HeldOf) (run after : CellRun) (cell : Cell) → IsWishedIn other peer_wish → run.cell ≡ cell → Holds core agent x cell own
+    (x : C) (own other : Option CellContentOf) (run after : CellRun) (cell : Cell) → IsWishedIn other peer_wish → run.cell ≡ cell → Holds core agent x cell own
     → (if is_empty_cell cell then Some run else drop_in run cell) ≡ Some after
-    → Rests packages core agent place (place x own other) other x after.cell (awaited cell)
+    → Rests packages core agent place (place x own other) other x after.cell (awaited_request cell)
 rests_from {C} {packages} {core} {agent} {place} side x None other run after Cell.Empty k at holds e =
     let same : run ≡ after = cc in
     rested (place x None other) other x after.cell (sym (ap (λ r. r.cell) same) ∙ at) (no_step packages (place x None other))
@@ -56,17 +56,17 @@ rests_from side x None other run after (Cell.Answered command body reply false) 
 rests_from side x (Some h) other run after Cell.Empty k at holds e = absurd holds.stands
 
 -- nothing happens
-unmoved : {C : Type 0} {packages : List PackageText} {core : CoreOf C} {agent : Bool} {place : Place C} (x : C) (own other : Option HeldOf) (run after : CellRun)
-    → Holds core agent x run.cell own → Some run ≡ Some after → Rests packages core agent place (place x own other) other x after.cell (awaited run.cell)
+unmoved : {C : Type 0} {packages : List PackageText} {core : CoreOf C} {agent : Bool} {place : Place C} (x : C) (own other : Option CellContentOf) (run after : CellRun)
+    → Holds core agent x run.cell own → Some run ≡ Some after → Rests packages core agent place (place x own other) other x after.cell (awaited_request run.cell)
 unmoved {C} {packages} {core} {agent} {place} x own other run after holds e =
     let same : run ≡ after = cc in
-    subst (λ r. Rests packages core agent place (place x own other) other x r.cell (awaited run.cell)) same
+    subst (λ r. Rests packages core agent place (place x own other) other x r.cell (awaited_request run.cell)) same
     (record { goes = record { own = own; leads = no_step packages (place x own other); holds = holds }; waiting = refl })
 
 rests_if : {C : Type 0} {packages : List PackageText} {core : CoreOf C} {agent : Bool} {place : Place C} {peer_wish : Option CommandOf} {notes : Notes C} (side : Sided packages core agent place peer_wish notes)
-    (x : C) (own other : Option HeldOf) (run after : CellRun) (quiet : Bool) → IsWishedIn other peer_wish → Holds core agent x run.cell own
+    (x : C) (own other : Option CellContentOf) (run after : CellRun) (quiet : Bool) → IsWishedIn other peer_wish → Holds core agent x run.cell own
     → (if quiet then (if is_empty_cell run.cell then Some run else drop_in run run.cell) else Some run) ≡ Some after
-    → Rests packages core agent place (place x own other) other x after.cell (awaited run.cell)
+    → Rests packages core agent place (place x own other) other x after.cell (awaited_request run.cell)
 rests_if side x own other run after true k holds e = rests_from side x own other run after run.cell k refl holds e
 rests_if side x own other run after false k holds e = unmoved x own other run after holds e
 
@@ -77,7 +77,7 @@ given_up run after cell e =
     sym (ap (λ r. r.cell) is)
 
 gives_from : {C : Type 0} {packages : List PackageText} {core : CoreOf C} {agent : Bool} {place : Place C} {peer_wish : Option CommandOf} {notes : Notes C} (side : Sided packages core agent place peer_wish notes)
-    (x : C) (own other : Option HeldOf) (run after : CellRun) (cell : Cell) → IsWishedIn other peer_wish → Holds core agent x cell own
+    (x : C) (own other : Option CellContentOf) (run after : CellRun) (cell : Cell) → IsWishedIn other peer_wish → Holds core agent x cell own
     → close_in run cell ≡ Some after
     → Rests packages core agent place (place x own other) other (core.silent x) after.cell None
 gives_from side x (Some h) other run after (Cell.Asked command body true) k holds e =
@@ -116,25 +116,25 @@ after_row core x (AskerTick.GivesUp a) = after_hearing (a.deaf == 0) core (core.
 
 -- a part that rests or gives up, and the last part
 then_hears : {C : Type 0} {packages : List PackageText} {core : CoreOf C} {agent : Bool} {place : Place C} {peer_wish : Option CommandOf} {notes : Notes C} (side : Sided packages core agent place peer_wish notes)
-    (m : PairOf) (other : Option HeldOf) (x : C) (w : LaneOf) (run last : CellRun) (waits : Option (ℕ × List ℕ)) (hears : Bool) (caller : CallerState) → WritesCommands → IsWishedIn other peer_wish
-    → (hears ≡ true → IfSome (core.wish (after_hearing hears core x)) IsSpoken)
-    → Rests packages core agent place m other x run.cell waits → option_map asking caller.asked ≡ waits
+    (m : PairOf) (other : Option CellContentOf) (x : C) (w : LaneOf) (run last : CellRun) (waits : Option (ℕ × List ℕ)) (hears : Bool) (caller : CallerState) → WritesCommands → IsWishedIn other peer_wish
+    → (hears ≡ true → IfSome (core.wish (after_hearing hears core x)) CommandRoundTrips)
+    → Rests packages core agent place m other x run.cell waits → option_map request_of_open caller.asked ≡ waits
     → cells_along w (hearing_steps hears core x caller) (Some run) ≡ Some last
     → CoreGoes packages core agent place m other (after_hearing hears core x) last.cell
 then_hears side m other x w run last waits hears caller written k spoken r is e =
     goes_on r.goes.leads (hears_from side hears caller x r.goes.own other w run last written k spoken r.goes.holds (r.waiting ∙ sym is) e)
 
 calls_from : {C : Type 0} {packages : List PackageText} {core : CoreOf C} {agent : Bool} {place : Place C} {peer_wish : Option CommandOf} {notes : Notes C} (side : Sided packages core agent place peer_wish notes)
-    (row : AskerTick) (x : C) (own other : Option HeldOf) (w : LaneOf) (run mid last : CellRun) → WritesCommands → IsWishedIn other peer_wish → (hears_then row ≡ true → IfSome (core.wish (after_row core x row)) IsSpoken)
-    → Holds core agent x run.cell own → RowWaits row (awaited run.cell) → cell_ticks row run ≡ Some mid
+    (row : AskerTick) (x : C) (own other : Option CellContentOf) (w : LaneOf) (run mid last : CellRun) → WritesCommands → IsWishedIn other peer_wish → (hears_then row ≡ true → IfSome (core.wish (after_row core x row)) CommandRoundTrips)
+    → Holds core agent x run.cell own → RowWaits row (awaited_request run.cell) → cell_ticks row run ≡ Some mid
     → cells_along w (called_steps core x row) (Some mid) ≡ Some last
     → CoreGoes packages core agent place (place x own other) other (after_row core x row) last.cell
 calls_from {C} {packages} {core} {agent} {place} side (AskerTick.Waits a) x own other w run mid last written k spoken holds waits rests e =
-    then_hears side (place x own other) other x w mid last (awaited run.cell) (a.deaf == 0) a.caller written k spoken (rests_if side x own other run mid (hears_quiet a) k holds rests) waits e
+    then_hears side (place x own other) other x w mid last (awaited_request run.cell) (a.deaf == 0) a.caller written k spoken (rests_if side x own other run mid (is_asker_quiet a) k holds rests) waits e
 calls_from {C} {packages} {core} {agent} {place} side (AskerTick.Resends a m) x own other w run mid last written k spoken holds waits rests e =
-    then_hears side (place x own other) other x w mid last (awaited run.cell) (a.deaf == 0) a.caller written k spoken (unmoved x own other run mid holds rests) waits e
+    then_hears side (place x own other) other x w mid last (awaited_request run.cell) (a.deaf == 0) a.caller written k spoken (unmoved x own other run mid holds rests) waits e
 calls_from {C} {packages} {core} {agent} {place} side (AskerTick.GivesUp a) x own other w run mid last written k spoken holds waits gives e =
-    then_hears side (place x own other) other (core.silent x) w mid last None (a.deaf == 0) a.caller written k spoken (gives_from side x own other run mid run.cell k holds gives) (ap (option_map asking) waits) e
+    then_hears side (place x own other) other (core.silent x) w mid last None (a.deaf == 0) a.caller written k spoken (gives_from side x own other run mid run.cell k holds gives) (ap (option_map request_of_open) waits) e
 
 -- the core of a half after a tick
 core_begun : {C : Type 0} (may : Bool) (h : HalfOf C) (c : CommandOf) (ms : List MessageOf) → (begins_if may h c ms).half.core ≡ h.core
@@ -145,12 +145,12 @@ core_stays : {C : Type 0} (wish : Option CommandOf) (h : HalfOf C) (ms : List Me
 core_stays None h ms = refl
 core_stays (Some c) h ms = core_begun (may_begin h.asker.caller) h c ms
 
-core_hears : {C : Type 0} (hears : Bool) (core : CoreOf C) (h : HalfOf C) (ms : List MessageOf) → (hears_if hears core h ms).half.core ≡ after_hearing hears core h.core
+core_hears : {C : Type 0} (hears : Bool) (core : CoreOf C) (h : HalfOf C) (ms : List MessageOf) → (tick_if hears core h ms).half.core ≡ after_hearing hears core h.core
 core_hears true core h ms =
     core_stays (core.wish (core.ticked h.core)) (with_caller (record h { core = core.ticked h.core }) (unwished_abandoned (core.wish (core.ticked h.core)) h.asker.caller)) ms
 core_hears false core h ms = refl
 
-core_called : {C : Type 0} (core : CoreOf C) (h : HalfOf C) (row : AskerTick) → (called core h row).half.core ≡ after_row core h.core row
+core_called : {C : Type 0} (core : CoreOf C) (h : HalfOf C) (row : AskerTick) → (half_tick_by_row core h row).half.core ≡ after_row core h.core row
 core_called core h (AskerTick.Waits a) = core_hears (a.deaf == 0) core (record h { asker = a }) []
 core_called core h (AskerTick.Resends a m) = core_hears (a.deaf == 0) core (record h { asker = a }) (m ∷ [])
 core_called core h (AskerTick.GivesUp a) = core_hears (a.deaf == 0) core (record h { asker = a; core = core.silent h.core }) []
@@ -160,23 +160,23 @@ core_ticked core h = core_called core (record h { taker = taker_counts h.taker }
 
 -- A tick of a half that counts it, by its row and its cell.
 counts_on : {C : Type 0} {packages : List PackageText} {core : CoreOf C} {agent : Bool} {place : Place C} {peer_wish : Option CommandOf} {notes : Notes C} (side : Sided packages core agent place peer_wish notes)
-    (h : HalfOf C) (own other : Option HeldOf) (w : LaneOf) (run last : CellRun) → WritesCommands → IsWishedIn other peer_wish → Speaks core h
-    → Holds core agent h.core run.cell own → awaited run.cell ≡ option_map asking h.asker.caller.asked
+    (h : HalfOf C) (own other : Option CellContentOf) (w : LaneOf) (run last : CellRun) → WritesCommands → IsWishedIn other peer_wish → PendingRoundTrips core h
+    → Holds core agent h.core run.cell own → awaited_request run.cell ≡ option_map request_of_open h.asker.caller.asked
     → cells_along w (counted_steps core true h) (cell_ticks (asker_counts h.asker) run) ≡ Some last
     → CoreGoes packages core agent place (place h.core own other) other (half_ticks core true h).half.core last.cell
 counts_on {C} {packages} {core} {agent} {place} side h own other w run last written k spoken holds waits e =
     let on = went w (counted_steps core true h) (cell_ticks (asker_counts h.asker) run) last e in
     subst (λ x. CoreGoes packages core agent place (place h.core own other) other x last.cell) (sym (core_ticked core h))
     (calls_from side (asker_counts h.asker) h.core own other w run on.run last written k
-    (λ hears. subst (λ x. IfSome (core.wish x) IsSpoken) (core_ticked core h) (spoken (deaf_before h.asker hears))) holds
+    (λ hears. subst (λ x. IfSome (core.wish x) CommandRoundTrips) (core_ticked core h) (spoken (deaf_before h.asker hears))) holds
     (subst (RowWaits (asker_counts h.asker)) (sym waits) (row_waits h.asker))
     on.is (ap (cells_along w (counted_steps core true h)) (sym on.is) ∙ e))
 
 -- A tick of a half, whether it counts it or not.
 pub half_ticks_on : {C : Type 0} {packages : List PackageText} {core : CoreOf C} {agent : Bool} {place : Place C} {peer_wish : Option CommandOf} {notes : Notes C} (side : Sided packages core agent place peer_wish notes)
-    (counts : Bool) (h : HalfOf C) (own other : Option HeldOf) (w : LaneOf) (run last : CellRun) → WritesCommands → IsWishedIn other peer_wish → (counts ≡ true → Speaks core h)
-    → Holds core agent h.core run.cell own → awaited run.cell ≡ option_map asking h.asker.caller.asked
+    (counts : Bool) (h : HalfOf C) (own other : Option CellContentOf) (w : LaneOf) (run last : CellRun) → WritesCommands → IsWishedIn other peer_wish → (counts ≡ true → PendingRoundTrips core h)
+    → Holds core agent h.core run.cell own → awaited_request run.cell ≡ option_map request_of_open h.asker.caller.asked
     → cells_along w (counted_steps core counts h) (cell_ticks (asker_tick counts h.asker) run) ≡ Some last
     → CoreGoes packages core agent place (place h.core own other) other (half_ticks core counts h).half.core last.cell
 half_ticks_on side true h own other w run last written k spoken holds waits e = counts_on side h own other w run last written k (spoken refl) holds waits e
-half_ticks_on side false h own other w run last written k spoken holds waits e = (rests_if side h.core own other run last (hears_quiet h.asker) k holds e).goes
+half_ticks_on side false h own other w run last written k spoken holds waits e = (rests_if side h.core own other run last (is_asker_quiet h.asker) k holds e).goes

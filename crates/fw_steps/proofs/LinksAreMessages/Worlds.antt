@@ -4,13 +4,13 @@ use Rattle.std.specs.List.{AllByRecursion}
 use Rattle.exch_lane.specs.Lanes.{AreEnds}
 use Rattle.exch_lane.specs.Laws.{LaneIsACell}
 use Rattle.fw_package.specs.Package.{PackageText}
-use Rattle.fw_message.specs.Names.{IsNamed}
-use Rattle.fw_message.specs.WorldLaws.{IsOpeningWorld, IsSafeWorld, WorldsAreSafe}
-use Rattle.fw_message.specs.Worlds.{NodeOf, NotedOf, WorldOf, WorldStepOf, world_along}
+use Rattle.fw_message.specs.Names.{IsNamedStep}
+use Rattle.fw_message.specs.WorldLaws.{IsOpeningMessageWorld, IsSafeMessageWorld, WorldsAreSafe}
+use Rattle.fw_message.specs.Worlds.{NodeOf, NotedOf, MessageWorldOf, WorldStepOf, world_along}
 use Rattle.fw_message.specs.declared.side.Side.TheVariants as sides
 use Rattle.fw_message.proofs.Safety.Worlds.{along_append}
 use Rattle.fw_steps.specs.Headline.{AreDifferent}
-use Rattle.fw_steps.specs.Links.{LinkOf, LinkStep, LinkStepped, unnoted}
+use Rattle.fw_steps.specs.Links.{LinkOf, LinkStep, LinkStepped, link_step_without_entries}
 use Rattle.fw_steps.proofs.LinksAreMessages.Each.{AllAfter, AllStand, eid_of, notes_of}
 use Rattle.fw_steps.proofs.LinksAreMessages.BothHalves.{pair_at}
 use Rattle.fw_steps.proofs.LinksAreMessages.Moves.{MovesOn, WorldStands}
@@ -50,7 +50,7 @@ new_all_stand law packages (l ∷ ls) new = (
 )
 
 -- New links stand with the pairs that have asked nothing.
-pub new_world_stands : LaneIsACell → (ls : List LinkOf) (v : WorldOf) → AreNewLinks ls → v.nodes ≡ map opening_node ls → AreDifferent (map eid_of v.nodes) → WorldStands 0 ls v
+pub new_world_stands : LaneIsACell → (ls : List LinkOf) (v : MessageWorldOf) → AreNewLinks ls → v.nodes ≡ map opening_node ls → AreDifferent (map eid_of v.nodes) → WorldStands 0 ls v
 new_world_stands law ls v new are apart = record {
   stand = subst (AllStand v.packages 0 ls) (sym are) (new_all_stand law v.packages ls new);
   apart = apart;
@@ -59,24 +59,24 @@ new_world_stands law ls v new are apart = record {
 -- WHERE IT GOES
 
 -- steps of messages lead from one world to another
-pub record Reaches (opening v : WorldOf) : Type 0 where
+pub record Reaches (opening v : MessageWorldOf) : Type 0 where
   pub steps : List WorldStepOf
-  pub named : AllByRecursion IsNamed steps
+  pub named : AllByRecursion IsNamedStep steps
   pub along : world_along (Some opening) steps ≡ Some v
 
-pub reaches_first : (opening : WorldOf) → Reaches opening opening
+pub reaches_first : (opening : MessageWorldOf) → Reaches opening opening
 reaches_first opening = record { steps = []; named = tt; along = refl }
 
-pub reaches_on : (opening v : WorldOf) (now : ℕ) (ls : List LinkOf) (notes : List NotedOf) → Reaches opening v → (m : MovesOn now ls notes v) → Reaches opening m.after
+pub reaches_on : (opening v : MessageWorldOf) (now : ℕ) (ls : List LinkOf) (notes : List NotedOf) → Reaches opening v → (m : MovesOn now ls notes v) → Reaches opening m.after
 reaches_on opening v now ls notes r m = record {
   steps = r.steps ++ m.steps;
-  named = all_along IsNamed r.steps m.steps r.named m.named;
+  named = all_along IsNamedStep r.steps m.steps r.named m.named;
   along = along_append r.steps m.steps (Some opening) ∙ ap (λ o. world_along o m.steps) r.along ∙ m.along;
 }
 
 -- What is reached is safe.
-pub reached_safe : WorldsAreSafe → (opening v : WorldOf) → IsOpeningWorld opening → Reaches opening v → IsSafeWorld opening v
-reached_safe law opening v begins r = subst (λ o. IfSome o (IsSafeWorld opening)) r.along (law opening r.steps begins)
+pub reached_safe : WorldsAreSafe → (opening v : MessageWorldOf) → IsOpeningMessageWorld opening → Reaches opening v → IsSafeMessageWorld opening v
+reached_safe law opening v begins r = subst (λ o. IfSome o (IsSafeMessageWorld opening)) r.along (law opening r.steps begins)
 
 -- WHAT NOTES NOTHING
 
@@ -90,9 +90,9 @@ none_noted [] ts e = refl
 none_noted (eid ∷ eids) [] e = refl
 none_noted (eid ∷ eids) (t ∷ ts) e = rw (e.0, none_noted eids ts e.1) refl
 
-unnoted_if : (may : Bool) (l : LinkOf) (t : LinkStepped) → (if may then Some (unnoted l) else None) ≡ Some t → t.noted ≡ []
+unnoted_if : (may : Bool) (l : LinkOf) (t : LinkStepped) → (if may then Some (link_step_without_entries l) else None) ≡ Some t → t.noted ≡ []
 unnoted_if true l t e =
-    let is : unnoted l ≡ t = cc in
+    let is : link_step_without_entries l ≡ t = cc in
     ap (λ x. x.noted) (sym is)
 unnoted_if false l t e = absurd (cc)
 

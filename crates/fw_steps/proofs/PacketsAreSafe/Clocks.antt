@@ -3,25 +3,25 @@ use Rattle.std.proofs.Common.{◌≡◌, ◌∙◌, ◌≤◌, ◌+◌, ◌==◌
 use Rattle.std.specs.List.{AllByRecursion}
 use Rattle.std.proofs.lemmas.Bool.{ltb-true}
 use Rattle.std.proofs.lemmas.Bool.Decides.{eqb_tells}
-use Rattle.exch_lane.specs.Clocks.{AreAllowed, TicksAreLate, counted as counted_of, late, may_beat, since_after, since_all}
-use Rattle.exch_lane.specs.Lanes.{Sent, lives_until, numbered}
+use Rattle.exch_lane.specs.Clocks.{AreAllowed, TicksAreLate, counted_ticks as counted_of, late, may_beat, since_after, since_all}
+use Rattle.exch_lane.specs.Lanes.{Sent, lives_until, item_numbered}
 use Rattle.exch_lane.specs.Laws.{LaneIsACell}
 use Rattle.fw_package.specs.Package.{PackageText}
-use Rattle.fd_core.specs.Steps.{Judged, device_verdict}
+use Rattle.fd_core.specs.Steps.{VerdictEffect, device_verdict}
 use Rattle.ua_core.specs.Calls.{agent_activated}
 use Rattle.ua_core.specs.Session.{SessionOf, TimedOf}
 use Rattle.fw_message.specs.Pairs.{may_start}
 use Rattle.fw_message.specs.declared.side.Side.{Side}
 use Rattle.fw_message.specs.declared.side.Side.TheVariants as sides
-use Rattle.fw_node.specs.Agents.{half_for, starts}
+use Rattle.fw_node.specs.Agents.{half_for, half_after_start}
 use Rattle.fw_node.specs.Cores.{TimedDevice, device_core, session_core}
-use Rattle.fw_node.specs.Halves.{HalfHeard, HalfOf, half_hears}
+use Rattle.fw_node.specs.Halves.{HalfOutcome, HalfOf, half_on_packet}
 use Rattle.fw_node.specs.Nodes.{DeviceNodeOf}
-use Rattle.fw_steps.specs.Clocks.{KeepsTime, RunsKeepTime, counted, passed, ticks_in, units_of}
-use Rattle.fw_steps.specs.Headline.{IsOpeningWorld, Leads, Run, is_device, may_step, new_site, world_after}
+use Rattle.fw_steps.specs.Clocks.{KeepsTime, RunsKeepTime, ticks_counted_by, units_passed, ticks_in, units_of}
+use Rattle.fw_steps.specs.Headline.{IsOpeningWorld, StepsTo, Run, is_device, may_step, new_site, world_after}
 use Rattle.fw_steps.specs.LinksAreMessages.{LinksAreMessages}
 use Rattle.fw_steps.specs.LinksAreLanes.{LinksAreLanes}
-use Rattle.fw_steps.specs.Links.{LinkOf, LinkStep, LinkStepped, activates_on as link_activates, agent_heard, delivers_on, device_heard, hears_on, judges_on, link_after, link_ticks, unnoted}
+use Rattle.fw_steps.specs.Links.{LinkOf, LinkStep, LinkStepped, activates_on as link_activates, link_step_of_agent, delivers_on, link_step_of_device, link_step_of_packet, link_step_of_verdict, link_after, link_ticks, link_step_without_entries}
 use Rattle.fw_steps.specs.Worlds.{SiteOf, WorldOf, counts, site_for}
 use Rattle.fw_steps.specs.declared.step.Step.{Step}
 use Rattle.fw_steps.specs.declared.step.Step.TheVariants as steps
@@ -29,7 +29,7 @@ use Rattle.fw_steps.proofs.LinksAreLanes.Beats.{agent_may, device_may}
 use Rattle.fw_steps.proofs.LinksAreLanes.Firsts.{first_fact}
 use Rattle.fw_steps.proofs.LinksAreLanes.Linked.{linked_world}
 use Rattle.fw_steps.proofs.LinksAreLanes.Posting.{site_eid, site_is_first}
-use Rattle.fw_steps.proofs.LinksAreLanes.Projected.{StepsTo, comes_as, link_step, restart_as, where_mine}
+use Rattle.fw_steps.proofs.LinksAreLanes.Projected.{LinkStepsTo, comes_as, link_step, restart_as, where_mine}
 use Rattle.fw_steps.proofs.LinksAreLanes.Projection.{link_at, link_from}
 use Rattle.fw_steps.proofs.PacketsAreSafe.KnownDeaf.{agent_stays, became, became_if}
 use Rattle.fw_steps.proofs.PacketsAreSafe.KnownSteps.{gone_to}
@@ -63,7 +63,7 @@ count_more eid (steps.Verdict device verdict) bs = omega arith
 count_more eid (steps.Restart node) bs = omega arith
 count_more eid (steps.Sel bytes) bs = omega arith
 
-counts_are : (eid : ℕ) (ss : List Step) → counted_of (beats_in eid ss) ≡ counted eid ss
+counts_are : (eid : ℕ) (ss : List Step) → counted_of (beats_in eid ss) ≡ ticks_counted_by eid ss
 counts_are eid [] = refl
 counts_are eid (s ∷ ss) = count_more eid s (beats_in eid ss) ∙ ap (λ n. ticks_in eid s + n) (counts_are eid ss)
 
@@ -77,7 +77,7 @@ units_more eid (steps.Verdict device verdict) bs = omega arith
 units_more eid (steps.Restart node) bs = omega arith
 units_more eid (steps.Sel bytes) bs = omega arith
 
-units_are : (eid : ℕ) (ss : List Step) → length (beats_in eid ss) ≡ passed ss
+units_are : (eid : ℕ) (ss : List Step) → length (beats_in eid ss) ≡ units_passed ss
 units_are eid [] = refl
 units_are eid (s ∷ ss) = units_more eid s (beats_in eid ss) ∙ ap (λ n. units_of s + n) (units_are eid ss)
 
@@ -133,7 +133,7 @@ agent_since works faults w (steps.Sel bytes) = since_goes works faults w (steps.
 agent_along : (w v : WorldOf) (ss : List Step) (eid : ℕ) → w.agent.endpoint.eid ≡ eid → Run w ss v → Beats eid w.since_miss v.since_miss ss
 agent_along w v [] eid is e = record { allowed = tt; since = ap (λ x. x.since_miss) e }
 agent_along w v (s ∷ ss) eid is run =
-    let h : Leads w s run.0 = run.1 in
+    let h : StepsTo w s run.0 = run.1 in
     let rest = agent_along run.0 v ss eid (ap (λ x. x.agent.endpoint.eid) h.after ∙ agent_stays h.works h.faults w s ∙ is) run.2 in
     let since : run.0.since_miss ≡ since_all (beat_in eid s) w.since_miss =
     ap (λ x. x.since_miss) h.after ∙ agent_since h.works h.faults w s ∙ ap (λ e. since_all (beat_in e s) w.since_miss) is in
@@ -152,24 +152,24 @@ abbrev since_then : LinkStep → ℕ → ℕ
 since_then (LinkStep.Tick agent device) n = since_after device n
 since_then s n = n
 
-agent_heard_since : (now : ℕ) (packages : List PackageText) (l : LinkOf) (heard : HalfHeard TimedOf) (t : LinkStepped) → agent_heard now packages l heard ≡ Some t → device_count t.after ≡ device_count l
-agent_heard_since now packages l (HalfHeard.Went h sent) t e = became device_count _ t _ e refl
-agent_heard_since now packages l (HalfHeard.Took h sent c answer) t e = became device_count _ t _ e refl
-agent_heard_since now packages l (HalfHeard.Asks h m head body) t e = absurd (cc)
-agent_heard_since now packages l (HalfHeard.Strayed h m) t e = absurd (cc)
+agent_heard_since : (now : ℕ) (packages : List PackageText) (l : LinkOf) (heard : HalfOutcome TimedOf) (t : LinkStepped) → link_step_of_agent now packages l heard ≡ Some t → device_count t.after ≡ device_count l
+agent_heard_since now packages l (HalfOutcome.Went h sent) t e = became device_count _ t _ e refl
+agent_heard_since now packages l (HalfOutcome.Took h sent c answer) t e = became device_count _ t _ e refl
+agent_heard_since now packages l (HalfOutcome.Asks h m head body) t e = absurd (cc)
+agent_heard_since now packages l (HalfOutcome.Strayed h m) t e = absurd (cc)
 
-device_heard_since : (now : ℕ) (works : Bool) (l : LinkOf) (heard : HalfHeard TimedDevice) (t : LinkStepped) → device_heard now works l heard ≡ Some t → device_count t.after ≡ device_count l
-device_heard_since now works l (HalfHeard.Went h sent) t e = became device_count _ t _ e refl
-device_heard_since now works l (HalfHeard.Took h sent c answer) t e = became device_count _ t _ e refl
-device_heard_since now works l (HalfHeard.Asks h m head body) t e = absurd (cc)
-device_heard_since now works l (HalfHeard.Strayed h m) t e = absurd (cc)
+device_heard_since : (now : ℕ) (works : Bool) (l : LinkOf) (heard : HalfOutcome TimedDevice) (t : LinkStepped) → link_step_of_device now works l heard ≡ Some t → device_count t.after ≡ device_count l
+device_heard_since now works l (HalfOutcome.Went h sent) t e = became device_count _ t _ e refl
+device_heard_since now works l (HalfOutcome.Took h sent c answer) t e = became device_count _ t _ e refl
+device_heard_since now works l (HalfOutcome.Asks h m head body) t e = absurd (cc)
+device_heard_since now works l (HalfOutcome.Strayed h m) t e = absurd (cc)
 
-heard_since : (now : ℕ) (packages : List PackageText) (l : LinkOf) (to : Side) (works : Bool) (bytes : List ℕ) (t : LinkStepped) → hears_on now packages l to works bytes ≡ Some t → device_count t.after ≡ device_count l
-heard_since now packages l sides.Agent works bytes t e = agent_heard_since now packages l (half_hears (session_core packages) true l.agent bytes) t e
-heard_since now packages l sides.Device works bytes t e = device_heard_since now works l (half_hears device_core works l.device bytes) t e
+heard_since : (now : ℕ) (packages : List PackageText) (l : LinkOf) (to : Side) (works : Bool) (bytes : List ℕ) (t : LinkStepped) → link_step_of_packet now packages l to works bytes ≡ Some t → device_count t.after ≡ device_count l
+heard_since now packages l sides.Agent works bytes t e = agent_heard_since now packages l (half_on_packet (session_core packages) true l.agent bytes) t e
+heard_since now packages l sides.Device works bytes t e = device_heard_since now works l (half_on_packet device_core works l.device bytes) t e
 
 heard_since_if : (dead : Bool) (now : ℕ) (packages : List PackageText) (l : LinkOf) (to : Side) (works : Bool) (bytes : List ℕ) (t : LinkStepped)
-    → (if dead then None else hears_on now packages l to works bytes) ≡ Some t → device_count t.after ≡ device_count l
+    → (if dead then None else link_step_of_packet now packages l to works bytes) ≡ Some t → device_count t.after ≡ device_count l
 heard_since_if true now packages l to works bytes t e = absurd (cc)
 heard_since_if false now packages l to works bytes t e = heard_since now packages l to works bytes t e
 
@@ -181,16 +181,16 @@ activated_since : (packages : List PackageText) (l : LinkOf) (o : Option Session
 activated_since packages l None t e = absurd (cc)
 activated_since packages l (Some s) t e = became device_count _ t _ e refl
 
-judged_since : (l : LinkOf) (o : Option Judged) (t : LinkStepped) → judges_on l o ≡ Some t → device_count t.after ≡ device_count l
+judged_since : (l : LinkOf) (o : Option VerdictEffect) (t : LinkStepped) → link_step_of_verdict l o ≡ Some t → device_count t.after ≡ device_count l
 judged_since l None t e = absurd (cc)
 judged_since l (Some j) t e = became device_count _ t _ e refl
 
 since_on_link : (now : ℕ) (packages : List PackageText) (l : LinkOf) (s : LinkStep) (t : LinkStepped) → link_after now packages l s ≡ Some t → device_count t.after ≡ since_then s (device_count l)
-since_on_link now packages l (LinkStep.Deliver number to works) t e = comes_since now packages l to works (numbered l.packets number) t e
+since_on_link now packages l (LinkStep.Deliver number to works) t e = comes_since now packages l to works (item_numbered l.packets number) t e
 since_on_link now packages l (LinkStep.Tick agent device) t e =
-    became_if device_count (nat_lt now (2 ^ 32 - 1) && (may_beat agent l.agent_since_miss && may_beat device l.device_since_miss)) (unnoted (link_ticks now packages l agent device)) t _ e refl
+    became_if device_count (nat_lt now (2 ^ 32 - 1) && (may_beat agent l.agent_since_miss && may_beat device l.device_since_miss)) (link_step_without_entries (link_ticks now packages l agent device)) t _ e refl
 since_on_link now packages l (LinkStep.Start number) t e =
-    became_if device_count (may_start packages l.agent.core.session number) (unnoted (record l { agent = starts packages l.agent number })) t _ e refl
+    became_if device_count (may_start packages l.agent.core.session number) (link_step_without_entries (record l { agent = half_after_start packages l.agent number })) t _ e refl
 since_on_link now packages l LinkStep.Cancel t e = became device_count _ t _ e refl
 since_on_link now packages l LinkStep.Activate t e = activated_since packages l (agent_activated l.agent.core.session) t e
 since_on_link now packages l (LinkStep.Judge verdict works) t e = judged_since l (device_verdict l.device.core.device verdict works) t e
@@ -243,13 +243,13 @@ record Counted (v : WorldOf) (eid n : ℕ) : Type 0 where
   pub there : link_at v eid ≡ Some link
   pub since : link.device_since_miss ≡ n
 
-counted_then : (v : WorldOf) (now : ℕ) (packages : List PackageText) (l : LinkOf) (eid m : ℕ) (o : Option LinkStep) → StepsTo now packages l o (link_at v eid) → SinceAs o l.device_since_miss m → Counted v eid m
+counted_then : (v : WorldOf) (now : ℕ) (packages : List PackageText) (l : LinkOf) (eid m : ℕ) (o : Option LinkStep) → LinkStepsTo now packages l o (link_at v eid) → SinceAs o l.device_since_miss m → Counted v eid m
 counted_then v now packages l eid m None goes is = record { link = l; there = goes; since = sym is }
 counted_then v now packages l eid m (Some s) goes is =
     let g = gone_to now packages l s (link_at v eid) goes in
     record { link = g.stepped.after; there = g.is; since = since_on_link now packages l s g.stepped g.goes ∙ sym is }
 
-device_step : LaneIsACell → (opening w v : WorldOf) (s : Step) (eid : ℕ) (l : LinkOf) → Stand opening w → Leads w s v → link_at w eid ≡ Some l → Counted v eid (since_all (beat_in eid s) l.device_since_miss)
+device_step : LaneIsACell → (opening w v : WorldOf) (s : Step) (eid : ℕ) (l : LinkOf) → Stand opening w → StepsTo w s v → link_at w eid ≡ Some l → Counted v eid (since_all (beat_in eid s) l.device_since_miss)
 device_step law opening w v s eid l k h is =
     let f = world_follows law opening w v s k h in
     subst (λ u. Counted u eid (since_all (beat_in eid s) l.device_since_miss)) (sym h.after)
@@ -265,7 +265,7 @@ device_along : LaneIsACell → LinksAreLanes → LinksAreMessages → (opening w
     → DeviceBeats v eid l.device_since_miss ss
 device_along law lanes messages opening w v [] eid l k is e = record { link = l; there = ap (λ x. link_at x eid) e ∙ is; beats = record { allowed = tt; since = refl } }
 device_along law lanes messages opening w v (s ∷ ss) eid l k is run =
-    let h : Leads w s run.0 = run.1 in
+    let h : StepsTo w s run.0 = run.1 in
     let c = device_step law opening w run.0 s eid l k h is in
     let rest = device_along law lanes messages opening run.0 v ss eid c.link (stand_on law lanes messages opening w run.0 s k h) c.there run.2 in
     record {
@@ -303,8 +303,8 @@ keeps : TicksAreLate → (eid first n m : ℕ) (before ss : List Step) → first
 keeps late_law eid first n m before ss eight h k =
     let small : n ≤ 8 = subst (λ x. x ≤ 8) (sym h.since) (all_small (beats_in eid before) first (omega (arith, eight))) in
     let law = late_law (beats_in eid ss) n small k.allowed in (
-      subst (λ x. x ≤ passed ss) (counts_are eid ss) (subst (λ x. counted_of (beats_in eid ss) ≤ x) (units_are eid ss) law.0),
-      subst (λ x. x ≤ late (counted eid ss)) (units_are eid ss) (subst (λ x. length (beats_in eid ss) ≤ late x) (counts_are eid ss) law.1),
+      subst (λ x. x ≤ units_passed ss) (counts_are eid ss) (subst (λ x. counted_of (beats_in eid ss) ≤ x) (units_are eid ss) law.0),
+      subst (λ x. x ≤ late (ticks_counted_by eid ss)) (units_are eid ss) (subst (λ x. length (beats_in eid ss) ≤ late x) (counts_are eid ss) law.1),
     )
 
 agent_keeps : TicksAreLate → (opening w v : WorldOf) (before ss : List Step) (eid : ℕ) → IsOpeningWorld opening → Run opening before w → Run w ss v → w.agent.endpoint.eid ≡ eid → opening.agent.endpoint.eid ≡ eid → KeepsTime eid ss
@@ -325,7 +325,7 @@ device_keeps law lanes messages late_law opening w v before ss eid (Some l) open
 agent_eid_along : (w v : WorldOf) (ss : List Step) → Run w ss v → v.agent.endpoint.eid ≡ w.agent.endpoint.eid
 agent_eid_along w v [] e = ap (λ x. x.agent.endpoint.eid) e
 agent_eid_along w v (s ∷ ss) run =
-    let h : Leads w s run.0 = run.1 in
+    let h : StepsTo w s run.0 = run.1 in
     agent_eid_along run.0 v ss run.2 ∙ ap (λ x. x.agent.endpoint.eid) h.after ∙ agent_stays h.works h.faults w s
 
 known_device : (agent device : Bool) → agent ≡ false → (agent || device) ≡ true → device ≡ true

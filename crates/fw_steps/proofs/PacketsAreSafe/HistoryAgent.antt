@@ -21,12 +21,12 @@ use Rattle.ua_core.specs.declared.planned.Recorded.{Recorded}
 use Rattle.ua_core.proofs.Lawful.{learns_no_record}
 use Rattle.fw_message.specs.History.{EntryOf}
 use Rattle.fw_message.specs.Worlds.{noted_of}
-use Rattle.fw_node.specs.Agents.{any_packet, AgentOf, agent_hears, half_at, half_for, place_of as half_place}
+use Rattle.fw_node.specs.Agents.{any_packet, AgentOf, agent_on_packet, half_at, half_for, place_of as half_place}
 use Rattle.fw_node.specs.Cores.{package_of, session_core}
-use Rattle.fw_node.specs.Halves.{HalfHeard, HalfOf, half_hears, half_hears_by, half_takes, read_by, takes_if, takes_read}
-use Rattle.fw_node.specs.Nodes.{finished}
-use Rattle.fw_steps.specs.Links.{LinkOf, agent_heard}
-use Rattle.fw_steps.specs.Worlds.{WorldOf, made_by, record_behind, recorded_from, sender_of}
+use Rattle.fw_node.specs.Halves.{HalfOutcome, HalfOf, half_on_packet, half_on_rows, half_takes, read_by, takes_if, takes_read}
+use Rattle.fw_node.specs.Nodes.{node_outcome_of}
+use Rattle.fw_steps.specs.Links.{LinkOf, link_step_of_agent}
+use Rattle.fw_steps.specs.Worlds.{WorldOf, record_count_of, record_after, recorded_from, sender_of}
 use Rattle.fw_steps.proofs.LinksAreLanes.AgentArrivals.{heard_from, heard_half, heard_half_peer, hears_put, unheard}
 use Rattle.fw_steps.proofs.LinksAreLanes.AgentTicks.{half_put}
 use Rattle.fw_steps.proofs.PacketsAreSafe.HistoryNoted.{noted_each, noted_in}
@@ -51,11 +51,11 @@ new_by s (ServeRow.Move g a) = none_new s (after_by s (ServeRow.Move g a)) refl
 new_by s (ServeRow.Record t) = ap option_to_list (stands_behind s.records (record_of s t))
 
 -- What a half heard: its session records what the command makes it record, and nothing of anything else.
-abbrev pub RecordsHeard : List PackageText → SessionOf → HalfHeard TimedOf → Type 0
-RecordsHeard packages s (HalfHeard.Went half sent) = half.core.session.records ≡ s.records
-RecordsHeard packages s (HalfHeard.Took half sent command answer) = new_records s half.core.session ≡ recorded_by (package_of packages s) s command
-RecordsHeard packages s (HalfHeard.Asks half m head body) = half.core.session.records ≡ s.records
-RecordsHeard packages s (HalfHeard.Strayed half m) = half.core.session.records ≡ s.records
+abbrev pub RecordsHeard : List PackageText → SessionOf → HalfOutcome TimedOf → Type 0
+RecordsHeard packages s (HalfOutcome.Went half sent) = half.core.session.records ≡ s.records
+RecordsHeard packages s (HalfOutcome.Took half sent command answer) = new_records s half.core.session ≡ recorded_by (package_of packages s) s command
+RecordsHeard packages s (HalfOutcome.Asks half m head body) = half.core.session.records ≡ s.records
+RecordsHeard packages s (HalfOutcome.Strayed half m) = half.core.session.records ≡ s.records
 
 read_records : (packages : List PackageText) (quiet : Bool) (h : HalfOf TimedOf) (requests : List (Option Held)) (m : MessageOf) (head : PldmHead) (c : Result CommandOf ℕ)
     → RecordsHeard packages h.core.session (takes_read (session_core packages) quiet true h requests m head c)
@@ -75,24 +75,24 @@ served_records packages h (TakerRow.TakesUp requests m head body) = taken_record
 served_records packages h (TakerRow.Strays requests m) = refl
 
 rows_record : (packages : List PackageText) (h : HalfOf TimedOf) (asks : AskerRow) (answers : TakerRow)
-    → RecordsHeard packages h.core.session (half_hears_by (session_core packages) true h asks answers)
+    → RecordsHeard packages h.core.session (half_on_rows (session_core packages) true h asks answers)
 rows_record packages h (AskerRow.Ignores replies) answers = served_records packages (record h { asker = record h.asker { replies = replies } }) answers
 rows_record packages h (AskerRow.Learns replies caller heard) answers =
     learns_no_record (package_of packages h.core.session) h.core.session (answer_read heard.command heard.reply)
 
-pub hearing_records : (packages : List PackageText) (h : HalfOf TimedOf) (bytes : List ℕ) → RecordsHeard packages h.core.session (half_hears (session_core packages) true h bytes)
+pub hearing_records : (packages : List PackageText) (h : HalfOf TimedOf) (bytes : List ℕ) → RecordsHeard packages h.core.session (half_on_packet (session_core packages) true h bytes)
 hearing_records packages h bytes = rows_record packages h (asker_row h.unit h.own h.peer h.asker bytes) (taker_row h.unit h.own h.peer h.taker bytes)
 
 -- The link notes what is recorded.
-heard_noted : (now : ℕ) (packages : List PackageText) (l : LinkOf) (endpoint : Endpoint) (tid : ℕ) (heard : HalfHeard TimedOf) → RecordsHeard packages l.agent.core.session heard
-    → map EntryOf.Recording (new_records l.agent.core.session (finished roles.Agent endpoint tid heard).half.core.session) ≡ noted_in (agent_heard now packages l heard)
-heard_noted now packages l endpoint tid (HalfHeard.Went half sent) k = ap (map EntryOf.Recording) (none_new l.agent.core.session half.core.session k)
-heard_noted now packages l endpoint tid (HalfHeard.Took half sent command answer) k = ap (map EntryOf.Recording) k
-heard_noted now packages l endpoint tid (HalfHeard.Asks half m head body) k = ap (map EntryOf.Recording) (none_new l.agent.core.session half.core.session k)
-heard_noted now packages l endpoint tid (HalfHeard.Strayed half m) k = ap (map EntryOf.Recording) (none_new l.agent.core.session half.core.session k)
+heard_noted : (now : ℕ) (packages : List PackageText) (l : LinkOf) (endpoint : Endpoint) (tid : ℕ) (heard : HalfOutcome TimedOf) → RecordsHeard packages l.agent.core.session heard
+    → map EntryOf.Recording (new_records l.agent.core.session (node_outcome_of roles.Agent endpoint tid heard).half.core.session) ≡ noted_in (link_step_of_agent now packages l heard)
+heard_noted now packages l endpoint tid (HalfOutcome.Went half sent) k = ap (map EntryOf.Recording) (none_new l.agent.core.session half.core.session k)
+heard_noted now packages l endpoint tid (HalfOutcome.Took half sent command answer) k = ap (map EntryOf.Recording) k
+heard_noted now packages l endpoint tid (HalfOutcome.Asks half m head body) k = ap (map EntryOf.Recording) (none_new l.agent.core.session half.core.session k)
+heard_noted now packages l endpoint tid (HalfOutcome.Strayed half m) k = ap (map EntryOf.Recording) (none_new l.agent.core.session half.core.session k)
 
 -- An agent that stays records nothing.
-none_behind : (o : Option (HalfOf TimedOf)) → record_behind (made_by o) o ≡ None
+none_behind : (o : Option (HalfOf TimedOf)) → record_after (record_count_of o) o ≡ None
 none_behind None = refl
 none_behind (Some h) = slice_get_past h.core.session.records (length h.core.session.records) (omega arith)
 
@@ -101,22 +101,22 @@ unmoved_records n None = refl
 unmoved_records n (Some device) = ap (λ r. map (λ x. noted_of device (EntryOf.Recording x)) (option_to_list r)) (none_behind (half_for n device))
 
 pub deaf_agent_records : (w : WorldOf) (bytes : List ℕ) (sender : Option ℕ) → w.agent.deaf ≢ 0
-    → recorded_from w.agent (agent_hears w.packages w.agent bytes w.now).agent sender ≡ []
+    → recorded_from w.agent (agent_on_packet w.packages w.agent bytes w.now).agent sender ≡ []
 deaf_agent_records w bytes sender deaf =
-    let same : (agent_hears w.packages w.agent bytes w.now).agent ≡ w.agent = rw (ne_eqb w.agent.deaf 0 deaf) refl in
+    let same : (agent_on_packet w.packages w.agent bytes w.now).agent ≡ w.agent = rw (ne_eqb w.agent.deaf 0 deaf) refl in
     ap (λ n. recorded_from w.agent n sender) same ∙ unmoved_records w.agent sender
 
 -- a packet of a stranger
 pub stranger_records : (w : WorldOf) (bytes : List ℕ) (p : Head × List ℕ) → w.agent.deaf ≡ 0 → any_packet bytes ≡ Ok p → half_for w.agent p.0.source ≡ None
-    → recorded_from w.agent (agent_hears w.packages w.agent bytes w.now).agent (sender_of (any_packet bytes)) ≡ []
+    → recorded_from w.agent (agent_on_packet w.packages w.agent bytes w.now).agent (sender_of (any_packet bytes)) ≡ []
 stranger_records w bytes p hears reads none =
-    let same : (agent_hears w.packages w.agent bytes w.now).agent ≡ w.agent =
+    let same : (agent_on_packet w.packages w.agent bytes w.now).agent ≡ w.agent =
     ap (λ x. x.agent) (heard_from w bytes p hears reads ∙ unheard w.packages w.agent bytes w.now (half_place w.agent.halves p.0.source) (half_for w.agent p.0.source) none) in
     ap (λ n. recorded_from w.agent n (sender_of (any_packet bytes))) same ∙ unmoved_records w.agent (sender_of (any_packet bytes))
 
 -- a packet of a device
 own_half : (w : WorldOf) (bytes : List ℕ) (p : Head × List ℕ) (h : HalfOf TimedOf) → w.agent.deaf ≡ 0 → any_packet bytes ≡ Ok p → half_for w.agent p.0.source ≡ Some h
-    → half_for (agent_hears w.packages w.agent bytes w.now).agent p.0.source ≡ Some (heard_half w bytes h)
+    → half_for (agent_on_packet w.packages w.agent bytes w.now).agent p.0.source ≡ Some (heard_half w bytes h)
 own_half w bytes p h hears reads there =
     let place = half_place w.agent.halves p.0.source in
     ap (λ n. half_for n.agent p.0.source) (heard_from w bytes p hears reads)
@@ -126,13 +126,13 @@ own_half w bytes p h hears reads there =
     ∙ ap (option_map (heard_half w bytes)) there
 
 pub device_records : (w : WorldOf) (bytes : List ℕ) (p : Head × List ℕ) (l : LinkOf) → w.agent.deaf ≡ 0 → any_packet bytes ≡ Ok p → half_for w.agent p.0.source ≡ Some l.agent
-    → recorded_from w.agent (agent_hears w.packages w.agent bytes w.now).agent (sender_of (any_packet bytes))
-    ≡ map (noted_of p.0.source) (noted_in (agent_heard w.now w.packages l (half_hears (session_core w.packages) true l.agent bytes)))
+    → recorded_from w.agent (agent_on_packet w.packages w.agent bytes w.now).agent (sender_of (any_packet bytes))
+    ≡ map (noted_of p.0.source) (noted_in (link_step_of_agent w.now w.packages l (half_on_packet (session_core w.packages) true l.agent bytes)))
 device_records w bytes p l hears reads there =
-    let after = (agent_hears w.packages w.agent bytes w.now).agent in
+    let after = (agent_on_packet w.packages w.agent bytes w.now).agent in
     ap (λ r. recorded_from w.agent after (sender_of r)) reads
-    ∙ ap (λ o. map (λ x. noted_of p.0.source (EntryOf.Recording x)) (option_to_list (record_behind (made_by o) (half_for after p.0.source)))) there
-    ∙ ap (λ o. map (λ x. noted_of p.0.source (EntryOf.Recording x)) (option_to_list (record_behind (length l.agent.core.session.records) o))) (own_half w bytes p l.agent hears reads there)
+    ∙ ap (λ o. map (λ x. noted_of p.0.source (EntryOf.Recording x)) (option_to_list (record_after (record_count_of o) (half_for after p.0.source)))) there
+    ∙ ap (λ o. map (λ x. noted_of p.0.source (EntryOf.Recording x)) (option_to_list (record_after (length l.agent.core.session.records) o))) (own_half w bytes p l.agent hears reads there)
     ∙ noted_each p.0.source EntryOf.Recording (new_records l.agent.core.session (heard_half w bytes l.agent).core.session)
     ∙ ap (map (noted_of p.0.source))
-    (heard_noted w.now w.packages l w.agent.endpoint w.agent.tid (half_hears (session_core w.packages) true l.agent bytes) (hearing_records w.packages l.agent bytes))
+    (heard_noted w.now w.packages l w.agent.endpoint w.agent.tid (half_on_packet (session_core w.packages) true l.agent bytes) (hearing_records w.packages l.agent bytes))

@@ -3,17 +3,17 @@ use Rattle.std.proofs.Common.{◌≡◌, ◌≢◌, ◌⊎◌, ◌∙◌, ◌+�
 use Rattle.std.proofs.lemmas.Bool.{cases_lt, le-ltb, lt-ltb}
 use Rattle.std.proofs.lemmas.Bool.Decides.{eqb_tells}
 use Rattle.mctp_wire.specs.declared.layout.Head.{Head}
-use Rattle.exch_lane.specs.Lanes.{Sent, numbered}
+use Rattle.exch_lane.specs.Lanes.{Sent, item_numbered}
 use Rattle.fw_package.specs.Package.{PackageText}
 use Rattle.fw_message.specs.Worlds.{noted_of}
 use Rattle.fw_message.specs.declared.side.Side.{Side}
 use Rattle.fw_message.specs.declared.side.Side.TheVariants as sides
-use Rattle.fw_node.specs.Agents.{any_packet, agent_hears, half_for}
+use Rattle.fw_node.specs.Agents.{any_packet, agent_on_packet, half_for}
 use Rattle.fw_node.specs.Cores.{device_core, session_core}
-use Rattle.fw_node.specs.Halves.{HalfHeard, half_hears}
+use Rattle.fw_node.specs.Halves.{HalfOutcome, half_on_packet}
 use Rattle.fw_steps.specs.Headline.{packet_fault}
-use Rattle.fw_steps.specs.Links.{LinkOf, LinkStep, agent_heard, delivers_on, hears_on, link_after}
-use Rattle.fw_steps.specs.Worlds.{SiteOf, WorldOf, at_device, comes, delivers, place_of, recorded_from, sender_of, site_for}
+use Rattle.fw_steps.specs.Links.{LinkOf, LinkStep, link_step_of_agent, delivers_on, link_step_of_packet, link_after}
+use Rattle.fw_steps.specs.Worlds.{SiteOf, WorldOf, at_device, world_after_packet, world_after_deliver, place_of, recorded_from, sender_of, site_for}
 use Rattle.fw_steps.specs.declared.step.StepFault.TheVariants as faults
 use Rattle.fw_steps.proofs.LinksAreLanes.Delivered.{IsLinkOf}
 use Rattle.fw_steps.proofs.LinksAreLanes.Misses.{GoesBetween, deaf_hears_nothing, link_packet_between, others_packet}
@@ -31,20 +31,20 @@ soon_enough now p e = elim (cases_lt (p.date + 8) now) [
   | inr lives ↦ lives
 ]
 
-deliver_is : (now : ℕ) (packages : List PackageText) (l : LinkOf) (to : Side) (works : Bool) (number : ℕ) (p : Sent) → numbered l.packets number ≡ Some p → now ≤ p.date + 8
-    → link_after now packages l (LinkStep.Deliver number to works) ≡ hears_on now packages l to works p.bytes
+deliver_is : (now : ℕ) (packages : List PackageText) (l : LinkOf) (to : Side) (works : Bool) (number : ℕ) (p : Sent) → item_numbered l.packets number ≡ Some p → now ≤ p.date + 8
+    → link_after now packages l (LinkStep.Deliver number to works) ≡ link_step_of_packet now packages l to works p.bytes
 deliver_is now packages l to works number p at soon = ap (delivers_on now packages l to works) at ∙ (rw (le-ltb (p.date + 8) now soon) refl)
 
 -- The agent: a packet that is nothing to its half is nothing to the link.
-silent_notes : (now : ℕ) (packages : List PackageText) (l : LinkOf) (bytes : List ℕ) → half_hears (session_core packages) true l.agent bytes ≡ HalfHeard.Went l.agent []
-    → noted_in (agent_heard now packages l (half_hears (session_core packages) true l.agent bytes)) ≡ []
-silent_notes now packages l bytes e = ap (λ heard. noted_in (agent_heard now packages l heard)) e
+silent_notes : (now : ℕ) (packages : List PackageText) (l : LinkOf) (bytes : List ℕ) → half_on_packet (session_core packages) true l.agent bytes ≡ HalfOutcome.Went l.agent []
+    → noted_in (link_step_of_agent now packages l (half_on_packet (session_core packages) true l.agent bytes)) ≡ []
+silent_notes now packages l bytes e = ap (λ heard. noted_in (link_step_of_agent now packages l heard)) e
 
 from_end : (w : WorldOf) (bytes : List ℕ) (device : ℕ) (d : LinkOf) (p : Head × List ℕ) → IsLinkOf w device d → link_at w device ≡ Some d → half_for w.agent w.agent.endpoint.eid ≡ None
     → w.agent.deaf ≡ 0 → any_packet bytes ≡ Ok p
     → ((p.0.source ≡ d.agent.own) × (p.0.dest ≡ d.device.own)) ⊎ ((p.0.source ≡ d.device.own) × (p.0.dest ≡ d.agent.own))
-    → recorded_from w.agent (agent_hears w.packages w.agent bytes w.now).agent (sender_of (any_packet bytes))
-    ≡ map (noted_of device) (noted_in (agent_heard w.now w.packages d (half_hears (session_core w.packages) true d.agent bytes)))
+    → recorded_from w.agent (agent_on_packet w.packages w.agent bytes w.now).agent (sender_of (any_packet bytes))
+    ≡ map (noted_of device) (noted_in (link_step_of_agent w.now w.packages d (half_on_packet (session_core w.packages) true d.agent bytes)))
 from_end w bytes device d p k there own hears reads (inl away) =
     let far : p.0.dest ≢ d.agent.own = λ z. k.explained.ends.differ (sym z ∙ away.1) in
     stranger_records w bytes p hears reads (ap (half_for w.agent) (away.0 ∙ k.agent) ∙ own)
@@ -54,12 +54,12 @@ from_end w bytes device d p k there own hears reads (inl away) =
 from_end w bytes device d p k there own hears reads (inr home) =
     let source : p.0.source ≡ device = home.0 ∙ k.device in
     device_records w bytes p d hears reads (ap (half_for w.agent) source ∙ link_half _ (half_for w.agent device) (site_for w.sites device) d there)
-    ∙ ap (λ eid. map (noted_of eid) (noted_in (agent_heard w.now w.packages d (half_hears (session_core w.packages) true d.agent bytes)))) source
+    ∙ ap (λ eid. map (noted_of eid) (noted_in (link_step_of_agent w.now w.packages d (half_on_packet (session_core w.packages) true d.agent bytes)))) source
 
 agent_notes : (w : WorldOf) (bytes : List ℕ) (device : ℕ) (d : LinkOf) → IsLinkOf w device d → link_at w device ≡ Some d → half_for w.agent w.agent.endpoint.eid ≡ None
     → GoesBetween d.agent.own d.device.own bytes
-    → recorded_from w.agent (agent_hears w.packages w.agent bytes w.now).agent (sender_of (any_packet bytes))
-    ≡ map (noted_of device) (noted_in (agent_heard w.now w.packages d (half_hears (session_core w.packages) true d.agent bytes)))
+    → recorded_from w.agent (agent_on_packet w.packages w.agent bytes w.now).agent (sender_of (any_packet bytes))
+    ≡ map (noted_of device) (noted_in (link_step_of_agent w.now w.packages d (half_on_packet (session_core w.packages) true d.agent bytes)))
 agent_notes w bytes device d k there own between = elim (eqb_tells w.agent.deaf 0) [
   | inl hears ↦ from_end w bytes device d (between.head, between.body) k there own hears.1 between.reads between.ends
   | inr deaf ↦
@@ -82,8 +82,8 @@ linked_activates works faults w bytes node l is =
 
 -- The link to which a packet comes notes what it adds.
 comes_noting : (works : Bool) (faults : ℕ) (w : WorldOf) (device number node : ℕ) (d : LinkOf) (p : Sent) (s : LinkStep) → AreLinked w → link_at w device ≡ Some d
-    → numbered d.packets number ≡ Some p → w.now ≤ p.date + 8 → comes_as works number (node == w.agent.endpoint.eid) (node == device) ≡ Some s
-    → (comes works faults w node p.bytes).history ≡ w.history ++ map (noted_of device) (noted_in (link_after w.now w.packages d s))
+    → item_numbered d.packets number ≡ Some p → w.now ≤ p.date + 8 → comes_as works number (node == w.agent.endpoint.eid) (node == device) ≡ Some s
+    → (world_after_packet works faults w node p.bytes).history ≡ w.history ++ map (noted_of device) (noted_in (link_after w.now w.packages d s))
 comes_noting works faults w device number node d p s k there at soon is = elim (eqb_tells node w.agent.endpoint.eid) [
   | inl agent ↦
       let step : Some (LinkStep.Deliver number sides.Agent works) ≡ Some s = sym (ap (λ a. comes_as works number a (node == device)) agent.0) ∙ is in
@@ -110,8 +110,8 @@ comes_noting works faults w device number node d p s k there at soon is = elim (
 ]
 
 pub delivers_noting : (works : Bool) (faults : ℕ) (w : WorldOf) (device number node : ℕ) (d : LinkOf) (q : Option Sent) (s : LinkStep) → AreLinked w → link_at w device ≡ Some d
-    → numbered d.packets number ≡ q → packet_fault w.now q ≡ None → comes_as works number (node == w.agent.endpoint.eid) (node == device) ≡ Some s
-    → (delivers works faults w node q).history ≡ w.history ++ map (noted_of device) (noted_in (link_after w.now w.packages d s))
+    → item_numbered d.packets number ≡ q → packet_fault w.now q ≡ None → comes_as works number (node == w.agent.endpoint.eid) (node == device) ≡ Some s
+    → (world_after_deliver works faults w node q).history ≡ w.history ++ map (noted_of device) (noted_in (link_after w.now w.packages d s))
 delivers_noting works faults w device number node d None s k there at may is = absurd (cc)
 delivers_noting works faults w device number node d (Some p) s k there at may is =
     comes_noting works faults w device number node d p s k there at (soon_enough w.now p may) is
@@ -148,8 +148,8 @@ strange_site works faults w device node d bytes (Some x) k there between agent o
     strange_by works faults w device node d bytes (link_at w node) k there between agent other refl (k.known node (ap is_some at))
 
 pub delivers_nothing : (works : Bool) (faults : ℕ) (w : WorldOf) (device number node : ℕ) (d : LinkOf) (q : Option Sent) → AreLinked w → link_at w device ≡ Some d
-    → numbered d.packets number ≡ q → packet_fault w.now q ≡ None → comes_as works number (node == w.agent.endpoint.eid) (node == device) ≡ None
-    → (delivers works faults w node q).history ≡ w.history
+    → item_numbered d.packets number ≡ q → packet_fault w.now q ≡ None → comes_as works number (node == w.agent.endpoint.eid) (node == device) ≡ None
+    → (world_after_deliver works faults w node q).history ≡ w.history
 delivers_nothing works faults w device number node d None k there at may is = absurd (cc)
 delivers_nothing works faults w device number node d (Some p) k there at may is = elim (eqb_tells node w.agent.endpoint.eid) [
   | inl agent ↦

@@ -1,31 +1,31 @@
 -- What a device activates of a packet that comes to it, what it applies by a verdict, and what its link notes of that.
 use Rattle.std.proofs.Common.{◌≡◌, ◌∙◌, ◌++◌, ℕ, Bool, List, [], map, Option, Some, None, refl, ap}
 use Rattle.pldm_exch.specs.Caller.{is_quiet}
-use Rattle.fd_core.specs.Steps.{Judged, applied_by, device_verdict, puts_of}
+use Rattle.fd_core.specs.Steps.{VerdictEffect, applied_by, device_verdict, images_of_verdict}
 use Rattle.fd_core.specs.declared.states.Verdict.{Verdict}
 use Rattle.fw_message.specs.History.{EntryOf}
 use Rattle.fw_message.specs.Worlds.{noted_of}
 use Rattle.fw_node.specs.Cores.{TimedDevice, device_core}
-use Rattle.fw_node.specs.Halves.{HalfHeard, HalfOf, half_hears}
-use Rattle.fw_steps.specs.Links.{LinkOf, device_heard, judges_on}
-use Rattle.fw_steps.specs.Worlds.{SiteOf, WorldOf, activated_at, activated_when, at_device, judges, place_of, site_at, site_for}
+use Rattle.fw_node.specs.Halves.{HalfOutcome, HalfOf, half_on_packet}
+use Rattle.fw_steps.specs.Links.{LinkOf, link_step_of_device, link_step_of_verdict}
+use Rattle.fw_steps.specs.Worlds.{SiteOf, WorldOf, activated_at, activated_when, at_device, world_after_verdict, place_of, site_at, site_for}
 use Rattle.fw_steps.proofs.LinksAreLanes.Posting.{site_found}
 use Rattle.fw_steps.proofs.PacketsAreSafe.HistoryNoted.{noted_each, noted_in}
 
 -- The link notes what is activated.
-heard_noted : (now : ℕ) (works : Bool) (l : LinkOf) (heard : HalfHeard TimedDevice)
-    → map EntryOf.Activated (activated_when l.device.core.device (is_quiet l.device.asker.caller) works heard) ≡ noted_in (device_heard now works l heard)
-heard_noted now works l (HalfHeard.Went half sent) = refl
-heard_noted now works l (HalfHeard.Took half sent command answer) = refl
-heard_noted now works l (HalfHeard.Asks half m head body) = refl
-heard_noted now works l (HalfHeard.Strayed half m) = refl
+heard_noted : (now : ℕ) (works : Bool) (l : LinkOf) (heard : HalfOutcome TimedDevice)
+    → map EntryOf.Activated (activated_when l.device.core.device (is_quiet l.device.asker.caller) works heard) ≡ noted_in (link_step_of_device now works l heard)
+heard_noted now works l (HalfOutcome.Went half sent) = refl
+heard_noted now works l (HalfOutcome.Took half sent command answer) = refl
+heard_noted now works l (HalfOutcome.Asks half m head body) = refl
+heard_noted now works l (HalfOutcome.Strayed half m) = refl
 
 -- what a half activates
 abbrev pub activates_of : (works : Bool) → List ℕ → HalfOf TimedDevice → List EntryOf
-activates_of works bytes h = map EntryOf.Activated (activated_when h.core.device (is_quiet h.asker.caller) works (half_hears device_core works h bytes))
+activates_of works bytes h = map EntryOf.Activated (activated_when h.core.device (is_quiet h.asker.caller) works (half_on_packet device_core works h bytes))
 
 -- A half that hears nothing activates nothing.
-pub silent_activates : (works : Bool) (bytes : List ℕ) (h g : HalfOf TimedDevice) → half_hears device_core works h bytes ≡ HalfHeard.Went g [] → activates_of works bytes h ≡ []
+pub silent_activates : (works : Bool) (bytes : List ℕ) (h g : HalfOf TimedDevice) → half_on_packet device_core works h bytes ≡ HalfOutcome.Went g [] → activates_of works bytes h ≡ []
 silent_activates works bytes h g e = ap (λ heard. map EntryOf.Activated (activated_when h.core.device (is_quiet h.asker.caller) works heard)) e
 
 -- The history after a packet at a device.
@@ -45,8 +45,8 @@ device_activates works faults w bytes node x h there half =
     ∙ ap (λ eid. w.history ++ map (noted_of eid) (activates_of works bytes x.node.half)) (site_found w.sites node x there)
     ∙ ap (λ z. w.history ++ map (noted_of node) (activates_of works bytes z)) half
 
-pub link_activates : (now : ℕ) (works : Bool) (bytes : List ℕ) (l : LinkOf) → activates_of works bytes l.device ≡ noted_in (device_heard now works l (half_hears device_core works l.device bytes))
-link_activates now works bytes l = heard_noted now works l (half_hears device_core works l.device bytes)
+pub link_activates : (now : ℕ) (works : Bool) (bytes : List ℕ) (l : LinkOf) → activates_of works bytes l.device ≡ noted_in (link_step_of_device now works l (half_on_packet device_core works l.device bytes))
+link_activates now works bytes l = heard_noted now works l (half_on_packet device_core works l.device bytes)
 
 -- no such device
 pub nowhere : (works : Bool) (faults : ℕ) (w : WorldOf) (bytes : List ℕ) (o : Option ℕ) (s : Option SiteOf) → s ≡ None → (at_device works faults w bytes o s).history ≡ w.history
@@ -56,7 +56,7 @@ nowhere works faults w bytes (Some place) (Some x) e = absurd (cc)
 
 -- The history after a verdict.
 judges_by : (works : Bool) (faults : ℕ) (w : WorldOf) (verdict : Verdict) (o : Option ℕ) (s : Option SiteOf) (x : SiteOf) → site_at w.sites o ≡ s → s ≡ Some x
-    → (judges works faults w verdict o s).history ≡ w.history ++ map (noted_of x.node.endpoint.eid) (map EntryOf.Applied (applied_by x.node.half.core.device verdict works))
+    → (world_after_verdict works faults w verdict o s).history ≡ w.history ++ map (noted_of x.node.endpoint.eid) (map EntryOf.Applied (applied_by x.node.half.core.device verdict works))
 judges_by works faults w verdict None s x at is = absurd (let none : None ≡ Some x = at ∙ is in cc)
 judges_by works faults w verdict (Some place) None x at is = absurd (cc)
 judges_by works faults w verdict (Some place) (Some y) x at is =
@@ -64,13 +64,13 @@ judges_by works faults w verdict (Some place) (Some y) x at is =
     ap (λ es. w.history ++ es) (noted_each y.node.endpoint.eid EntryOf.Applied (applied_by y.node.half.core.device verdict works))
     ∙ ap (λ z. w.history ++ map (noted_of z.node.endpoint.eid) (map EntryOf.Applied (applied_by z.node.half.core.device verdict works))) same
 
-judged_noted : (l : LinkOf) (o : Option Judged) → map EntryOf.Applied (puts_of o) ≡ noted_in (judges_on l o)
+judged_noted : (l : LinkOf) (o : Option VerdictEffect) → map EntryOf.Applied (images_of_verdict o) ≡ noted_in (link_step_of_verdict l o)
 judged_noted l None = refl
 judged_noted l (Some j) = refl
 
 pub device_applies : (works : Bool) (faults : ℕ) (w : WorldOf) (verdict : Verdict) (device : ℕ) (x : SiteOf) (l : LinkOf) → site_for w.sites device ≡ Some x → x.node.half ≡ l.device
-    → (judges works faults w verdict (place_of w.sites device) (site_for w.sites device)).history
-    ≡ w.history ++ map (noted_of device) (noted_in (judges_on l (device_verdict l.device.core.device verdict works)))
+    → (world_after_verdict works faults w verdict (place_of w.sites device) (site_for w.sites device)).history
+    ≡ w.history ++ map (noted_of device) (noted_in (link_step_of_verdict l (device_verdict l.device.core.device verdict works)))
 device_applies works faults w verdict device x l there half =
     judges_by works faults w verdict (place_of w.sites device) (site_for w.sites device) x refl there
     ∙ ap (λ eid. w.history ++ map (noted_of eid) (map EntryOf.Applied (applied_by x.node.half.core.device verdict works))) (site_found w.sites device x there)

@@ -2,15 +2,15 @@
 use Rattle.std.proofs.Common.{◌≡◌, ◌∙◌, ◌==◌, ◌&&◌, ◌++◌, ℕ, Bool, true, false, if◌then◌else◌, is_some, List, [], ◌∷◌, append-nil, map, Option, Some, None, IfSome, IsSomeAnd, inl, inr, refl, sym, ap, subst}
 use Rattle.std.proofs.lemmas.Bool.{eq-eqb}
 use Rattle.std.proofs.lemmas.Bool.Decides.{eqb_tells}
-use Rattle.exch_lane.specs.Lanes.{numbered}
+use Rattle.exch_lane.specs.Lanes.{item_numbered}
 use Rattle.fd_core.specs.Steps.{device_verdict}
 use Rattle.fd_core.specs.declared.states.Verdict.{Verdict}
 use Rattle.ua_core.specs.Session.{SessionOf}
 use Rattle.fw_message.specs.Worlds.{noted_of}
 use Rattle.fw_node.specs.Agents.{half_for, ready_for}
 use Rattle.fw_steps.specs.Headline.{is_device, is_node, may_step, packet_fault, verdict_fault, where_known, world_after}
-use Rattle.fw_steps.specs.Links.{LinkOf, LinkStep, LinkStepped, judges_on, link_after}
-use Rattle.fw_steps.specs.Worlds.{SiteOf, WorldOf, activates_on, asks_log, delivers, judges, packets_of, place_of, restarts, site_for}
+use Rattle.fw_steps.specs.Links.{LinkOf, LinkStep, LinkStepped, link_step_of_verdict, link_after}
+use Rattle.fw_steps.specs.Worlds.{SiteOf, WorldOf, activates_on, world_after_log_request, world_after_deliver, world_after_verdict, packets_of, place_of, world_after_restart, site_for}
 use Rattle.fw_steps.specs.declared.step.Step.{Step}
 use Rattle.fw_steps.specs.declared.step.Step.TheVariants as steps
 use Rattle.fw_steps.specs.declared.step.StepFault.{StepFault}
@@ -51,7 +51,7 @@ activation_keeps : (w : WorldOf) (device : ℕ) (o : Option SessionOf) → (acti
 activation_keeps w device None = refl
 activation_keeps w device (Some s) = refl
 
-log_keeps : (w : WorldOf) (bytes : List ℕ) → (asks_log w bytes).history ≡ w.history
+log_keeps : (w : WorldOf) (bytes : List ℕ) → (world_after_log_request w bytes).history ≡ w.history
 log_keeps w [] = refl
 log_keeps w (command ∷ bytes) = refl
 
@@ -59,7 +59,7 @@ restart_by : (agent : Bool) (w u v : WorldOf) → u.history ≡ w.history → v.
 restart_by true w u v h k = h
 restart_by false w u v h k = k
 
-restart_keeps : (w : WorldOf) (node : ℕ) → (restarts w node).history ≡ w.history
+restart_keeps : (w : WorldOf) (node : ℕ) → (world_after_restart w node).history ≡ w.history
 restart_keeps w node = restart_by (node == w.agent.endpoint.eid) w _ _ refl refl
 
 pub quiet_history : (works : Bool) (faults : ℕ) (w : WorldOf) (s : Step) → IsQuiet s → (world_after works faults w s).history ≡ w.history
@@ -104,16 +104,16 @@ none_mine device o e = sym (ap (λ b. where_mine b o) (eq-eqb device device refl
 
 -- A packet.
 packet_taken : (works : Bool) (faults : ℕ) (w : WorldOf) (device number node eid : ℕ) (l : LinkOf) (step : LinkStep) → AreLinked w
-    → packet_fault w.now (numbered (packets_of w device) number) ≡ None → link_at w eid ≡ Some l
+    → packet_fault w.now (item_numbered (packets_of w device) number) ≡ None → link_at w eid ≡ Some l
     → where_mine (device == eid) (comes_as works number (node == w.agent.endpoint.eid) (node == eid)) ≡ Some step
-    → (delivers works faults w node (numbered (packets_of w device) number)).history ≡ w.history ++ map (noted_of eid) (noted_in (link_after w.now w.packages l step))
+    → (world_after_deliver works faults w node (item_numbered (packets_of w device) number)).history ≡ w.history ++ map (noted_of eid) (noted_in (link_after w.now w.packages l step))
 packet_taken works faults w device number node eid l step k may is e = elim (eqb_tells device eid) [
   | inl mine ↦
       let comes : comes_as works number (node == w.agent.endpoint.eid) (node == eid) ≡ Some step =
       sym (ap (λ b. where_mine b (comes_as works number (node == w.agent.endpoint.eid) (node == eid))) mine.0) ∙ e in
       let there : link_at w device ≡ Some l = ap (link_at w) mine.1 ∙ is in
-      delivers_noting works faults w device number node l (numbered (packets_of w device) number) step k there
-      (ap (λ ps. numbered ps number) (sym (packets_on w device l there))) may
+      delivers_noting works faults w device number node l (item_numbered (packets_of w device) number) step k there
+      (ap (λ ps. item_numbered ps number) (sym (packets_on w device l there))) may
       (ap (λ d. comes_as works number (node == w.agent.endpoint.eid) (node == d)) mine.1 ∙ comes)
       ∙ ap (λ d. w.history ++ map (noted_of d) (noted_in (link_after w.now w.packages l step))) mine.1
   | inr other ↦
@@ -122,33 +122,33 @@ packet_taken works faults w device number node eid l step k may is e = elim (eqb
 ]
 
 packet_untaken : (works : Bool) (faults : ℕ) (w : WorldOf) (device number node : ℕ) (o : Option LinkOf) → AreLinked w
-    → packet_fault w.now (numbered (packets_of w device) number) ≡ None → link_at w device ≡ o → is_some o ≡ true
+    → packet_fault w.now (item_numbered (packets_of w device) number) ≡ None → link_at w device ≡ o → is_some o ≡ true
     → ((eid : ℕ) (l : LinkOf) → link_at w eid ≡ Some l → where_mine (device == eid) (comes_as works number (node == w.agent.endpoint.eid) (node == eid)) ≡ None)
-    → (delivers works faults w node (numbered (packets_of w device) number)).history ≡ w.history
+    → (world_after_deliver works faults w node (item_numbered (packets_of w device) number)).history ≡ w.history
 packet_untaken works faults w device number node None k may there some none = absurd (cc)
 packet_untaken works faults w device number node (Some d) k may there some none =
-    delivers_nothing works faults w device number node d (numbered (packets_of w device) number) k there
-    (ap (λ ps. numbered ps number) (sym (packets_on w device d there))) may
+    delivers_nothing works faults w device number node d (item_numbered (packets_of w device) number) k there
+    (ap (λ ps. item_numbered ps number) (sym (packets_on w device d there))) may
     (none_mine device (comes_as works number (node == w.agent.endpoint.eid) (node == device)) (none device d there))
 
 -- A verdict.
 verdict_by : (works : Bool) (faults : ℕ) (w : WorldOf) (verdict : Verdict) (device : ℕ) (s : Option SiteOf) (l : LinkOf) → site_for w.sites device ≡ s
     → IsSomeAnd s (λ x. (x.node.half ≡ l.device) × (x.packets ≡ l.packets))
-    → (judges works faults w verdict (place_of w.sites device) (site_for w.sites device)).history
-    ≡ w.history ++ map (noted_of device) (noted_in (judges_on l (device_verdict l.device.core.device verdict works)))
+    → (world_after_verdict works faults w verdict (place_of w.sites device) (site_for w.sites device)).history
+    ≡ w.history ++ map (noted_of device) (noted_in (link_step_of_verdict l (device_verdict l.device.core.device verdict works)))
 verdict_by works faults w verdict device None l is k = absurd k
 verdict_by works faults w verdict device (Some x) l is k = device_applies works faults w verdict device x l is k.0
 
 verdict_taken : (works : Bool) (faults : ℕ) (w : WorldOf) (verdict : Verdict) (device eid : ℕ) (l : LinkOf) (step : LinkStep) → link_at w eid ≡ Some l
     → where_mine (device == eid) (Some (LinkStep.Judge verdict works)) ≡ Some step
-    → (judges works faults w verdict (place_of w.sites device) (site_for w.sites device)).history ≡ w.history ++ map (noted_of eid) (noted_in (link_after w.now w.packages l step))
+    → (world_after_verdict works faults w verdict (place_of w.sites device) (site_for w.sites device)).history ≡ w.history ++ map (noted_of eid) (noted_in (link_after w.now w.packages l step))
 verdict_taken works faults w verdict device eid l step is e = elim (eqb_tells device eid) [
   | inl mine ↦
       let both : Some (LinkStep.Judge verdict works) ≡ Some step = sym (ap (λ b. where_mine b (Some (LinkStep.Judge verdict works))) mine.0) ∙ e in
       let same : LinkStep.Judge verdict works ≡ step = cc in
       verdict_by works faults w verdict device (site_for w.sites device) l refl
       (link_site _ (half_for w.agent device) (site_for w.sites device) l (ap (link_at w) mine.1 ∙ is))
-      ∙ ap (λ d. w.history ++ map (noted_of d) (noted_in (judges_on l (device_verdict l.device.core.device verdict works)))) mine.1
+      ∙ ap (λ d. w.history ++ map (noted_of d) (noted_in (link_step_of_verdict l (device_verdict l.device.core.device verdict works)))) mine.1
       ∙ ap (λ x. w.history ++ map (noted_of eid) (noted_in (link_after w.now w.packages l x))) same
   | inr other ↦
       let none : None ≡ Some step = sym (ap (λ b. where_mine b (Some (LinkStep.Judge verdict works))) other.0) ∙ e in
@@ -172,7 +172,7 @@ known_there false fault e = absurd (cc)
 -- So the history grows.
 pub history_grows : (works : Bool) (faults : ℕ) (w : WorldOf) (s : Step) → AreLinked w → may_step w s ≡ None → Notes works faults w s
 history_grows works faults w (steps.Deliver device number node) k may =
-    let fault = packet_fault w.now (numbered (packets_of w device) number) in
+    let fault = packet_fault w.now (item_numbered (packets_of w device) number) in
     let known = both_hold (is_device w device) (is_node w node) (known_there (is_device w device && is_node w node) fault may) in
     let soon = known_if (is_device w device && is_node w node) fault may in
     record {

@@ -6,7 +6,7 @@ use Rattle.fw_message.specs.Worlds.{NotedOf, noted_of}
 use Rattle.fw_message.specs.Pairs.{may_start}
 use Rattle.fw_package.specs.Package.{PackageText}
 use Rattle.ua_core.specs.Calls.{agent_activated}
-use Rattle.fw_steps.specs.Links.{LinkOf, LinkStep, LinkStepped, activates_on, link_after, unnoted}
+use Rattle.fw_steps.specs.Links.{LinkOf, LinkStep, LinkStepped, activates_on, link_after, link_step_without_entries}
 use Rattle.fw_message.specs.declared.side.Side.TheVariants as sides
 use Rattle.fw_steps.proofs.LinksAreMessages.Each.{AllAfter, notes_of}
 
@@ -28,7 +28,7 @@ pub nothing_more : (history : List NotedOf) (device : ℕ) (es : List EntryOf) �
 nothing_more history device es e = rw e (sym (append-nil history))
 
 -- The steps that note nothing.
-unnoted_if : (may : Bool) (l : LinkOf) → noted_in (if may then Some (unnoted l) else None) ≡ []
+unnoted_if : (may : Bool) (l : LinkOf) → noted_in (if may then Some (link_step_without_entries l) else None) ≡ []
 unnoted_if true l = refl
 unnoted_if false l = refl
 

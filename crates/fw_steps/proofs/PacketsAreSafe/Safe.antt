@@ -8,7 +8,7 @@ use Rattle.fw_message.specs.History.{EntryOf, IsTied}
 use Rattle.fw_message.specs.Laws.{IsSafeAndTied}
 use Rattle.fw_message.specs.Pairs.{PairOf}
 use Rattle.fw_message.specs.WorldLaws.{history_of, run_of}
-use Rattle.fw_message.specs.WorldLaws.{IsSafeWorld as AreSafeMessages, WorldsAreSafe as MessagesAreSafe}
+use Rattle.fw_message.specs.WorldLaws.{IsSafeMessageWorld as AreSafeMessages, WorldsAreSafe as MessagesAreSafe}
 use Rattle.fw_message.specs.Worlds.{NodeOf, node_at}
 use Rattle.fw_node.specs.Agents.{half_for}
 use Rattle.fw_node.specs.Halves.{HalfOf}

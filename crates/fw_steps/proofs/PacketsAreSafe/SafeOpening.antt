@@ -9,7 +9,7 @@ use Rattle.exch_lane.specs.Laws.{LaneIsACell}
 use Rattle.fd_core.specs.States.{Phase}
 use Rattle.fw_message.specs.Laws.{IsUnapplied}
 use Rattle.fw_message.specs.WorldLaws.{IsOpeningNode}
-use Rattle.fw_message.specs.WorldLaws.{IsOpeningWorld as IsOpeningMessages}
+use Rattle.fw_message.specs.WorldLaws.{IsOpeningMessageWorld as IsOpeningMessages}
 use Rattle.ua_core.specs.Calls.{new_session}
 use Rattle.fw_node.specs.Agents.{new_half}
 use Rattle.fw_node.specs.Halves.{HalfOf}

@@ -3,12 +3,12 @@ use Rattle.std.proofs.Common.{◌≡◌, ◌≢◌, ◌∙◌, ◌++◌, ◌∷�
 use Rattle.std.specs.Option.{option_map}
 use Rattle.fw_package.specs.Package.{PackageText}
 use Rattle.fw_message.specs.Worlds.{NodeOf, NotedOf, noted_of}
-use Rattle.fw_message.specs.Worlds.{WorldOf as MessageWorld}
+use Rattle.fw_message.specs.Worlds.{MessageWorldOf as MessageWorld}
 use Rattle.fw_steps.specs.Widths.{HaveMessageWidths}
 use Rattle.fw_steps.specs.Headline.{AreDifferent}
 use Rattle.fw_steps.specs.LinksAreMessages.{LinksAreMessages}
 use Rattle.fw_steps.specs.Lanes.{LinkExplained}
-use Rattle.fw_steps.specs.LinksAreLanes.{CanBeSaid, LinksAreLanes, MayHappen}
+use Rattle.fw_steps.specs.LinksAreLanes.{LinkStepRoundTrips, LinksAreLanes, MayHappen}
 use Rattle.fw_steps.specs.Links.{LinkOf, LinkStep, LinkStepped, link_after, time_after}
 use Rattle.fw_steps.specs.Worlds.{WorldOf, site_for}
 use Rattle.fw_steps.specs.declared.step.Step.{Step}
@@ -21,7 +21,7 @@ use Rattle.fw_steps.proofs.LinksAreLanes.Keys.{eids_of, peers_of}
 use Rattle.fw_steps.proofs.LinksAreLanes.Linked.{KnownLinks, link_there, linked_site, site_stood}
 use Rattle.fw_steps.proofs.LinksAreLanes.Listed.{link_by_place, links_of}
 use Rattle.fw_steps.proofs.LinksAreLanes.Places.{SameDevices, all_links_become, one_link_becomes}
-use Rattle.fw_steps.proofs.LinksAreLanes.Projected.{StepsTo, link_step}
+use Rattle.fw_steps.proofs.LinksAreLanes.Projected.{LinkStepsTo, link_step}
 use Rattle.fw_steps.proofs.LinksAreLanes.Projection.{link_at}
 use Rattle.fw_steps.proofs.PacketsAreSafe.KnownDeaf.{DeafAs, deaf_on_link, deaf_then}
 use Rattle.fw_steps.proofs.PacketsAreSafe.KnownSteps.{gone_to, may_happen}
@@ -62,8 +62,8 @@ pub record Follows (works : Bool) (s : Step) (w v : WorldOf) : Type 0 where
   pub eids : eids_of v ≡ eids_of w
   pub agent : v.agent.endpoint.eid ≡ w.agent.endpoint.eid
   pub deaf : (eid : ℕ) → DeafAs (link_step works w.agent.endpoint.eid s eid) w.agent.deaf v.agent.deaf
-  pub goes : (eid : ℕ) (l : LinkOf) → link_at w eid ≡ Some l → StepsTo w.now w.packages l (link_step works w.agent.endpoint.eid s eid) (link_at v eid)
-  pub said : (eid : ℕ) (l : LinkOf) → link_at w eid ≡ Some l → IfSome (link_step works w.agent.endpoint.eid s eid) (CanBeSaid w.packages l)
+  pub goes : (eid : ℕ) (l : LinkOf) → link_at w eid ≡ Some l → LinkStepsTo w.now w.packages l (link_step works w.agent.endpoint.eid s eid) (link_at v eid)
+  pub said : (eid : ℕ) (l : LinkOf) → link_at w eid ≡ Some l → IfSome (link_step works w.agent.endpoint.eid s eid) (LinkStepRoundTrips w.packages l)
   pub taken : (eid : ℕ) (l : LinkOf) (step : LinkStep) (t : LinkStepped) → link_at w eid ≡ Some l → link_step works w.agent.endpoint.eid s eid ≡ Some step → link_after w.now w.packages l step ≡ Some t
       → v.history ≡ w.history ++ map (noted_of eid) t.noted
   pub untaken : ((eid : ℕ) (l : LinkOf) → link_at w eid ≡ Some l → link_step works w.agent.endpoint.eid s eid ≡ None) → v.history ≡ w.history
@@ -110,7 +110,7 @@ one_after : (o : Option LinkStepped) (t u : LinkStepped) → o ≡ Some t → o 
 one_after o t u e f = cc
 
 own_by : LinksAreLanes → (w v : WorldOf) (eid : ℕ) (l m : LinkOf) (o : Option LinkStep) (after : Option LinkOf) → v.agent.endpoint.eid ≡ w.agent.endpoint.eid → IsOwnLink w eid l → LinkExplained w.now l
-    → IfSome o (CanBeSaid w.packages l) → DeafAs o w.agent.deaf v.agent.deaf → StepsTo w.now w.packages l o after → after ≡ Some m → IsOwnLink v eid m
+    → IfSome o (LinkStepRoundTrips w.packages l) → DeafAs o w.agent.deaf v.agent.deaf → LinkStepsTo w.now w.packages l o after → after ≡ Some m → IsOwnLink v eid m
 own_by lanes w v eid l m None after agent own explained said deaf goes e =
     let same : l ≡ m = (let both : Some l ≡ Some m = sym goes ∙ e in cc) in
     subst (IsOwnLink v eid) same (record { agent = own.agent ∙ sym agent; device = own.device; asking = own.asking ∙ sym deaf })
@@ -156,7 +156,7 @@ stays_absent w v eid k same none = absent_by w v eid (link_at v eid) k same none
 
 stays_by : (works : Bool) (s : Step) (w v : WorldOf) (eid : ℕ) (o : Option LinkOf) → KnownLinks w → Follows works s w v → link_at w eid ≡ o → link_step works w.agent.endpoint.eid s eid ≡ None → link_at v eid ≡ o
 stays_by works s w v eid None k f e none = stays_absent w v eid k f.eids e
-stays_by works s w v eid (Some l) k f e none = subst (λ x. StepsTo w.now w.packages l x (link_at v eid)) none (f.goes eid l e)
+stays_by works s w v eid (Some l) k f e none = subst (λ x. LinkStepsTo w.now w.packages l x (link_at v eid)) none (f.goes eid l e)
 
 -- a link without a step stays
 link_stays : (works : Bool) (s : Step) (w v : WorldOf) (eid : ℕ) → KnownLinks w → Follows works s w v → link_step works w.agent.endpoint.eid s eid ≡ None → link_at v eid ≡ link_at w eid
@@ -218,13 +218,13 @@ pub stand_one : LinksAreLanes → LinksAreMessages → (opening w v : WorldOf) (
 stand_one lanes messages opening w v works s own l step k f time is mine soon alone others =
     let known = known_links opening w k in
     let at = site_stood w own (site_for w.sites own) refl (linked_site _ _ (site_for w.sites own) l is) in
-    let said : CanBeSaid w.packages l step = subst (λ o. IfSome o (CanBeSaid w.packages l)) mine (f.said own l is) in
-    let g = gone_to w.now w.packages l step (link_at v own) (subst (λ o. StepsTo w.now w.packages l o (link_at v own)) mine (f.goes own l is)) in
+    let said : LinkStepRoundTrips w.packages l step = subst (λ o. IfSome o (LinkStepRoundTrips w.packages l)) mine (f.said own l is) in
+    let g = gone_to w.now w.packages l step (link_at v own) (subst (λ o. LinkStepsTo w.now w.packages l o (link_at v own)) mine (f.goes own l is)) in
     let may : MayHappen w.now w.packages l step = may_happen w.now w.packages l step g.stepped g.goes in
     let links = one_link_becomes w v at.place own l g.stepped.after (same_devices works s w v known f) at.at is g.is (λ eid far. link_stays works s w v eid known f (others eid far)) in
     let m = one_moves lanes messages w.now k.messages (links_of w) at.place l step g.stepped own k.stands
     (link_by_place w at.place own k.halves k.apart.1 at.at ∙ is) (ap (λ ks. slice_get ks at.place) k.eids ∙ at.at) soon alone
-    (subst (λ ps. MayHappen w.now ps l step) (sym k.packages) may) (subst (λ ps. CanBeSaid ps l step) (sym k.packages) said)
+    (subst (λ ps. MayHappen w.now ps l step) (sym k.packages) may) (subst (λ ps. LinkStepRoundTrips ps l step) (sym k.packages) said)
     (subst (λ ps. link_after w.now ps l step ≡ Some g.stepped) (sym k.packages) g.goes) in
     stand_moved lanes opening w v works s w.now (slice_set (links_of w) at.place g.stepped.after) (map (noted_of own) g.stepped.noted) k f m links time
     (f.taken own l step g.stepped is mine g.goes)

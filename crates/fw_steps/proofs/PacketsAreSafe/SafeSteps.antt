@@ -4,7 +4,7 @@ use Rattle.std.proofs.lemmas.Bool.{eq-eqb, ne_eqb}
 use Rattle.std.proofs.lemmas.Bool.Decides.{eqb_tells}
 use Rattle.arrayvec.specs.declared.array_vec.ArrayVec.{ArrayVec}
 use Rattle.exch_lane.specs.Clocks.{may_beat}
-use Rattle.exch_lane.specs.Lanes.{Sent, numbered}
+use Rattle.exch_lane.specs.Lanes.{Sent, item_numbered}
 use Rattle.exch_lane.specs.Laws.{LaneIsACell}
 use Rattle.fw_package.specs.Package.{PackageText}
 use Rattle.fd_core.specs.declared.states.Verdict.{Verdict}
@@ -13,11 +13,11 @@ use Rattle.fw_message.specs.declared.side.Side.TheVariants as sides
 use Rattle.fw_node.specs.Agents.{ready_for}
 use Rattle.fw_node.specs.Cores.{session_core}
 use Rattle.fw_node.specs.Halves.{half_restarts}
-use Rattle.fw_steps.specs.Headline.{Leads, may_step, world_after}
+use Rattle.fw_steps.specs.Headline.{StepsTo, may_step, world_after}
 use Rattle.fw_steps.specs.LinksAreMessages.{LinksAreMessages}
 use Rattle.fw_steps.specs.LinksAreLanes.{LinksAreLanes}
-use Rattle.fw_steps.specs.Links.{LinkOf, LinkStep, LinkStepped, link_after, link_ticks, time_after, unnoted}
-use Rattle.fw_steps.specs.Worlds.{SiteOf, WorldOf, activates_on, asks_log, at_agent, at_device, counts, delivers, judges, packets_of, place_of, site_for}
+use Rattle.fw_steps.specs.Links.{LinkOf, LinkStep, LinkStepped, link_after, link_ticks, time_after, link_step_without_entries}
+use Rattle.fw_steps.specs.Worlds.{SiteOf, WorldOf, activates_on, world_after_log_request, at_agent, at_device, counts, world_after_deliver, world_after_verdict, packets_of, place_of, site_for}
 use Rattle.fw_steps.specs.declared.step.Step.{Step}
 use Rattle.fw_steps.specs.declared.step.Step.TheVariants as steps
 use Rattle.fw_steps.proofs.LinksAreMessages.Each.{IsAlone}
@@ -54,7 +54,7 @@ device_moment works faults w bytes None s = same_moment w w refl
 device_moment works faults w bytes (Some p) None = same_moment w w refl
 device_moment works faults w bytes (Some p) (Some x) = record { packages = refl; now = refl; since = refl }
 
-delivered_moment : (works : Bool) (faults : ℕ) (w : WorldOf) (node : ℕ) (o : Option Sent) → SameMoment w (delivers works faults w node o)
+delivered_moment : (works : Bool) (faults : ℕ) (w : WorldOf) (node : ℕ) (o : Option Sent) → SameMoment w (world_after_deliver works faults w node o)
 delivered_moment works faults w node None = same_moment w w refl
 delivered_moment works faults w node (Some p) =
     moment_if (node == w.agent.endpoint.eid) w (at_agent w p.bytes) (at_device works faults w p.bytes (place_of w.sites node) (site_for w.sites node))
@@ -64,12 +64,12 @@ activated_moment : (w : WorldOf) (device : ℕ) (o : Option SessionOf) → SameM
 activated_moment w device None = same_moment w w refl
 activated_moment w device (Some s) = record { packages = refl; now = refl; since = refl }
 
-judged_moment : (works : Bool) (faults : ℕ) (w : WorldOf) (verdict : Verdict) (o : Option ℕ) (s : Option SiteOf) → SameMoment w (judges works faults w verdict o s)
+judged_moment : (works : Bool) (faults : ℕ) (w : WorldOf) (verdict : Verdict) (o : Option ℕ) (s : Option SiteOf) → SameMoment w (world_after_verdict works faults w verdict o s)
 judged_moment works faults w verdict None s = same_moment w w refl
 judged_moment works faults w verdict (Some p) None = same_moment w w refl
 judged_moment works faults w verdict (Some p) (Some x) = record { packages = refl; now = refl; since = refl }
 
-log_moment : (w : WorldOf) (bytes : List ℕ) → SameMoment w (asks_log w bytes)
+log_moment : (w : WorldOf) (bytes : List ℕ) → SameMoment w (world_after_log_request w bytes)
 log_moment w [] = record { packages = refl; now = refl; since = refl }
 log_moment w (command ∷ bytes) = record { packages = refl; now = refl; since = refl }
 
@@ -77,7 +77,7 @@ restart_moment : (works : Bool) (faults : ℕ) (w : WorldOf) (node : ℕ) → Sa
 restart_moment works faults w node = moment_if (node == w.agent.endpoint.eid) w _ _ (record { packages = refl; now = refl; since = refl }) (record { packages = refl; now = refl; since = refl })
 
 pub packages_stay : (works : Bool) (faults : ℕ) (w : WorldOf) (s : Step) → (world_after works faults w s).packages ≡ w.packages
-packages_stay works faults w (steps.Deliver device number node) = (delivered_moment works faults w node (numbered (packets_of w device) number)).packages
+packages_stay works faults w (steps.Deliver device number node) = (delivered_moment works faults w node (item_numbered (packets_of w device) number)).packages
 packages_stay works faults w (steps.Tick missed) = refl
 packages_stay works faults w (steps.Start device number) = refl
 packages_stay works faults w (steps.Cancel device) = refl
@@ -92,7 +92,7 @@ now_then now (steps.Tick missed) = now + 1
 now_then now s = now
 
 pub time_goes : (works : Bool) (faults : ℕ) (w : WorldOf) (s : Step) → (world_after works faults w s).now ≡ now_then w.now s
-time_goes works faults w (steps.Deliver device number node) = (delivered_moment works faults w node (numbered (packets_of w device) number)).now
+time_goes works faults w (steps.Deliver device number node) = (delivered_moment works faults w node (item_numbered (packets_of w device) number)).now
 time_goes works faults w (steps.Tick missed) = refl
 time_goes works faults w (steps.Start device number) = refl
 time_goes works faults w (steps.Cancel device) = refl
@@ -103,7 +103,7 @@ time_goes works faults w (steps.Sel bytes) = (log_moment w bytes.items).now
 
 -- Only a tick is one that the agent may miss.
 pub since_goes : (works : Bool) (faults : ℕ) (w : WorldOf) (s : Step) → now_then w.now s ≡ w.now → (world_after works faults w s).since_miss ≡ w.since_miss
-since_goes works faults w (steps.Deliver device number node) e = (delivered_moment works faults w node (numbered (packets_of w device) number)).since
+since_goes works faults w (steps.Deliver device number node) e = (delivered_moment works faults w node (item_numbered (packets_of w device) number)).since
 since_goes works faults w (steps.Tick missed) e = absurd (omega (arith, e))
 since_goes works faults w (steps.Start device number) e = refl
 since_goes works faults w (steps.Cancel device) e = refl
@@ -114,7 +114,7 @@ since_goes works faults w (steps.Sel bytes) e = (log_moment w bytes.items).since
 
 -- WHAT FOLLOWS A STEP
 
-pub world_follows : LaneIsACell → (opening w v : WorldOf) (s : Step) → Stand opening w → (h : Leads w s v) → Follows h.works s w (world_after h.works h.faults w s)
+pub world_follows : LaneIsACell → (opening w v : WorldOf) (s : Step) → Stand opening w → (h : StepsTo w s v) → Follows h.works s w (world_after h.works h.faults w s)
 world_follows law opening w v s k h =
     let linked : AreLinked w = linked_world w (known_links opening w k) in
     let notes = history_grows h.works h.faults w s linked h.may in
@@ -213,14 +213,14 @@ if_may : (may : Bool) (t : LinkStepped) → may ≡ true → (if may then Some t
 if_may may t e = rw e refl
 
 tick_leads : (missed : ArrayVec ℕ 17 (Unit {0})) (w : WorldOf) (eid : ℕ) (l : LinkOf) → IsLinkOf w eid l → may_step w (steps.Tick missed) ≡ None → link_at w eid ≡ Some l
-    → link_after w.now w.packages l (tick_of missed.items l) ≡ Some (unnoted (ticked missed.items w.now w.packages l))
+    → link_after w.now w.packages l (tick_of missed.items l) ≡ Some (link_step_without_entries (ticked missed.items w.now w.packages l))
 tick_leads missed w eid l k may is =
-    if_may (nat_lt w.now (2 ^ 32 - 1) && (may_beat (counts missed.items l.agent.own) l.agent_since_miss && may_beat (counts missed.items l.device.own) l.device_since_miss)) (unnoted (ticked missed.items w.now w.packages l))
+    if_may (nat_lt w.now (2 ^ 32 - 1) && (may_beat (counts missed.items l.agent.own) l.agent_since_miss && may_beat (counts missed.items l.device.own) l.device_since_miss)) (link_step_without_entries (ticked missed.items w.now w.packages l))
     (rw (k.agent, k.device) (tick_may missed w eid l may is))
 
 stand_by : LinksAreLanes → LinksAreMessages → (opening w : WorldOf) (works : Bool) (faults : ℕ) (s : Step) → Stand opening w → may_step w s ≡ None → Follows works s w (world_after works faults w s) → Stand opening (world_after works faults w s)
 stand_by lanes messages opening w works faults (steps.Deliver device number node) k may f =
-    stand_comes lanes messages opening w (world_after works faults w (steps.Deliver device number node)) works device number node k f (delivered_moment works faults w node (numbered (packets_of w device) number)).now
+    stand_comes lanes messages opening w (world_after works faults w (steps.Deliver device number node)) works device number node k f (delivered_moment works faults w node (item_numbered (packets_of w device) number)).now
 stand_by lanes messages opening w works faults (steps.Tick missed) k may f =
     let linked : AreLinked w = linked_world w (known_links opening w k) in
     stand_all lanes messages (w.now + 1) opening w (world_after works faults w (steps.Tick missed)) works (steps.Tick missed) (tick_of missed.items) (ticked missed.items w.now w.packages) (λ l. tt) (λ l. refl) k f refl
@@ -242,6 +242,6 @@ stand_by lanes messages opening w works faults (steps.Sel bytes) k may f =
     stand_none lanes opening w (world_after works faults w (steps.Sel bytes)) works (steps.Sel bytes) k f (log_moment w bytes.items).now (λ eid l there. refl)
 
 -- Wherever a step leads, a world that stands stays one that stands.
-pub stand_on : LaneIsACell → LinksAreLanes → LinksAreMessages → (opening w v : WorldOf) (s : Step) → Stand opening w → Leads w s v → Stand opening v
+pub stand_on : LaneIsACell → LinksAreLanes → LinksAreMessages → (opening w v : WorldOf) (s : Step) → Stand opening w → StepsTo w s v → Stand opening v
 stand_on law lanes messages opening w v s k h =
     subst (Stand opening) (sym h.after) (stand_by lanes messages opening w h.works h.faults s k h.may (world_follows law opening w v s k h))

@@ -3,7 +3,7 @@ use Rattle.std.proofs.Common.{◌≡◌, ◌∙◌, ◌++◌, ℕ, List, [], map
 use Rattle.std.specs.Option.{option_map}
 use Rattle.exch_lane.specs.Laws.{LaneIsACell}
 use Rattle.fw_package.specs.Package.{PackageText}
-use Rattle.fw_message.specs.History.{EntryOf, recorded_in, running, running_after}
+use Rattle.fw_message.specs.History.{EntryOf, recorded_in, running_image, running_after}
 use Rattle.fw_message.specs.Laws.{IsSafeAndTied}
 use Rattle.fw_message.specs.Pairs.{PairOf}
 use Rattle.fw_message.specs.WorldLaws.{history_of}
@@ -14,7 +14,7 @@ use Rattle.fw_steps.specs.Headline.{PacketsAreSafe, RunsJoin, RunsStayTied, pair
 use Rattle.fw_steps.specs.LinksAreMessages.{LinksAreMessages}
 use Rattle.fw_steps.specs.LinksAreLanes.{LinksAreLanes}
 use Rattle.fw_steps.specs.Links.{LinkOf}
-use Rattle.fw_steps.specs.Moments.{IsTiedFrom, added}
+use Rattle.fw_steps.specs.Moments.{IsTiedFrom, entries_between}
 use Rattle.fw_steps.specs.Worlds.{WorldOf, pair_for, site_for}
 use Rattle.fw_steps.proofs.LinksAreLanes.Projection.{link_at}
 use Rattle.fw_steps.proofs.Running.{run_append}
@@ -28,7 +28,7 @@ use Rattle.fw_steps.proofs.PacketsAreSafe.SafeStands.{Stand, known_links, stays_
 tied_from : (ps : List PackageText) (first m n : PairOf) (es more : List EntryOf) → IsSafeAndTied ps (pair_run first []) (pair_run m es)
     → IsSafeAndTied ps (pair_run first []) (pair_run n (es ++ more)) → IsTiedFrom m n (es ++ more) more
 tied_from ps first m n es more g h = record {
-  active = h.tied.active ∙ running_on (map running first.device.rows) es more ∙ ap (λ rs. running_after rs more) (sym g.tied.active);
+  active = h.tied.active ∙ running_on (map running_image first.device.rows) es more ∙ ap (λ rs. running_after rs more) (sym g.tied.active);
   applied = h.tied.applied;
   records = h.tied.records;
   recorded = h.tied.records ∙ recorded_on es more ∙ ap (λ rs. rs ++ recorded_in more) (sym g.tied.records);
@@ -70,9 +70,9 @@ pub runs_stay_tied : LaneIsACell → LinksAreLanes → LinksAreMessages → Pack
 runs_stay_tied law lanes messages safe opening old new before steps is to_old to_new eid =
     let begins = opening_stands law opening is in
     let k = stand_along law lanes messages opening opening old before begins to_old in
-    let all : history_of eid new.history ≡ history_of eid old.history ++ history_of eid (added old new) =
-    ap (history_of eid) (runs_grow old new steps to_new) ∙ history_more eid old.history (added old new) in
-    tied_at opening.packages (pair_for opening eid) (pair_for old eid) (pair_for new eid) (history_of eid old.history) (history_of eid (added old new)) (history_of eid new.history)
+    let all : history_of eid new.history ≡ history_of eid old.history ++ history_of eid (entries_between old new) =
+    ap (history_of eid) (runs_grow old new steps to_new) ∙ history_more eid old.history (entries_between old new) in
+    tied_at opening.packages (pair_for opening eid) (pair_for old eid) (pair_for new eid) (history_of eid old.history) (history_of eid (entries_between old new)) (history_of eid new.history)
     all (absent_pair opening old eid begins k)
     (safe opening old before is to_old eid)
     (safe opening new (before ++ steps) is (run_append opening old new before steps to_old to_new) eid)

@@ -4,7 +4,7 @@
 use Rattle.std.proofs.Common.{◌≡◌, ◌∙◌, ◌+◌, ◌++◌, ◌≤◌, ℕ, Bool, true, List, [], ◌∷◌, Option, Some, None, IsSomeAnd, inl, inr, refl, sym, ap, subst}
 use Rattle.std.specs.List.{Contains, filter}
 use Rattle.std.proofs.lemmas.List.Elements.{Contains-append_cases, Contains-append_left, Contains-append_right}
-use Rattle.exch_lane.specs.Lanes.{Sent, numbered}
+use Rattle.exch_lane.specs.Lanes.{Sent, item_numbered}
 use Rattle.exch_lane.specs.Steps.{sent_at}
 use Rattle.fw_package.specs.Package.{PackageText}
 use Rattle.fw_message.specs.WorldLaws.{history_of}
@@ -83,7 +83,7 @@ pub record ComesFrom (w : WorldOf) (device stamp : ℕ) (bytes : List ℕ) : Typ
   pub site : SiteOf
   pub there : site_for w.sites device ≡ Some site
   pub number : ℕ
-  pub at : numbered (packets_of w device) number ≡ Some (sent_at stamp bytes)
+  pub at : item_numbered (packets_of w device) number ≡ Some (sent_at stamp bytes)
   pub soon : w.now ≤ stamp + 8
 
 packets_then : (works : Bool) (faults : ℕ) (w : WorldOf) (s : Step) (eid : ℕ) (y z : SiteOf) → site_for w.sites eid ≡ Some y → site_for (world_after works faults w s).sites eid ≡ Some z

@@ -2,7 +2,7 @@
 use Rattle.std.proofs.Common.{◌≡◌, Bool, ◌∙◌, ◌+◌, ◌-◌, ◌^◌, ◌==◌, ◌<◌, ◌≤◌, ℕ, true, List, [], ◌∷◌, map, Option, Some, None, refl, sym, ap, subst}
 use Rattle.std.specs.List.{AllByRecursion, Contains, list_all}
 use Rattle.std.proofs.lemmas.Bool.{lt-ltb}
-use Rattle.exch_lane.specs.Lanes.{Sent, numbered}
+use Rattle.exch_lane.specs.Lanes.{Sent, item_numbered}
 use Rattle.exch_lane.specs.Steps.{sent_at}
 use Rattle.fw_package.specs.Package.{PackageText}
 use Rattle.fw_node.specs.Agents.{AgentOf}
@@ -41,14 +41,14 @@ carried_from : (opening w : WorldOf) (before : List PlayStep) (device stamp : �
 carried_from opening w before device stamp bytes x a e is soon =
     let y = a.devices device x e in
     let k = number_contained (sent_at stamp bytes) y.site.packets (y.agrees.sent (sent_at stamp bytes) is) in
-    record { site = y.site; there = y.there; number = k.number; at = ap (λ (o : Option SiteOf). numbered (packets_at o) k.number) y.there ∙ k.at; soon = soon }
+    record { site = y.site; there = y.there; number = k.number; at = ap (λ (o : Option SiteOf). item_numbered (packets_at o) k.number) y.there ∙ k.at; soon = soon }
 
 carried_to : (opening w : WorldOf) (before : List PlayStep) (device stamp : ℕ) (bytes : List ℕ) (x : SiteOf) → Agrees opening before w → site_for opening.sites device ≡ Some x
     → Contains (agent_process_after opening before).sent (sent_at stamp bytes) → is_for device bytes ≡ true → w.now ≤ stamp + 8 → ComesFrom w device stamp bytes
 carried_to opening w before device stamp bytes x a e is for soon =
     let y = a.devices device x e in
     let k = number_contained (sent_at stamp bytes) y.site.packets (a.agent.sent device y.site y.there (sent_at stamp bytes) for is) in
-    record { site = y.site; there = y.there; number = k.number; at = ap (λ (o : Option SiteOf). numbered (packets_at o) k.number) y.there ∙ k.at; soon = soon }
+    record { site = y.site; there = y.there; number = k.number; at = ap (λ (o : Option SiteOf). item_numbered (packets_at o) k.number) y.there ∙ k.at; soon = soon }
 
 -- A device of the opening world is one of this world.
 is_there : (opening w : WorldOf) (before : List PlayStep) (device : ℕ) → Agrees opening before w → is_device opening device ≡ true → is_device w device ≡ true
@@ -108,7 +108,7 @@ all_beat (x ∷ xs) = all_beat xs
 pub tick_may : (w : WorldOf) → w.now < 2 ^ 32 - 1 → may_step w full_tick ≡ None
 tick_may w soon = tick_goes refl (lt-ltb w.now (2 ^ 32 - 1) soon) (all_beat w.sites)
 
-pub may_come : (w : WorldOf) (device number node : ℕ) (p : Sent) → is_device w device ≡ true → is_node w node ≡ true → numbered (packets_of w device) number ≡ Some p → w.now ≤ p.date + 8
+pub may_come : (w : WorldOf) (device number node : ℕ) (p : Sent) → is_device w device ≡ true → is_node w node ≡ true → item_numbered (packets_of w device) number ≡ Some p → w.now ≤ p.date + 8
     → may_step w (steps.Deliver device number node) ≡ None
 may_come w device number node p known to at soon = rw (known, to, at) (living w.now p soon)
 

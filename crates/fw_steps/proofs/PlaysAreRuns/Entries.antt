@@ -8,15 +8,15 @@ use Rattle.fw_message.specs.WorldLaws.{history_of}
 use Rattle.fw_message.specs.Worlds.{NotedOf, noted_of}
 use Rattle.fw_message.proofs.Safety.Worlds.{history_more}
 use Rattle.fw_steps.proofs.PacketsAreSafe.HistoryNoted.{noted_each}
-use Rattle.fw_node.specs.Agents.{agent_hears, any_packet}
+use Rattle.fw_node.specs.Agents.{agent_on_packet, any_packet}
 use Rattle.fw_steps.specs.Alone.{DeviceCall}
 use Rattle.fw_steps.specs.Plays.{device_step_entries}
-use Rattle.fw_steps.specs.Worlds.{SiteOf, WorldOf, activated_at, at_agent, at_device, judges, place_of, recorded_from, sender_of, site_at, site_for}
+use Rattle.fw_steps.specs.Worlds.{SiteOf, WorldOf, activated_at, at_agent, at_device, world_after_verdict, place_of, recorded_from, sender_of, site_at, site_for}
 use Rattle.fw_steps.proofs.DevicesAreIsolated.Seen.{history_other, history_own}
 use Rattle.fw_steps.proofs.LinksAreLanes.Posting.{site_found}
 
 pub agent_receipt_notes : (w : WorldOf) (eid : ℕ) (bytes : List ℕ) → history_of eid (at_agent w bytes).history
-    ≡ history_of eid w.history ++ (history_of eid (recorded_from w.agent (agent_hears w.packages w.agent bytes w.now).agent (sender_of (any_packet bytes))) ++ [])
+    ≡ history_of eid w.history ++ (history_of eid (recorded_from w.agent (agent_on_packet w.packages w.agent bytes w.now).agent (sender_of (any_packet bytes))) ++ [])
 agent_receipt_notes w eid bytes =
     history_more eid w.history _ ∙ ap (λ (es : List EntryOf). history_of eid w.history ++ es) (sym (append-nil _))
 
@@ -50,7 +50,7 @@ device_receipt_notes works faults w eid device bytes x y there e =
     (λ here. let same : x ≡ y = (let both : Some x ≡ Some y = sym there ∙ ap (site_for w.sites) here ∙ e in cc) in ap (λ (z : SiteOf). map EntryOf.Activated (activated_at works z.node bytes)) same) refl
 
 verdict_history : (works : Bool) (faults : ℕ) (w : WorldOf) (verdict : Verdict) (o : Option ℕ) (s : Option SiteOf) (x : SiteOf) → site_at w.sites o ≡ s → s ≡ Some x
-    → (judges works faults w verdict o s).history ≡ w.history ++ map (noted_of x.node.endpoint.eid) (map EntryOf.Applied (applied_by x.node.half.core.device verdict works))
+    → (world_after_verdict works faults w verdict o s).history ≡ w.history ++ map (noted_of x.node.endpoint.eid) (map EntryOf.Applied (applied_by x.node.half.core.device verdict works))
 verdict_history works faults w verdict None None x at e = absurd (cc)
 verdict_history works faults w verdict None (Some y) x at e = absurd (cc)
 verdict_history works faults w verdict (Some p) None x at e = absurd (cc)
@@ -60,7 +60,7 @@ verdict_history works faults w verdict (Some p) (Some y) x at e =
     ∙ ap (λ (z : SiteOf). w.history ++ map (noted_of z.node.endpoint.eid) (map EntryOf.Applied (applied_by z.node.half.core.device verdict works))) same
 
 pub verdict_notes : (works : Bool) (faults : ℕ) (w : WorldOf) (eid device : ℕ) (verdict : Verdict) (x y : SiteOf) → site_for w.sites device ≡ Some x → site_for w.sites eid ≡ Some y
-    → history_of eid (judges works faults w verdict (place_of w.sites device) (site_for w.sites device)).history
+    → history_of eid (world_after_verdict works faults w verdict (place_of w.sites device) (site_for w.sites device)).history
     ≡ history_of eid w.history ++ device_step_entries y.node (if device == eid then DeviceCall.Judges works faults verdict ∷ [] else [])
 verdict_notes works faults w eid device verdict x y there e =
     ap (history_of eid) (verdict_history works faults w verdict (place_of w.sites device) (site_for w.sites device) x refl there

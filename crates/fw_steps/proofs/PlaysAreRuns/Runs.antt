@@ -8,7 +8,7 @@ use Rattle.fw_message.specs.Worlds.{NotedOf}
 use Rattle.fw_node.specs.Agents.{AgentOf}
 use Rattle.fw_node.specs.Nodes.{DeviceNodeOf}
 use Rattle.fw_steps.specs.Alone.{AgentCall, DeviceCall, agent_run_calls, device_run_calls}
-use Rattle.fw_steps.specs.Headline.{IsOpeningWorld, Leads, PacketsAreSafe, Run, world_after}
+use Rattle.fw_steps.specs.Headline.{IsOpeningWorld, StepsTo, PacketsAreSafe, Run, world_after}
 use Rattle.fw_steps.specs.Plays.{AgentProcess, EachMayFollow, DeviceProcess, PlayStep, PlaysAreRuns, PlaysAreSafe, agent_calls_of, agent_process_after_step, agent_play_calls, agent_process_after, device_calls_of, device_process_after_step, device_play_calls, device_process_after, pair_play_entries, pair_step_entries}
 use Rattle.fw_steps.specs.Worlds.{SiteOf, WorldOf, pair_for, site_for}
 use Rattle.fw_steps.specs.declared.step.Step.{Step}
@@ -49,7 +49,7 @@ runs_on opening w before (h ∷ hs) opens a may =
     let k = has_step w h (may_at opening w before h opens a may.0) in
     let v = world_after k.works k.faults w k.step in
     let rest = runs_on opening v (before ++ h ∷ []) hs opens (steps_on opening w k.works k.faults before h k.step a k.is) may.1 in
-    let leads : Leads w k.step v = record { may = k.is.may; works = k.works; faults = k.faults; after = refl; worked = k.is.bank.worked; failed = k.is.bank.failed; called = k.is.bank.called } in
+    let leads : StepsTo w k.step v = record { may = k.is.may; works = k.works; faults = k.faults; after = refl; worked = k.is.bank.worked; failed = k.is.bank.failed; called = k.is.bank.called } in
     record {
       steps = k.step ∷ rest.steps;
       world = rest.world;

@@ -2,7 +2,7 @@
 use Rattle.std.proofs.Common.{◌≡◌, ◌⊎◌, ◌∙◌, ◌+◌, ◌<◌, ◌≤◌, ℕ, zero, suc, true, false, if◌then◌else◌, length, nat_lt, List, [], ◌∷◌, Some, None, slice_get, inl, inr, refl, ap, arith}
 use Rattle.std.specs.List.{Contains, filter, slice_index_or}
 use Rattle.std.proofs.lemmas.Bool.{le-ltb}
-use Rattle.exch_lane.specs.Lanes.{Sent, lives_until, numbered}
+use Rattle.exch_lane.specs.Lanes.{Sent, lives_until, item_numbered}
 use Rattle.exch_lane.specs.Steps.{sent_at}
 use Rattle.fw_steps.specs.Alone.{is_for}
 use Rattle.fw_steps.specs.Headline.{packet_fault}
@@ -37,7 +37,7 @@ contained_for now eid (q ∷ qs) p is c = elim (contains_cases (sent_at now q) p
 -- a packet's number in a list
 pub record HasNumber (p : Sent) (ps : List Sent) : Type 0 where
   pub number : ℕ
-  pub at : numbered ps number ≡ Some p
+  pub at : item_numbered ps number ≡ Some p
 
 get_contained : (p : Sent) (ps : List Sent) (k : ℕ) → k < length ps → slice_index_or ps k p ≡ p → slice_get ps k ≡ Some p
 get_contained p [] k lt e = absurd (omega (arith, lt))

@@ -4,15 +4,15 @@ use Rattle.std.specs.List.{AllByRecursion}
 use Rattle.std.proofs.lemmas.List.{length-append, length-take}
 use Rattle.std.proofs.lemmas.Bool.{ltb-false}
 use Rattle.pldm_base.specs.Codes.{invalid_data}
-use Rattle.fwup_wire.specs.Commands.{HasWidths}
-use Rattle.fwup_wire.specs.Values.{AnswerOf, CommandOf, EntryOf, OfferOf, RequestOf, VersionOf}
+use Rattle.fwup_wire.specs.Commands.{HasCommandWidths}
+use Rattle.fwup_wire.specs.Values.{AnswerOf, CommandOf, TableEntryOf, OfferOf, UpdateRequestOf, VersionOf}
 use Rattle.fwup_wire.specs.declared.values.Key.{Key}
 use Rattle.fd_core.specs.Codes.{longest_image}
-use Rattle.fd_core.specs.Commands.{CancelRow, OfferRow, RequestRow, ReturnRow, SwitchRow, TableRow, cancel_by, cancel_row, device_after, listed, offer_by, offer_restriction, offer_row, offer_under, request_by, request_row, return_by, return_row, switch_by, switch_row, table_by, table_row, with_entry}
-use Rattle.fd_core.specs.Images.{ImageOf, RowOf, dropped, label_of, same_key, sealed, sealed_if, switched, turned_to}
+use Rattle.fd_core.specs.Commands.{CancelRow, OfferRow, RequestRow, ReturnRow, SwitchRow, TableRow, cancel_by, cancel_row, device_after, device_with_table, offer_by, offer_restriction, offer_row, offer_under, request_by, request_row, return_by, return_row, switch_by, switch_row, table_by, table_row, with_entry}
+use Rattle.fd_core.specs.Images.{ImageOf, RowOf, rows_after_drop, label_of, same_key, rows_after_seal, sealed_if, rows_after_switch, row_after_switch_to}
 use Rattle.fd_core.specs.States.{DeviceState, Phase, UpdateOf, WorkOf}
 use Rattle.fd_core.specs.Steps.{device_restart, device_timeout, judged_or, verdict_after, verdict_at, written_image}
-use Rattle.fd_core.specs.Wishes.{LearnRow, apply_by, asked_length, device_learn, download_by, download_row, learn_at, report_row, applied_row, stage_with, verified_row, verify_by}
+use Rattle.fd_core.specs.Wishes.{DeviceLearnRow, apply_by, asked_length, device_learn, download_by, download_row, learn_at, report_row, applied_row, stage_with, verified_row, verify_by}
 use Rattle.fd_core.specs.declared.states.Progress.TheVariants as progress
 use Rattle.fd_core.specs.declared.states.Verdict.{Verdict}
 use Rattle.fd_core.specs.declared.states.Verdict.TheVariants as verdicts
@@ -20,15 +20,15 @@ use Rattle.fw_steps.specs.Widths.{HasDeviceWidths, HasImageWidths, HasLabelWidth
 
 -- ROWS
 
-rows_dropped : (rows : List RowOf) → AllByRecursion HasRowWidths rows → AllByRecursion HasRowWidths (dropped rows)
+rows_dropped : (rows : List RowOf) → AllByRecursion HasRowWidths rows → AllByRecursion HasRowWidths (rows_after_drop rows)
 rows_dropped [] h = tt
 rows_dropped (row ∷ rows) h = (record { active = h.0.active; applied = tt }, rows_dropped rows h.1)
 
-row_turned : (row : RowOf) (o : Option ImageOf) → HasRowWidths row → IfSome o HasImageWidths → HasRowWidths (turned_to row o)
+row_turned : (row : RowOf) (o : Option ImageOf) → HasRowWidths row → IfSome o HasImageWidths → HasRowWidths (row_after_switch_to row o)
 row_turned row None h k = h
 row_turned row (Some image) h k = record { active = k; applied = tt }
 
-rows_switched : (rows : List RowOf) → AllByRecursion HasRowWidths rows → AllByRecursion HasRowWidths (switched rows)
+rows_switched : (rows : List RowOf) → AllByRecursion HasRowWidths rows → AllByRecursion HasRowWidths (rows_after_switch rows)
 rows_switched [] h = tt
 rows_switched (row ∷ rows) h = (row_turned row row.applied h.0 h.0.applied, rows_switched rows h.1)
 
@@ -36,7 +36,7 @@ row_sealed : (same : Bool) (row : RowOf) (image : ImageOf) → HasRowWidths row 
 row_sealed true row image h k = record { active = h.active; applied = k }
 row_sealed false row image h k = h
 
-rows_sealed : (rows : List RowOf) (key : Key) (image : ImageOf) → AllByRecursion HasRowWidths rows → HasImageWidths image → AllByRecursion HasRowWidths (sealed rows key image)
+rows_sealed : (rows : List RowOf) (key : Key) (image : ImageOf) → AllByRecursion HasRowWidths rows → HasImageWidths image → AllByRecursion HasRowWidths (rows_after_seal rows key image)
 rows_sealed [] key image h k = tt
 rows_sealed (row ∷ rows) key image h k = (row_sealed (same_key row.key key) row image h.0 k, rows_sealed rows key image h.1 k)
 
@@ -61,15 +61,15 @@ pub timeout_speaks : (v : DeviceState) → HasDeviceWidths v → HasDeviceWidths
 timeout_speaks v h = with_rows v (device_timeout v) refl refl (rows_dropped v.rows h.rows) tt h
 
 -- a command
-requested : (v : DeviceState) (r : RequestOf) (row : RequestRow) → HasDeviceWidths v → HasDeviceWidths (request_by v r row).after
+requested : (v : DeviceState) (r : UpdateRequestOf) (row : RequestRow) → HasDeviceWidths v → HasDeviceWidths (request_by v r row).after
 requested v r (RequestRow.RefuseRequest code) h = h
 requested v r RequestRow.BeginUpdate h = with_rows v (request_by v r RequestRow.BeginUpdate).after refl refl (rows_dropped v.rows h.rows) tt h
 
-listed_or : (v : DeviceState) (u : UpdateOf) (b : Bool) → length u.table == u.components ≡ b → HasDeviceWidths v → HasDeviceWidths (listed v u)
+listed_or : (v : DeviceState) (u : UpdateOf) (b : Bool) → length u.table == u.components ≡ b → HasDeviceWidths v → HasDeviceWidths (device_with_table v u)
 listed_or v u true e h = rw e (with_rows v _ refl refl h.rows tt h)
 listed_or v u false e h = rw e (with_rows v _ refl refl h.rows tt h)
 
-entered : (v : DeviceState) (e : EntryOf) (row : TableRow) → HasDeviceWidths v → HasDeviceWidths (table_by v e row).after
+entered : (v : DeviceState) (e : TableEntryOf) (row : TableRow) → HasDeviceWidths v → HasDeviceWidths (table_by v e row).after
 entered v e (TableRow.RefuseEntry code) h = h
 entered v e (TableRow.AddEntry u code) h = listed_or v (with_entry u e.key code) _ refl h
 
@@ -107,7 +107,7 @@ cancelled : (v : DeviceState) (row : CancelRow) → HasDeviceWidths v → HasDev
 cancelled v (CancelRow.RefuseCancel code) h = h
 cancelled v CancelRow.Reset h = with_rows v (cancel_by v CancelRow.Reset).after refl refl (rows_dropped v.rows h.rows) tt h
 
-pub take_speaks : (v : DeviceState) (c : CommandOf) (quiet works : Bool) → HasWidths c → HasDeviceWidths v → HasDeviceWidths (device_after v c quiet works)
+pub take_speaks : (v : DeviceState) (c : CommandOf) (quiet works : Bool) → HasCommandWidths c → HasDeviceWidths v → HasDeviceWidths (device_after v c quiet works)
 take_speaks v (CommandOf.RequestUpdate r) quiet works k h = requested v r (request_row v.phase r quiet) h
 take_speaks v (CommandOf.PassComponentTable e) quiet works k h = entered v e (table_row v.rows v.phase e) h
 take_speaks v (CommandOf.UpdateComponent o) quiet works k h = offered v o quiet works (offer_row v.rows v.phase o quiet works) refl k.0.2 h
@@ -121,22 +121,22 @@ stored : (v : DeviceState) (w : WorkOf) (bytes : List ℕ) → length v.stage �
 stored v w bytes h =
     rw (length-append v.stage (take (w.size - length v.stage) bytes), length-take (w.size - length v.stage) bytes) (omega (arith, h))
 
-downloaded : (v : DeviceState) (u : UpdateOf) (w : WorkOf) (row : LearnRow) → HasPhaseWidths (Phase.Download u w progress.InProgress) (length v.stage) → HasDeviceWidths v → HasDeviceWidths (download_by v u w row).after
-downloaded v u w LearnRow.Stay k h = h
-downloaded v u w (LearnRow.PutPiece bytes) k h =
-    with_rows v (download_by v u w (LearnRow.PutPiece bytes)).after refl refl h.rows (k.0, stored v w bytes k.1, k.2) h
-downloaded v u w LearnRow.PutFails k h = with_rows v (download_by v u w LearnRow.PutFails).after refl refl h.rows k h
-downloaded v u w LearnRow.NextState k h = with_rows v (download_by v u w LearnRow.NextState).after refl refl h.rows k.0 h
-downloaded v u w LearnRow.Reported k h = with_rows v (download_by v u w LearnRow.Reported).after refl refl h.rows k h
+downloaded : (v : DeviceState) (u : UpdateOf) (w : WorkOf) (row : DeviceLearnRow) → HasPhaseWidths (Phase.Download u w progress.InProgress) (length v.stage) → HasDeviceWidths v → HasDeviceWidths (download_by v u w row).after
+downloaded v u w DeviceLearnRow.Stay k h = h
+downloaded v u w (DeviceLearnRow.PutPiece bytes) k h =
+    with_rows v (download_by v u w (DeviceLearnRow.PutPiece bytes)).after refl refl h.rows (k.0, stored v w bytes k.1, k.2) h
+downloaded v u w DeviceLearnRow.PutFails k h = with_rows v (download_by v u w DeviceLearnRow.PutFails).after refl refl h.rows k h
+downloaded v u w DeviceLearnRow.NextState k h = with_rows v (download_by v u w DeviceLearnRow.NextState).after refl refl h.rows k.0 h
+downloaded v u w DeviceLearnRow.Reported k h = with_rows v (download_by v u w DeviceLearnRow.Reported).after refl refl h.rows k h
 
-verified : (v : DeviceState) (u : UpdateOf) (w : WorkOf) (row : LearnRow) → HasLabelWidths w.label → HasDeviceWidths v → HasDeviceWidths (verify_by v u w row).after
-verified v u w LearnRow.NextState k h = with_rows v (verify_by v u w LearnRow.NextState).after refl refl h.rows k h
-verified v u w LearnRow.Reported k h = with_rows v (verify_by v u w LearnRow.Reported).after refl refl h.rows k h
+verified : (v : DeviceState) (u : UpdateOf) (w : WorkOf) (row : DeviceLearnRow) → HasLabelWidths w.label → HasDeviceWidths v → HasDeviceWidths (verify_by v u w row).after
+verified v u w DeviceLearnRow.NextState k h = with_rows v (verify_by v u w DeviceLearnRow.NextState).after refl refl h.rows k h
+verified v u w DeviceLearnRow.Reported k h = with_rows v (verify_by v u w DeviceLearnRow.Reported).after refl refl h.rows k h
 verified v u w row k h = h
 
-applied : (v : DeviceState) (u : UpdateOf) (w : WorkOf) (row : LearnRow) → HasLabelWidths w.label → HasDeviceWidths v → HasDeviceWidths (apply_by v u w row).after
-applied v u w LearnRow.NextState k h = with_rows v (apply_by v u w LearnRow.NextState).after refl refl h.rows tt h
-applied v u w LearnRow.Reported k h = with_rows v (apply_by v u w LearnRow.Reported).after refl refl h.rows k h
+applied : (v : DeviceState) (u : UpdateOf) (w : WorkOf) (row : DeviceLearnRow) → HasLabelWidths w.label → HasDeviceWidths v → HasDeviceWidths (apply_by v u w row).after
+applied v u w DeviceLearnRow.NextState k h = with_rows v (apply_by v u w DeviceLearnRow.NextState).after refl refl h.rows tt h
+applied v u w DeviceLearnRow.Reported k h = with_rows v (apply_by v u w DeviceLearnRow.Reported).after refl refl h.rows k h
 applied v u w row k h = h
 
 learnt_at : (v : DeviceState) (p : Phase) (a : Option AnswerOf) (works : Bool) → HasPhaseWidths p (length v.stage) → HasDeviceWidths v → HasDeviceWidths (learn_at v p a works).after

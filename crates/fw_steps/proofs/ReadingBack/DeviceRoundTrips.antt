@@ -7,22 +7,22 @@ use Rattle.mctp_wire.specs.declared.unit.Unit.TheVariants.{U64, U128}
 use Rattle.pldm_base.specs.Codes.{error, invalid_data, not_ready, unsupported_command}
 use Rattle.pldm_base.specs.Limits.{reply_limit}
 use Rattle.fwup_wire.specs.Answers.{HasAnswerWidths, IsAnswerWritable, answer_bytes}
-use Rattle.fwup_wire.specs.Commands.{IsSpoken, command_code}
+use Rattle.fwup_wire.specs.Commands.{CommandRoundTrips, command_code}
 use Rattle.fwup_wire.specs.Items.{EachItem}
 use Rattle.fwup_wire.specs.Laws.{WritesAnswers}
 use Rattle.fwup_wire.specs.Parameters.{HasParametersWidths, all_parameters_bytes, parameters_bytes}
 use Rattle.fwup_wire.specs.Transfers.{transfer_size}
-use Rattle.fwup_wire.specs.Values.{AnswerOf, CommandOf, EntryOf, OfferOf, ParametersOf, RequestOf, VersionOf}
+use Rattle.fwup_wire.specs.Values.{AnswerOf, CommandOf, TableEntryOf, OfferOf, ParametersOf, UpdateRequestOf, VersionOf}
 use Rattle.fwup_wire.specs.declared.transfers.TheConstants.{MIN_TRANSFER}
 use Rattle.fwup_wire.specs.declared.values.Key.{Key}
 use Rattle.fd_core.specs.Codes.{activation_not_required, already_in_update_mode, incomplete_update, invalid_state_for_command, no_restriction, not_in_update_mode, application_failed, longest_image, transfer_failed, verification_failed}
-use Rattle.fd_core.specs.Commands.{OfferRow, RequestRow, SwitchRow, TableRow, flag_at, has_applied, in_table, is_flag, is_odd_request, lacks, offer_restriction, restriction, all_parameters, cancel_by, cancel_row, device_answer, offer_by, offer_row, offer_under, parameters_by, request_by, request_row, return_by, return_row, switch_by, switch_row, table_by, table_row}
+use Rattle.fd_core.specs.Commands.{OfferRow, RequestRow, SwitchRow, TableRow, flag_at, has_applied, in_table, is_flag, is_odd_request, lacks_listed, offer_restriction, restriction, all_parameters, cancel_by, cancel_row, device_answer, offer_by, offer_row, offer_under, parameters_by, request_by, request_row, return_by, return_row, switch_by, switch_row, table_by, table_row}
 use Rattle.fd_core.specs.Images.{ImageOf, RowOf, active_of, applied_of, row_of, same_key, version_at}
 use Rattle.fd_core.specs.States.{DeviceState, Phase, UpdateOf}
-use Rattle.fd_core.specs.Wishes.{apply_report, device_wish, report_of, reports, wish_at}
-use Rattle.fd_core.specs.declared.parts.Component.{Component}
+use Rattle.fd_core.specs.Wishes.{apply_report, device_wish, report_of, report_if, wish_at}
+use Rattle.fd_core.specs.declared.parts.BankComponent.{BankComponent}
 use Rattle.fd_core.specs.declared.states.Progress.TheVariants as progress
-use Rattle.fw_node.specs.Nodes.{IsHeardAgain}
+use Rattle.fw_node.specs.Nodes.{AnswerRoundTrips}
 use Rattle.fw_steps.specs.Widths.{HasComponentKeyWidths, HasDeviceWidths, HasKeyWidths, HasImageWidths, HasConfigurationWidths, HasPhaseWidths, HasRowWidths}
 use Rattle.fd_core.proofs.Answering.{answers_its_command}
 
@@ -58,7 +58,7 @@ record ParametersFit (p : ParametersOf) : Type 0 where
   active : VersionFits p.active
   pending : VersionFits p.pending
 
-parameters_tell : (rows : List RowOf) (c : Component) → AllByRecursion HasRowWidths rows → HasComponentKeyWidths c → ParametersFit (parameters_by rows c)
+parameters_tell : (rows : List RowOf) (c : BankComponent) → AllByRecursion HasRowWidths rows → HasComponentKeyWidths c → ParametersFit (parameters_by rows c)
 parameters_tell rows c h k =
     let row = row_tells rows c.key h in
     record {
@@ -73,11 +73,11 @@ widths_of p h = ((h.key.0, h.key.1, h.active.stamp), h.pending.stamp, omega (ari
 size_of : (p : ParametersOf) → ParametersFit p → length (parameters_bytes p) ≤ 63
 size_of p h = rw (length-append p.active.text.bytes p.pending.text.bytes) (omega (arith, h.active.text, h.pending.text))
 
-all_widths : (rows : List RowOf) (cs : List Component) → AllByRecursion HasRowWidths rows → AllByRecursion HasComponentKeyWidths cs → EachItem HasParametersWidths (all_parameters rows cs)
+all_widths : (rows : List RowOf) (cs : List BankComponent) → AllByRecursion HasRowWidths rows → AllByRecursion HasComponentKeyWidths cs → EachItem HasParametersWidths (all_parameters rows cs)
 all_widths rows [] h k = tt
 all_widths rows (c ∷ cs) h k = (widths_of (parameters_by rows c) (parameters_tell rows c h k.0), all_widths rows cs h k.1)
 
-all_sizes : (rows : List RowOf) (cs : List Component) → AllByRecursion HasRowWidths rows → AllByRecursion HasComponentKeyWidths cs → length (all_parameters_bytes (all_parameters rows cs)) ≤ 63 * length cs
+all_sizes : (rows : List RowOf) (cs : List BankComponent) → AllByRecursion HasRowWidths rows → AllByRecursion HasComponentKeyWidths cs → length (all_parameters_bytes (all_parameters rows cs)) ≤ 63 * length cs
 all_sizes rows [] h k = omega arith
 all_sizes rows (c ∷ cs) h k =
     rw (length-append (parameters_bytes (parameters_by rows c)) (all_parameters_bytes (all_parameters rows cs)))
@@ -112,14 +112,14 @@ either : {R : Type 0} (P : R → Type 0) (b : Bool) (x y : R) → P x → P y �
 either P true x y hx hy = hx
 either P false x y hx hy = hy
 
-requests : (v : DeviceState) (r : RequestOf) (p : Phase) (quiet : Bool) → AnswerFits (request_by v r (request_row p r quiet)).answer
+requests : (v : DeviceState) (r : UpdateRequestOf) (p : Phase) (quiet : Bool) → AnswerFits (request_by v r (request_row p r quiet)).answer
 requests v r Phase.Idle false = refuses not_ready (λ e. absurd (omega (arith, e)))
 requests v r Phase.Idle true =
     either (λ row. AnswerFits (request_by v r row).answer) (is_odd_request r) (RequestRow.RefuseRequest invalid_data) RequestRow.BeginUpdate
     (refuses invalid_data (λ e. absurd (omega (arith, e)))) (record { widths = tt; writable = omega arith; fits = omega arith })
 requests v r p quiet = refuses already_in_update_mode (λ e. absurd (omega (arith, e)))
 
-entries : (v : DeviceState) (e : EntryOf) (rows : List RowOf) (p : Phase) → AnswerFits (table_by v e (table_row rows p e)).answer
+entries : (v : DeviceState) (e : TableEntryOf) (rows : List RowOf) (p : Phase) → AnswerFits (table_by v e (table_row rows p e)).answer
 entries v e rows Phase.Idle = refuses not_in_update_mode (λ z. absurd (omega (arith, z)))
 entries v e rows (Phase.Learn u) =
     either (λ row. AnswerFits (table_by v e row).answer) (not (is_flag e.flag (flag_at (length u.table) u.components)) || in_table u.table e.key) (TableRow.RefuseEntry invalid_data) (TableRow.AddEntry u (restriction rows e.key e.version.stamp))
@@ -147,10 +147,10 @@ returns v (Phase.Verify u w p) = record { widths = tt; writable = omega arith; f
 returns v (Phase.Apply u w p) = record { widths = tt; writable = omega arith; fits = omega arith }
 returns v p = refuses invalid_state_for_command (λ z. absurd (omega (arith, z)))
 
-switches : (v : DeviceState) (cs : List Component) (rows : List RowOf) (p : Phase) (works : Bool) → AnswerFits (switch_by v (switch_row cs rows p works)).answer
+switches : (v : DeviceState) (cs : List BankComponent) (rows : List RowOf) (p : Phase) (works : Bool) → AnswerFits (switch_by v (switch_row cs rows p works)).answer
 switches v cs rows Phase.Idle works = refuses not_in_update_mode (λ z. absurd (omega (arith, z)))
 switches v cs rows (Phase.Ready u) works =
-    either (λ row. AnswerFits (switch_by v row).answer) (lacks rows u.table) (SwitchRow.RefuseSwitch incomplete_update) _
+    either (λ row. AnswerFits (switch_by v row).answer) (lacks_listed rows u.table) (SwitchRow.RefuseSwitch incomplete_update) _
     (refuses incomplete_update (λ z. absurd (omega (arith, z))))
     (either (λ row. AnswerFits (switch_by v row).answer) (not (has_applied rows cs)) (SwitchRow.RefuseSwitch activation_not_required) _
     (refuses activation_not_required (λ z. absurd (omega (arith, z))))
@@ -175,7 +175,7 @@ says v CommandOf.CancelUpdate quiet works h = cancels v v.phase
 says v c quiet works h = refuses unsupported_command (λ z. absurd (omega (arith, z)))
 
 -- Each of its answers can be read again, and fits a message of either transmission unit.
-pub device_heard : WritesAnswers → (v : DeviceState) (c : CommandOf) (quiet works : Bool) → HasDeviceWidths v → IsHeardAgain U64 c (device_answer v c quiet works)
+pub device_heard : WritesAnswers → (v : DeviceState) (c : CommandOf) (quiet works : Bool) → HasDeviceWidths v → AnswerRoundTrips U64 c (device_answer v c quiet works)
 device_heard law v c quiet works h =
     let k = says v c quiet works h in
     record { reads = law (command_code c) (device_answer v c quiet works) (answers_its_command v c quiet works) k.widths k.writable; fits = k.fits }
@@ -187,11 +187,11 @@ asked_few : (unit : «Unit») (n : ℕ) → max MIN_TRANSFER (min (transfer_size
 asked_few U64 n = omega arith
 asked_few U128 n = omega arith
 
-reported : (command : ℕ → CommandOf) (o : Option ℕ) → ((n : ℕ) → IsSpoken (command n)) → IfSome (reports command o) IsSpoken
+reported : (command : ℕ → CommandOf) (o : Option ℕ) → ((n : ℕ) → CommandRoundTrips (command n)) → IfSome (report_if command o) CommandRoundTrips
 reported command None h = tt
 reported command (Some n) h = h n
 
-wishes : (unit : «Unit») (p : Phase) (have : ℕ) → HasPhaseWidths p have → IfSome (wish_at unit p have) IsSpoken
+wishes : (unit : «Unit») (p : Phase) (have : ℕ) → HasPhaseWidths p have → IfSome (wish_at unit p have) CommandRoundTrips
 wishes unit (Phase.Download u w progress.InProgress) have h =
     record { writable = omega arith; widths = (omega (arith, h.1, h.2), asked_few unit (min u.transfer_size (w.size - have))) }
 wishes unit (Phase.Download u w p) have h = reported CommandOf.TransferComplete (report_of p transfer_failed) (λ n. record { writable = omega arith; widths = tt })
@@ -200,5 +200,5 @@ wishes unit (Phase.Apply u w p) have h = reported apply_report (report_of p appl
 wishes unit p have h = tt
 
 -- What it wishes can be written.
-pub device_spoken : (v : DeviceState) → HasDeviceWidths v → IfSome (device_wish v) IsSpoken
+pub device_spoken : (v : DeviceState) → HasDeviceWidths v → IfSome (device_wish v) CommandRoundTrips
 device_spoken v h = wishes v.unit v.phase (length v.stage) h.phase

@@ -7,9 +7,9 @@ use Rattle.mctp_reasm.specs.Pieces.{MessageOf}
 use Rattle.pldm_base.specs.declared.header.PldmHead.{PldmHead}
 use Rattle.pldm_exch.specs.Caller.{is_quiet, may_begin}
 use Rattle.pldm_exch.specs.Sides.{AskerRow, AskerTick, TakerRow, asker_counts, asker_row, taker_counts, taker_row}
-use Rattle.exch_lane.specs.Lanes.{Sent, numbered}
+use Rattle.exch_lane.specs.Lanes.{Sent, item_numbered}
 use Rattle.fw_package.specs.Package.{PackageText}
-use Rattle.fwup_wire.specs.Commands.{IsSpoken}
+use Rattle.fwup_wire.specs.Commands.{CommandRoundTrips}
 use Rattle.fwup_wire.specs.Laws.{WritesAnswers}
 use Rattle.fwup_wire.specs.Values.{CommandOf}
 use Rattle.fd_core.specs.States.{DeviceState, Phase}
@@ -20,10 +20,10 @@ use Rattle.ua_core.specs.Lent.{package_at}
 use Rattle.ua_core.specs.Session.{TimedOf}
 use Rattle.fw_message.specs.declared.side.Side.TheVariants as sides
 use Rattle.fw_node.specs.Cores.{TimedDevice, device_core, session_core}
-use Rattle.fw_node.specs.Halves.{CoreOf, HalfOf, begins_if, begins_wish, called, half_hears, half_hears_by, half_takes, half_ticks, hears_if, read_by, takes_if, takes_read, unwished_abandoned, with_caller}
-use Rattle.fw_node.specs.Nodes.{IsHeardAgain, IsTold}
+use Rattle.fw_node.specs.Halves.{CoreOf, HalfOf, begins_if, begins_wish, half_tick_by_row, half_on_packet, half_on_rows, half_takes, half_ticks, tick_if, read_by, takes_if, takes_read, unwished_abandoned, with_caller}
+use Rattle.fw_node.specs.Nodes.{AnswerRoundTrips, TakenAnswerRoundTrips}
 use Rattle.fw_steps.specs.Links.{LinkOf, LinkStep}
-use Rattle.fw_steps.specs.LinksAreLanes.{CanBeSaid, IsToldOn}
+use Rattle.fw_steps.specs.LinksAreLanes.{LinkStepRoundTrips, AnswerRoundTripsOn}
 use Rattle.fw_steps.specs.Widths.{HasDeviceWidths, HavePackageWidths, SessionIsInPlan}
 use Rattle.fw_steps.proofs.ReadingBack.DeviceKeepsWidths.{timeout_speaks}
 use Rattle.fw_steps.proofs.ReadingBack.DeviceRoundTrips.{device_heard, device_spoken}
@@ -34,27 +34,27 @@ use Rattle.fw_steps.proofs.ReadingBack.SessionRoundTrips.{session_heard, session
 
 -- each answer of this core can be read again
 abbrev AnswersWell : {C : Type 0} → «Unit» → CoreOf C → C → Type 0
-AnswersWell u core x = (c : CommandOf) (quiet works : Bool) → IsHeardAgain u c (core.take x c quiet works).answer
+AnswersWell u core x = (c : CommandOf) (quiet works : Bool) → AnswerRoundTrips u c (core.take x c quiet works).answer
 
-told_read : {C : Type 0} (u : «Unit») (core : CoreOf C) (quiet works : Bool) (h : HalfOf C) (requests : List (Option Held)) (m : MessageOf) (head : PldmHead) (r : Result CommandOf ℕ) → AnswersWell u core h.core → IsTold u (takes_read core quiet works h requests m head r)
+told_read : {C : Type 0} (u : «Unit») (core : CoreOf C) (quiet works : Bool) (h : HalfOf C) (requests : List (Option Held)) (m : MessageOf) (head : PldmHead) (r : Result CommandOf ℕ) → AnswersWell u core h.core → TakenAnswerRoundTrips u (takes_read core quiet works h requests m head r)
 told_read u core quiet works h requests m head (Ok c) k = k c quiet works
 told_read u core quiet works h requests m head (Err code) k = tt
 
-told_if : {C : Type 0} (u : «Unit») (five : Bool) (core : CoreOf C) (works : Bool) (h : HalfOf C) (requests : List (Option Held)) (m : MessageOf) (head : PldmHead) (body : List ℕ) → AnswersWell u core h.core → IsTold u (takes_if five core works h requests m head body)
+told_if : {C : Type 0} (u : «Unit») (five : Bool) (core : CoreOf C) (works : Bool) (h : HalfOf C) (requests : List (Option Held)) (m : MessageOf) (head : PldmHead) (body : List ℕ) → AnswersWell u core h.core → TakenAnswerRoundTrips u (takes_if five core works h requests m head body)
 told_if u true core works h requests m head body k = told_read u core (is_quiet h.asker.caller) works h requests m head (read_by core head.command body) k
 told_if u false core works h requests m head body k = tt
 
-told_takes : {C : Type 0} (u : «Unit») (core : CoreOf C) (works : Bool) (h : HalfOf C) (row : TakerRow) → AnswersWell u core h.core → IsTold u (half_takes core works h row)
+told_takes : {C : Type 0} (u : «Unit») (core : CoreOf C) (works : Bool) (h : HalfOf C) (row : TakerRow) → AnswersWell u core h.core → TakenAnswerRoundTrips u (half_takes core works h row)
 told_takes u core works h (TakerRow.Silent requests) k = tt
 told_takes u core works h (TakerRow.Repeats requests answer) k = tt
 told_takes u core works h (TakerRow.TakesUp requests m head body) k = told_if u (head.pldm_type == 5) core works h requests m head body k
 told_takes u core works h (TakerRow.Strays requests m) k = tt
 
-told_by : {C : Type 0} (u : «Unit») (core : CoreOf C) (works : Bool) (h : HalfOf C) (row : AskerRow) (taken : TakerRow) → AnswersWell u core h.core → IsTold u (half_hears_by core works h row taken)
+told_by : {C : Type 0} (u : «Unit») (core : CoreOf C) (works : Bool) (h : HalfOf C) (row : AskerRow) (taken : TakerRow) → AnswersWell u core h.core → TakenAnswerRoundTrips u (half_on_rows core works h row taken)
 told_by u core works h (AskerRow.Ignores replies) taken k = told_takes u core works (record h { asker = record h.asker { replies = replies } }) taken k
 told_by u core works h (AskerRow.Learns replies caller heard) taken k = tt
 
-told : {C : Type 0} (u : «Unit») (core : CoreOf C) (works : Bool) (h : HalfOf C) (bytes : List ℕ) → AnswersWell u core h.core → IsTold u (half_hears core works h bytes)
+told : {C : Type 0} (u : «Unit») (core : CoreOf C) (works : Bool) (h : HalfOf C) (bytes : List ℕ) → AnswersWell u core h.core → TakenAnswerRoundTrips u (half_on_packet core works h bytes)
 told u core works h bytes k = told_by u core works h (asker_row h.unit h.own h.peer h.asker bytes) (taker_row h.unit h.own h.peer h.taker bytes) k
 
 -- WHAT IS WISHED
@@ -68,12 +68,12 @@ wished_core : {C : Type 0} (P : C → Type 0) (wish : Option CommandOf) (h : Hal
 wished_core P None h sent k = k
 wished_core P (Some c) h sent k = begun_core P (may_begin h.asker.caller) h c sent k
 
-hears_core : {C : Type 0} (P : C → Type 0) (hears : Bool) (core : CoreOf C) (h : HalfOf C) (sent : List MessageOf) → ((x : C) → P x → P (core.ticked x)) → P h.core → P (hears_if hears core h sent).half.core
+hears_core : {C : Type 0} (P : C → Type 0) (hears : Bool) (core : CoreOf C) (h : HalfOf C) (sent : List MessageOf) → ((x : C) → P x → P (core.ticked x)) → P h.core → P (tick_if hears core h sent).half.core
 hears_core P true core h sent ticks k =
     wished_core P (core.wish (core.ticked h.core)) (with_caller (record h { core = core.ticked h.core }) (unwished_abandoned (core.wish (core.ticked h.core)) h.asker.caller)) sent (ticks h.core k)
 hears_core P false core h sent ticks k = k
 
-called_core : {C : Type 0} (P : C → Type 0) (core : CoreOf C) (h : HalfOf C) (row : AskerTick) → ((x : C) → P x → P (core.ticked x)) → ((x : C) → P x → P (core.silent x)) → P h.core → P (called core h row).half.core
+called_core : {C : Type 0} (P : C → Type 0) (core : CoreOf C) (h : HalfOf C) (row : AskerTick) → ((x : C) → P x → P (core.ticked x)) → ((x : C) → P x → P (core.silent x)) → P h.core → P (half_tick_by_row core h row).half.core
 called_core P core h (AskerTick.Waits a) ticks silent k = hears_core P (a.deaf == 0) core (record h { asker = a }) [] ticks k
 called_core P core h (AskerTick.Resends a m) ticks silent k = hears_core P (a.deaf == 0) core (record h { asker = a }) (m ∷ []) ticks k
 called_core P core h (AskerTick.GivesUp a) ticks silent k = hears_core P (a.deaf == 0) core (record h { asker = a; core = core.silent h.core }) [] ticks (silent h.core k)
@@ -123,29 +123,29 @@ come None P k = tt
 come (Some p) P k = k p
 
 -- what each half answers to these bytes, and what it wishes after a tick
-pub agent_answers : (packages : List PackageText) (h : HalfOf TimedOf) (bytes : List ℕ) → IsTold h.core.session.unit (half_hears (session_core packages) true h bytes)
+pub agent_answers : (packages : List PackageText) (h : HalfOf TimedOf) (bytes : List ℕ) → TakenAnswerRoundTrips h.core.session.unit (half_on_packet (session_core packages) true h bytes)
 agent_answers packages h bytes =
     told h.core.session.unit (session_core packages) true h bytes (λ c quiet works. session_heard (package_at packages h.core.session.number) h.core.session c)
 
-pub device_answers : WritesAnswers → (h : HalfOf TimedDevice) (works : Bool) (bytes : List ℕ) → HasDeviceWidths h.core.device → IsTold U64 (half_hears device_core works h bytes)
+pub device_answers : WritesAnswers → (h : HalfOf TimedDevice) (works : Bool) (bytes : List ℕ) → HasDeviceWidths h.core.device → TakenAnswerRoundTrips U64 (half_on_packet device_core works h bytes)
 device_answers law h works bytes d = told U64 device_core works h bytes (λ c quiet works. device_heard law h.core.device c quiet works d)
 
 pub agent_asks : (packages : List PackageText) (h : HalfOf TimedOf) → HavePackageWidths packages → SessionIsInPlan packages h.core.session
-    → IfSome ((session_core packages).wish (half_ticks (session_core packages) true h).half.core) IsSpoken
+    → IfSome ((session_core packages).wish (half_ticks (session_core packages) true h).half.core) CommandRoundTrips
 agent_asks packages h ps k =
     let after = tick_core (TimedFits packages) (session_core packages) h (session_ticks packages) (λ s h. silent_in (package_at packages s.session.number) s.session.stage) k in
     let s = (half_ticks (session_core packages) true h).half.core.session in
     session_spoken (package_at packages s.number) s (package_fits packages s.number ps) after
 
-pub device_asks : (h : HalfOf TimedDevice) → HasDeviceWidths h.core.device → IfSome (device_core.wish (half_ticks device_core true h).half.core) IsSpoken
+pub device_asks : (h : HalfOf TimedDevice) → HasDeviceWidths h.core.device → IfSome (device_core.wish (half_ticks device_core true h).half.core) CommandRoundTrips
 device_asks h d =
     let after = tick_core CoreFits device_core h device_ticks (λ x h. h) d in
     device_spoken (half_ticks device_core true h).half.core.device after
 
-pub link_says : WritesAnswers → (packages : List PackageText) (l : LinkOf) (s : LinkStep) → HavePackageWidths packages → HasDeviceWidths l.device.core.device → SessionIsInPlan packages l.agent.core.session → CanBeSaid packages l s
+pub link_says : WritesAnswers → (packages : List PackageText) (l : LinkOf) (s : LinkStep) → HavePackageWidths packages → HasDeviceWidths l.device.core.device → SessionIsInPlan packages l.agent.core.session → LinkStepRoundTrips packages l s
 link_says law packages l (LinkStep.Deliver number sides.Agent works) ps d k =
-    come (numbered l.packets number) (λ p. IsToldOn packages l sides.Agent works p.bytes) (λ p. agent_answers packages l.agent p.bytes)
+    come (item_numbered l.packets number) (λ p. AnswerRoundTripsOn packages l sides.Agent works p.bytes) (λ p. agent_answers packages l.agent p.bytes)
 link_says law packages l (LinkStep.Deliver number sides.Device works) ps d k =
-    come (numbered l.packets number) (λ p. IsToldOn packages l sides.Device works p.bytes) (λ p. device_answers law l.device works p.bytes d)
+    come (item_numbered l.packets number) (λ p. AnswerRoundTripsOn packages l sides.Device works p.bytes) (λ p. device_answers law l.device works p.bytes d)
 link_says law packages l (LinkStep.Tick agent device) ps d k = (λ e soon. agent_asks packages l.agent ps k, λ e soon. device_asks l.device d)
 link_says law packages l s ps d k = tt

@@ -7,33 +7,33 @@ use Rattle.fw_package.specs.Choice.{component_at, has_large_image, has_long_text
 use Rattle.fw_package.specs.Package.{ComponentOf, PackageText, TextOf}
 use Rattle.fw_package.specs.declared.fault.PlanFault.{PlanFault}
 use Rattle.fw_package.specs.declared.fault.PlanFault.TheVariants as faults
-use Rattle.fwup_wire.specs.Commands.{IsSpoken}
+use Rattle.fwup_wire.specs.Commands.{CommandRoundTrips}
 use Rattle.mctp_wire.specs.declared.unit.Unit.{«Unit»}
 use Rattle.mctp_wire.specs.declared.unit.Unit.TheVariants.{U64, U128}
-use Rattle.ua_core.specs.Laws.{IsPlanned, StandsInPlan, number_of}
+use Rattle.ua_core.specs.Laws.{IsPlanned, IsStageInPlan, number_of}
 use Rattle.ua_core.specs.Lent.{sent_text, uses_stamp}
 use Rattle.ua_core.specs.Session.{JobOf, SessionOf, Stage}
 use Rattle.ua_core.specs.Wish.{agent_wish, entry_wish, offer_wish, request_wish, stage_wish}
 use Rattle.ua_core.specs.declared.planned.Planned.{Planned}
-use Rattle.fw_steps.specs.Widths.{HasComponentWidths, HasPackageWidths}
+use Rattle.fw_steps.specs.Widths.{HasPlannedWidths, HasPackageWidths}
 use Rattle.ua_core.proofs.Answering.{answers_read}
 use Rattle.ua_core.proofs.Fitting.{answers_fit}
 use Rattle.ua_core.specs.Serve.{agent_answer}
 use Rattle.fwup_wire.specs.Values.{CommandOf}
-use Rattle.fw_node.specs.Nodes.{IsHeardAgain}
+use Rattle.fw_node.specs.Nodes.{AnswerRoundTrips}
 
 short_text : (t : TextOf) → length (sent_text t).bytes ≤ 200
 short_text t = rw (length-take 200 t.bytes) (omega arith)
 
-none_speaks : HasComponentWidths no_component
+none_speaks : HasPlannedWidths no_component
 none_speaks = record { classification = omega arith; identifier = omega arith; stamp = omega arith }
 
-at_number : (cs : List ComponentOf) (n : ℕ) → AllByRecursion HasComponentWidths cs → HasComponentWidths (slice_index_or cs n no_component)
+at_number : (cs : List ComponentOf) (n : ℕ) → AllByRecursion HasPlannedWidths cs → HasPlannedWidths (slice_index_or cs n no_component)
 at_number [] n h = none_speaks
 at_number (c ∷ cs) zero h = h.0
 at_number (c ∷ cs) (suc n) h = at_number cs n h.1
 
-pub package_component_fits : (p : PackageText) (n : ℕ) → HasPackageWidths p → HasComponentWidths (component_at p n)
+pub package_component_fits : (p : PackageText) (n : ℕ) → HasPackageWidths p → HasPlannedWidths (component_at p n)
 package_component_fits p n h = at_number p.components n h
 
 -- a stamp as it is sent
@@ -66,11 +66,11 @@ plan_few p j is =
     subst (λ n. n ≤ 8) (length-map j.plan number_of) few
 
 -- the commands
-request_spoken : (unit : «Unit») (p : PackageText) (j : JobOf) → length j.plan ≤ 8 → IsSpoken (request_wish unit p j)
+request_spoken : (unit : «Unit») (p : PackageText) (j : JobOf) → length j.plan ≤ 8 → CommandRoundTrips (request_wish unit p j)
 request_spoken U64 p j few = record { writable = omega (arith, short_text (record_at p j.chosen).set_text); widths = (omega arith, omega (arith, few), omega arith) }
 request_spoken U128 p j few = record { writable = omega (arith, short_text (record_at p j.chosen).set_text); widths = (omega arith, omega (arith, few), omega arith) }
 
-entry_spoken : (p : PackageText) (j : JobOf) (i : Planned) (left : ℕ) → HasPackageWidths p → IsSpoken (entry_wish p j i left)
+entry_spoken : (p : PackageText) (j : JobOf) (i : Planned) (left : ℕ) → HasPackageWidths p → CommandRoundTrips (entry_wish p j i left)
 entry_spoken p j i left h =
     let c = package_component_fits p i.component h in
     record {
@@ -78,7 +78,7 @@ entry_spoken p j i left h =
       widths = (c.classification, c.identifier, stamp_either (uses_stamp (component_at p i.component)) (component_at p i.component).stamp c.stamp);
     }
 
-offer_spoken : (p : PackageText) (i : Planned) → HasPackageWidths p → IsSpoken (offer_wish p i)
+offer_spoken : (p : PackageText) (i : Planned) → HasPackageWidths p → CommandRoundTrips (offer_wish p i)
 offer_spoken p i h =
     let c = package_component_fits p i.component h in
     record {
@@ -89,7 +89,7 @@ offer_spoken p i h =
       );
     }
 
-stage_spoken : (unit : «Unit») (p : PackageText) (g : Stage) → HasPackageWidths p → StandsInPlan p g → IfSome (stage_wish unit p g) IsSpoken
+stage_spoken : (unit : «Unit») (p : PackageText) (g : Stage) → HasPackageWidths p → IsStageInPlan p g → IfSome (stage_wish unit p g) CommandRoundTrips
 stage_spoken unit p Stage.Query h k = record { writable = omega arith; widths = tt }
 stage_spoken unit p (Stage.Params j) h k = record { writable = omega arith; widths = tt }
 stage_spoken unit p (Stage.ClearOld j) h k = record { writable = omega arith; widths = tt }
@@ -100,9 +100,9 @@ stage_spoken unit p (Stage.Activate j) h k = record { writable = omega arith; wi
 stage_spoken unit p Stage.Cancelling h k = record { writable = omega arith; widths = tt }
 stage_spoken unit p g h k = tt
 
-pub session_spoken : (p : PackageText) (s : SessionOf) → HasPackageWidths p → StandsInPlan p s.stage → IfSome (agent_wish p s) IsSpoken
+pub session_spoken : (p : PackageText) (s : SessionOf) → HasPackageWidths p → IsStageInPlan p s.stage → IfSome (agent_wish p s) CommandRoundTrips
 session_spoken p s h k = stage_spoken s.unit p s.stage h k
 
 -- and its answers are heard again, whatever it stands for
-pub session_heard : (p : PackageText) (s : SessionOf) (c : CommandOf) → IsHeardAgain s.unit c (agent_answer p s c)
+pub session_heard : (p : PackageText) (s : SessionOf) (c : CommandOf) → AnswerRoundTrips s.unit c (agent_answer p s c)
 session_heard p s c = record { reads = answers_read p s c; fits = answers_fit p s c }

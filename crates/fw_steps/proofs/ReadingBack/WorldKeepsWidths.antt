@@ -5,7 +5,7 @@ use Rattle.std.specs.Option.{option_map}
 use Rattle.fw_package.specs.Package.{PackageText}
 use Rattle.ua_core.specs.Laws.{LearnsInPlan, ServesInPlan}
 use Rattle.fw_message.specs.Pairs.{PairOf, StepOf, Stepped, pair_after}
-use Rattle.fw_message.specs.Worlds.{NodeOf, WorldOf, WorldStepOf, after_or, agent_restarted, node_at, step_at, went_on, with_pair, world_after, world_along}
+use Rattle.fw_message.specs.Worlds.{NodeOf, MessageWorldOf, WorldStepOf, after_or, agent_restarted, node_at, step_at, went_on, with_pair, message_world_after, world_along}
 use Rattle.fw_message.specs.declared.side.Side.TheVariants as sides
 use Rattle.fw_steps.specs.Widths.{HaveMessageWidths, HavePackageWidths, HasPairWidths, HasSteppedWidths}
 use Rattle.fw_steps.proofs.ReadingBack.PairKeepsWidths.{pair_speaks}
@@ -40,20 +40,20 @@ restarted_speak serves learns packages (n ∷ ns) ps h = (
   restarted_speak serves learns packages ns ps h.1,
 )
 
-went_speaks : (w : WorldOf) (device : ℕ) (o : Option Stepped) → HaveMessageWidths w → IfSome o (HasSteppedWidths w.packages) → IfSome (option_map (went_on w device) o) HaveMessageWidths
+went_speaks : (w : MessageWorldOf) (device : ℕ) (o : Option Stepped) → HaveMessageWidths w → IfSome o (HasSteppedWidths w.packages) → IfSome (option_map (went_on w device) o) HaveMessageWidths
 went_speaks w device None h k = tt
 went_speaks w device (Some t) h k = record { packages = h.packages; pairs = put_speaks w.packages w.nodes device t.after h.pairs k }
 
-at_speaks : ServesInPlan → LearnsInPlan → (w : WorldOf) (device : ℕ) (s : StepOf) (o : Option NodeOf) → HaveMessageWidths w → IfSome o (λ n. HasPairWidths w.packages n.pair) → IfSome (step_at w device s o) HaveMessageWidths
+at_speaks : ServesInPlan → LearnsInPlan → (w : MessageWorldOf) (device : ℕ) (s : StepOf) (o : Option NodeOf) → HaveMessageWidths w → IfSome o (λ n. HasPairWidths w.packages n.pair) → IfSome (step_at w device s o) HaveMessageWidths
 at_speaks serves learns w device s None h k = tt
 at_speaks serves learns w device s (Some n) h k = went_speaks w device (pair_after w.packages n.pair s) h (pair_speaks serves learns w.packages n.pair s h.packages k)
 
-step_speaks : ServesInPlan → LearnsInPlan → (w : WorldOf) (s : WorldStepOf) → HaveMessageWidths w → IfSome (world_after w s) HaveMessageWidths
-unfolding world_after
+step_speaks : ServesInPlan → LearnsInPlan → (w : MessageWorldOf) (s : WorldStepOf) → HaveMessageWidths w → IfSome (message_world_after w s) HaveMessageWidths
+unfolding message_world_after
 step_speaks serves learns w (WorldStepOf.OfPair device s) h = at_speaks serves learns w device s (node_at w.nodes device) h (node_fits w.packages w.nodes device h.pairs)
 step_speaks serves learns w WorldStepOf.RestartAgent h = record { packages = h.packages; pairs = restarted_speak serves learns w.packages w.nodes h.packages h.pairs }
 
-pub along_speaks : ServesInPlan → LearnsInPlan → (steps : List WorldStepOf) (o : Option WorldOf) → IfSome o HaveMessageWidths → IfSome (world_along o steps) HaveMessageWidths
+pub along_speaks : ServesInPlan → LearnsInPlan → (steps : List WorldStepOf) (o : Option MessageWorldOf) → IfSome o HaveMessageWidths → IfSome (world_along o steps) HaveMessageWidths
 along_speaks serves learns steps None h = tt
 along_speaks serves learns [] (Some w) h = h
-along_speaks serves learns (s ∷ steps) (Some w) h = along_speaks serves learns steps (world_after w s) (step_speaks serves learns w s h)
+along_speaks serves learns (s ∷ steps) (Some w) h = along_speaks serves learns steps (message_world_after w s) (step_speaks serves learns w s h)

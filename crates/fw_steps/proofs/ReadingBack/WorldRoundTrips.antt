@@ -4,7 +4,7 @@ use Rattle.std.specs.List.{AllByRecursion}
 use Rattle.fw_package.specs.Package.{PackageText}
 use Rattle.ua_core.proofs.InPlan.{learns_in_plan, serves_in_plan}
 use Rattle.fw_message.specs.Worlds.{NodeOf}
-use Rattle.fw_steps.specs.LinksAreLanes.{CanBeSaid}
+use Rattle.fw_steps.specs.LinksAreLanes.{LinkStepRoundTrips}
 use Rattle.fw_steps.specs.Links.{LinkOf, LinkStep}
 use Rattle.fw_steps.specs.MessagesRoundTrip.{RoundTrips}
 use Rattle.fw_steps.specs.Widths.{HasDeviceWidths, HaveMessageWidths, HavePackageWidths, HasPairWidths, SessionIsInPlan}
@@ -46,15 +46,15 @@ link_speaks opening w eid l k is =
     let there = pair_there k.messages.packages w.now (links_of w) k.messages.nodes at.place l k.stands.stand (link_by_place w at.place eid k.halves k.apart.1 at.at ∙ is) in
     subst (λ ps. LinkSpeaks ps l) k.packages (speaks_as k.messages.packages w.now k.messages.nodes at.place l all.packages all.pairs there)
 
-pub world_says : (opening w : WorldOf) (eid : ℕ) (l : LinkOf) (s : LinkStep) → Stand opening w → link_at w eid ≡ Some l → CanBeSaid w.packages l s
+pub world_says : (opening w : WorldOf) (eid : ℕ) (l : LinkOf) (s : LinkStep) → Stand opening w → link_at w eid ≡ Some l → LinkStepRoundTrips w.packages l s
 world_says opening w eid l s k is = let speaks = link_speaks opening w eid l k is in link_says writes_answers w.packages l s speaks.lent speaks.device speaks.session
 
-said_if : (packages : List PackageText) (l : LinkOf) (o : Option LinkStep) → ((s : LinkStep) → CanBeSaid packages l s) → IfSome o (CanBeSaid packages l)
+said_if : (packages : List PackageText) (l : LinkOf) (o : Option LinkStep) → ((s : LinkStep) → LinkStepRoundTrips packages l s) → IfSome o (LinkStepRoundTrips packages l)
 said_if packages l None k = tt
 said_if packages l (Some s) k = k s
 
 -- whatever a step of the world is for it
-pub links_say : (opening w : WorldOf) (eid : ℕ) (l : LinkOf) (o : Option LinkStep) → Stand opening w → link_at w eid ≡ Some l → IfSome o (CanBeSaid w.packages l)
+pub links_say : (opening w : WorldOf) (eid : ℕ) (l : LinkOf) (o : Option LinkStep) → Stand opening w → link_at w eid ≡ Some l → IfSome o (LinkStepRoundTrips w.packages l)
 links_say opening w eid l o k is = said_if w.packages l o (λ s. world_says opening w eid l s k is)
 
 -- So what both halves say on a link reads back, whatever packet comes.

@@ -3,7 +3,7 @@
 use crate::tests::setup::{KEY, SECOND, Small};
 use crate::tests::steps::DEVICE;
 use fd_core::{Bank, Key, MemBank, Progress, State};
-use fw_message::{Entry, Event, Held, Way};
+use fw_message::{CellContent, Entry, HistoryEvent, Way};
 use fwup_wire::Answer;
 use ua_core::{Recorded, SessionState};
 
@@ -28,7 +28,7 @@ pub fn cell_of(world: &Small<'_>, way: Way) -> Cell {
     Some((held.command().code(), answer_code(held), held.is_live()))
 }
 
-fn answer_code(held: &Held<'_>) -> Option<u8> {
+fn answer_code(held: &CellContent<'_>) -> Option<u8> {
     match held.answer() {
         Some(Answer::Refused { code }) => Some(code),
         Some(_) => Some(0),
@@ -99,9 +99,10 @@ pub fn happened_last(world: &Small<'_>, letters: &[u8]) -> bool {
 
 fn letter_of(entry: &Entry<'_>) -> u8 {
     match &entry.event {
-        Event::Applied(image) if is_worked(entry, image.key, image.bytes.as_slice()) => b'A',
-        Event::Activated(image) if is_worked(entry, image.key, image.bytes.as_slice()) => b'V',
-        Event::Recorded(recorded) if entry.device == DEVICE && *recorded == FIRST => b'R',
+        HistoryEvent::Applied(image) if is_worked(entry, image.key, image.bytes.as_slice()) => b'A',
+        HistoryEvent::Activated(image) if is_worked(entry, image.key, image.bytes.as_slice()) =>
+            b'V',
+        HistoryEvent::Recorded(recorded) if entry.device == DEVICE && *recorded == FIRST => b'R',
         _ => b'?',
     }
 }

@@ -5,10 +5,10 @@ ghost use Rattle.fd_core.specs.Components.{HasComponents};
 ghost use Rattle.fd_core.specs.Images.{key_of};
 
 use arrayvec::ArrayVec;
-use fd_core::{BankFault, Component, Device, Key, Label, MemBank};
+use fd_core::{BankComponent, BankFault, Device, Key, Label, MemBank};
 use fw_message::{MessageStepFault, MessageWorld};
 use fw_package::Package;
-use fwup_wire::{Descriptor, DescriptorList, Text, Version};
+use fwup_wire::{DescriptorList, DeviceDescriptor, TypedText, Version};
 use mctp_wire::Unit;
 use std::alloc::Global;
 
@@ -36,7 +36,7 @@ pub type Small<'a> = MessageWorld<'a, MemBank>;
 /// The worked device's descriptors: type 0, data 34 12.
 fn descriptors() -> DescriptorList {
     let mut descriptors = DescriptorList::new();
-    descriptors.push(&Descriptor {
+    descriptors.push(&DeviceDescriptor {
         kind: 0,
         bytes: &[0x34, 0x12],
     });
@@ -47,7 +47,7 @@ fn descriptors() -> DescriptorList {
 fn label() -> Label {
     Label::new(&Version {
         stamp: 1,
-        text: Text {
+        text: TypedText {
             text_type: 1,
             bytes: b"1.0",
         },
@@ -69,7 +69,7 @@ fn device_of_one(unit: Unit, bank: MemBank) -> Device<MemBank>
     ensures { HasComponents result.device }
 {
     let mut components = ArrayVec::new();
-    components.push(Component { key: KEY, index: 0 });
+    components.push(BankComponent { key: KEY, index: 0 });
     Device::new(unit, descriptors(), components, bank)
 }
 

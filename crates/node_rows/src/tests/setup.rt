@@ -1,9 +1,9 @@
 //! The worked device and its agent, and how rows run on their nodes.
 
 use arrayvec::ArrayVec;
-use fd_core::{Component, Device, Key, Label, MemBank};
+use fd_core::{BankComponent, Device, Key, Label, MemBank};
 use fw_node::{DeviceNode, Outbox};
-use fwup_wire::{Descriptor, DescriptorList, Text, Version};
+use fwup_wire::{DescriptorList, DeviceDescriptor, TypedText, Version};
 use mctp_ctl::Endpoint;
 use mctp_wire::Unit;
 use std::alloc::Global;
@@ -33,7 +33,7 @@ pub enum Event<'a> {
 /// The worked device's descriptors: type 0, data 34 12.
 fn descriptors() -> DescriptorList {
     let mut descriptors = DescriptorList::new();
-    descriptors.push(&Descriptor {
+    descriptors.push(&DeviceDescriptor {
         kind: 0,
         bytes: &[0x34, 0x12],
     });
@@ -44,7 +44,7 @@ fn descriptors() -> DescriptorList {
 pub fn device_node(alloc: Global, unit: Unit) -> Option<DeviceNode<MemBank>> {
     let label = Label::new(&Version {
         stamp: 1,
-        text: Text {
+        text: TypedText {
             text_type: 1,
             bytes: b"1.0",
         },
@@ -54,7 +54,7 @@ pub fn device_node(alloc: Global, unit: Unit) -> Option<DeviceNode<MemBank>> {
         return None;
     };
     let mut components = ArrayVec::new();
-    components.push(Component { key: KEY, index: 0 });
+    components.push(BankComponent { key: KEY, index: 0 });
     let device = Device::new(unit, descriptors(), components, bank);
     Some(DeviceNode::new(endpoint(DEVICE), AGENT, device))
 }

@@ -9,8 +9,8 @@ use fw_setup::SystemStores;
 use fw_world::{Step, World};
 use fwupd_base::Form;
 use fwupd_jobs::{
-    Beginning, FileFault, FileIdentity, Files, Order, Output, RunFault, Show, TraceForm, Watch,
-    WatchFault, Wires, plan_file, update_checked,
+    Beginning, FileFault, FileIdentity, Files, Observer, ObserverFault, Order, Output, RunFault,
+    Show, TraceForm, Wires, plan_file, update_checked,
 };
 use mctp_wire::Unit;
 use std::alloc::{AllocError, Global};
@@ -161,7 +161,7 @@ pub struct Counter {
     has_history: bool,
     pub turns: usize,
     broken: usize,
-    fault: Option<WatchFault>,
+    fault: Option<ObserverFault>,
     has_ended: bool,
     lost: Option<u8>,
 }
@@ -184,7 +184,7 @@ impl Counter {
     }
 
     /// How a call ends.
-    fn outcome(&self) -> Result<(), WatchFault>
+    fn outcome(&self) -> Result<(), ObserverFault>
         ensures ok { OnOk result (self.now.fault ≡ None) }
         ensures err { IfErr result (λ e. self.now.fault ≡ Some e) }
         ensures first { IfSome self.now.fault (λ f. result ≡ Err f) }
@@ -196,22 +196,22 @@ impl Counter {
     }
 }
 
-impl Watch for Counter {
+impl Observer for Counter {
     ghost watched = { λ c. record { fault = c.fault; shows = record { is_quiet = c.is_quiet; traced = c.traced; is_logged = c.is_logged; is_recorded = c.is_recorded; has_history = c.has_history }; has_ended = c.has_ended; seen = c.turns; lost = c.lost; recording = None; history = None } };
 
     ghost refuses = { λ c path. true };
 
-    fn begin(&mut self, show: Show<'_>) -> Result<(), WatchFault> {
+    fn begin(&mut self, show: Show<'_>) -> Result<(), ObserverFault> {
         if let Some(path) = show.trace {
             if path == "/" {
-                self.fault = Some(WatchFault::Unwritten);
-                return Err(WatchFault::Unwritten);
+                self.fault = Some(ObserverFault::Unwritten);
+                return Err(ObserverFault::Unwritten);
             }
         }
         if let Some(path) = show.log {
             if path == "/" {
-                self.fault = Some(WatchFault::Unlogged);
-                return Err(WatchFault::Unlogged);
+                self.fault = Some(ObserverFault::Unlogged);
+                return Err(ObserverFault::Unlogged);
             }
         }
         self.traced = match show.trace {
@@ -227,14 +227,14 @@ impl Watch for Counter {
         Ok(())
     }
 
-    fn note(&mut self, _steps: &[Step]) -> Result<(), WatchFault> {
+    fn note(&mut self, _steps: &[Step]) -> Result<(), ObserverFault> {
         self.outcome()
     }
 
-    fn see<B: Bank + Drop>(&mut self, _world: &World<'_, B>) -> Result<(), WatchFault> {
+    fn see<B: Bank + Drop>(&mut self, _world: &World<'_, B>) -> Result<(), ObserverFault> {
         self.turns = self.turns.saturating_add(1);
         if self.traced.is_some() && self.turns == self.broken && self.fault.is_none() {
-            self.fault = Some(WatchFault::Unwritten);
+            self.fault = Some(ObserverFault::Unwritten);
         }
         self.outcome()
     }
@@ -243,7 +243,7 @@ impl Watch for Counter {
         self.lost = Some(device);
     }
 
-    fn end<B: Bank + Drop>(&mut self, _world: &World<'_, B>) -> Result<(), WatchFault> {
+    fn end<B: Bank + Drop>(&mut self, _world: &World<'_, B>) -> Result<(), ObserverFault> {
         self.has_ended = true;
         self.outcome()
     }

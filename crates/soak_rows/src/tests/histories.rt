@@ -5,7 +5,7 @@ ghost use Rattle.fw_script.specs.Seen.{device_of};
 ghost use Rattle.fw_script.specs.Whole.{AreWhole};
 
 use fd_core::Key;
-use fw_message::{Entry, Event, Image};
+use fw_message::{Entry, HistoryEvent, Image};
 use fw_package::Package;
 use fw_script::{Config, read_config};
 use fw_soak::is_right_history;
@@ -103,13 +103,15 @@ fn entries(alloc: Global, things: &[(u8, Happens)]) -> Result<Vec<Entry<'static>
     let mut entries = Vec::new(alloc);
     for (device, thing) in things {
         let event = match *thing {
-            Happens::Applies(identifier, bytes) => Event::Applied(image(alloc, identifier, bytes)?),
-            Happens::Records(package, component) => Event::Recorded(Recorded {
+            Happens::Applies(identifier, bytes) => HistoryEvent::Applied(image(
+                alloc, identifier, bytes,
+            )?),
+            Happens::Records(package, component) => HistoryEvent::Recorded(Recorded {
                 package,
                 component,
             }),
             Happens::Activates(identifier, bytes) => {
-                Event::Activated(image(alloc, identifier, bytes)?)
+                HistoryEvent::Activated(image(alloc, identifier, bytes)?)
             }
         };
         entries.push(Entry {

@@ -3,7 +3,7 @@
 use crate::tests::histories::{package_file, worked};
 use fw_edge::Roughness;
 use fw_package::Package;
-use fw_soak::{Onlooker, Setup, Soaked, Summary, soak, summary_text};
+use fw_soak::{Setup, SoakObserver, Soaked, Summary, soak, summary_text};
 use std::alloc::Global;
 use std::test::Fail;
 
@@ -14,7 +14,7 @@ struct Counting {
     last: u64,
 }
 
-impl Onlooker for Counting {
+impl SoakObserver for Counting {
     fn see(&mut self, summary: &Summary) {
         self.seen = self.seen.saturating_add(1);
         self.last = summary.runs;

@@ -2,8 +2,8 @@
 
 ghost use Rattle.std.specs.Prelude.{◌≡◌, ◌≤◌, IfSome, option_map};
 ghost use Rattle.fw_package.specs.Choice.{component_at};
-ghost use Rattle.fwup_wire.specs.Commands.{IsSpoken};
-ghost use Rattle.fwup_wire.specs.Lent.{command_of, entry_of, offer_of};
+ghost use Rattle.fwup_wire.specs.Commands.{CommandRoundTrips};
+ghost use Rattle.fwup_wire.specs.Lent.{command_of, table_entry_of, offer_of};
 ghost use Rattle.fwup_wire.specs.Values.{CommandOf};
 ghost use Rattle.ua_core.specs.Lent.{key_of, sent_version};
 ghost use Rattle.ua_core.specs.Wish.{agent_wish, flag_at, offer_wish};
@@ -19,7 +19,7 @@ impl Session {
     /// device or for its user.
     pub fn wish<'a>(&self, lent: &Lent<'a>) -> Option<Command<'a>>
         ensures wish { option_map command_of result ≡ agent_wish lent.now self.now.session }
-        ensures spoken { IfSome (agent_wish lent.now self.now.session) IsSpoken }
+        ensures spoken { IfSome (agent_wish lent.now self.now.session) CommandRoundTrips }
     {
         match self.position.state {
             SessionState::Query => Some(Command::QueryDeviceIdentifiers),
@@ -63,8 +63,8 @@ fn flag_at(left: usize, count: usize) -> TransferFlag
 
 /// What the device is told of a component.
 fn entry<'a>(lent: &Lent<'a>, planned: Planned, flag: TransferFlag) -> TableEntry<'a>
-    ensures spoken { IsSpoken (CommandOf.PassComponentTable (entry_of result)) }
-    ensures value { entry_of result ≡ record { flag = flag; key = key_of (component_at lent.now planned.component); index = planned.index; version = sent_version (component_at lent.now planned.component) } }
+    ensures spoken { CommandRoundTrips (CommandOf.PassComponentTable (table_entry_of result)) }
+    ensures value { table_entry_of result ≡ record { flag = flag; key = key_of (component_at lent.now planned.component); index = planned.index; version = sent_version (component_at lent.now planned.component) } }
 {
     let component = lent.component(planned.component);
     TableEntry {
@@ -77,7 +77,7 @@ fn entry<'a>(lent: &Lent<'a>, planned: Planned, flag: TransferFlag) -> TableEntr
 
 /// What the device is offered of a component.
 fn offer<'a>(lent: &Lent<'a>, planned: Planned) -> ComponentOffer<'a>
-    ensures spoken { IsSpoken (CommandOf.UpdateComponent (offer_of result)) }
+    ensures spoken { CommandRoundTrips (CommandOf.UpdateComponent (offer_of result)) }
     ensures value { CommandOf.UpdateComponent (offer_of result) ≡ offer_wish lent.now planned }
 {
     let component = lent.component(planned.component);

@@ -4,7 +4,7 @@ use crate::tests::headers::TWO_COUNTED;
 use crate::tests::packages::package;
 use crate::tests::setup::{DEVICE, Small, step, world};
 use fd_core::{State, Verdict};
-use fw_world::{Missed, Refusal, SentPacket, Step, StepFault};
+use fw_world::{DatedPacket, Missed, Refusal, Step, StepFault};
 use fwup_wire::Command;
 use mctp_wire::Unit;
 use std::alloc::{AllocError, Global};
@@ -43,7 +43,7 @@ fn count_up(out: &mut Vec<u8>, size: u32) -> Result<(), AllocError> {
 }
 
 /// A packet of the device's pair, by its number.
-fn packet_at<'a>(world: &'a Small<'_>, number: usize) -> Option<SentPacket<'a>> {
+fn packet_at<'a>(world: &'a Small<'_>, number: usize) -> Option<DatedPacket<'a>> {
     world.packets(DEVICE)?.get(number.checked_sub(1)?)
 }
 

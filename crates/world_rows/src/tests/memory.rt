@@ -6,7 +6,7 @@ use crate::tests::setup::{DEVICE, KEY, Small, step, world};
 use crate::tests::steps::perfect;
 use fd_core::{Bank, State};
 use fw_package::Package;
-use fw_world::{Event, Image, Step, StepFault};
+use fw_world::{HistoryEvent, Image, Step, StepFault};
 use mctp_wire::Unit;
 use std::alloc::{AllocError, Global};
 use std::borrow::CowSlice;
@@ -53,7 +53,7 @@ fn told(world: &Small<'_>) -> bool {
     let [applied, recorded, activated] = world.history() else {
         return false;
     };
-    let (Event::Applied(a), Event::Recorded(r), Event::Activated(b)) = (
+    let (HistoryEvent::Applied(a), HistoryEvent::Recorded(r), HistoryEvent::Activated(b)) = (
         &applied.event,
         &recorded.event,
         &activated.event,

@@ -3,7 +3,7 @@
 use crate::tests::packages::is_image;
 use crate::tests::setup::{DEVICE, KEY, Small};
 use fd_core::{Bank, State};
-use fw_world::{Entry, Event, Image};
+use fw_world::{Entry, HistoryEvent, Image};
 use ua_core::SessionState;
 
 /// Whether the same packets were sent between the agent and a device in two worlds, each at the same tick.
@@ -97,9 +97,11 @@ fn images_alike(one: &Image<'_>, other: &Image<'_>) -> bool {
 fn entries_alike(one: &Entry<'_>, other: &Entry<'_>) -> bool {
     one.device == other.device
         && match (&one.event, &other.event) {
-            (Event::Applied(one), Event::Applied(other)) => images_alike(one, other),
-            (Event::Activated(one), Event::Activated(other)) => images_alike(one, other),
-            (Event::Recorded(one), Event::Recorded(other)) => {
+            (HistoryEvent::Applied(one), HistoryEvent::Applied(other)) => images_alike(one, other),
+            (HistoryEvent::Activated(one), HistoryEvent::Activated(other)) => images_alike(
+                one, other,
+            ),
+            (HistoryEvent::Recorded(one), HistoryEvent::Recorded(other)) => {
                 (one.package, one.component) == (other.package, other.component)
             }
             _ => false,

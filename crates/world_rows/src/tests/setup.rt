@@ -9,11 +9,11 @@ ghost use Rattle.fw_message.specs.Laws.{IsUnapplied};
 ghost use Rattle.fw_steps.specs.Headline.{AreNewNodes, IsNewNode};
 
 use arrayvec::ArrayVec;
-use fd_core::{Component, Device, Key, Label, MemBank};
+use fd_core::{BankComponent, Device, Key, Label, MemBank};
 use fw_node::DeviceNode;
 use fw_package::Package;
 use fw_world::{Step, StepFault, World};
-use fwup_wire::{Descriptor, DescriptorList, Text, Version};
+use fwup_wire::{DescriptorList, DeviceDescriptor, TypedText, Version};
 use mctp_ctl::Endpoint;
 use mctp_wire::Unit;
 use std::alloc::{AllocError, Global};
@@ -55,7 +55,7 @@ fn endpoint(eid: u8) -> Endpoint
 /// The worked device's descriptors: type 0, data 34 12.
 fn descriptors() -> DescriptorList {
     let mut descriptors = DescriptorList::new();
-    descriptors.push(&Descriptor {
+    descriptors.push(&DeviceDescriptor {
         kind: 0,
         bytes: &[0x34, 0x12],
     });
@@ -66,7 +66,7 @@ fn descriptors() -> DescriptorList {
 fn label() -> Label {
     Label::new(&Version {
         stamp: 1,
-        text: Text {
+        text: TypedText {
             text_type: 1,
             bytes: b"1.0",
         },
@@ -85,14 +85,14 @@ fn device(alloc: Global, unit: Unit, count: usize) -> Result<Device<MemBank>, Al
     let Ok(()) = bank.add(KEY, &label(), &[0xAA]) else {
         return Err(AllocError);
     };
-    components.push(Component { key: KEY, index: 0 });
+    components.push(BankComponent { key: KEY, index: 0 });
     if count == 1 {
         return Ok(Device::new(unit, descriptors(), components, bank));
     }
     let Ok(()) = bank.add(SECOND, &label(), &[0xAA]) else {
         return Err(AllocError);
     };
-    components.push(Component {
+    components.push(BankComponent {
         key: SECOND,
         index: 1,
     });
@@ -102,7 +102,7 @@ fn device(alloc: Global, unit: Unit, count: usize) -> Result<Device<MemBank>, Al
     let Ok(()) = bank.add(THIRD, &label(), &[0xAA]) else {
         return Err(AllocError);
     };
-    components.push(Component {
+    components.push(BankComponent {
         key: THIRD,
         index: 2,
     });

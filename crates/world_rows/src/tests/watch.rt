@@ -1,6 +1,6 @@
 //! Whether a history is safe, told from its entries alone.
 
-use fw_world::{Entry, Event, Image};
+use fw_world::{Entry, HistoryEvent, Image};
 
 /// How many packages, and how many components each.
 const PACKAGES: usize = 2;
@@ -126,19 +126,19 @@ fn times(table: &Table, package: usize, component: usize) -> u32 {
 
 impl Seen {
     /// Whether an activation begins with this.
-    fn begins(&self, event: &Event<'_>) -> bool {
+    fn begins(&self, event: &HistoryEvent<'_>) -> bool {
         match event {
-            Event::Activated(_) => self.package.is_none(),
+            HistoryEvent::Activated(_) => self.package.is_none(),
             _ => false,
         }
     }
 
     /// Takes note of what happened: whether it is safe.
-    fn takes(&mut self, event: &Event<'_>) -> bool {
+    fn takes(&mut self, event: &HistoryEvent<'_>) -> bool {
         match event {
-            Event::Applied(image) => self.applies(image),
-            Event::Recorded(recorded) => self.records(recorded.package, recorded.component),
-            Event::Activated(image) => self.activates(image),
+            HistoryEvent::Applied(image) => self.applies(image),
+            HistoryEvent::Recorded(recorded) => self.records(recorded.package, recorded.component),
+            HistoryEvent::Activated(image) => self.activates(image),
         }
     }
 

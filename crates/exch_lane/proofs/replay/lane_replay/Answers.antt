@@ -1,5 +1,5 @@
 use Rattle.std.proofs.Common.{arith, take}
-use Rattle.exch_lane.specs.Lanes.{steps_of}
+use Rattle.exch_lane.specs.Lanes.{lane_steps_of}
 use Rattle.exch_lane.proofs.Keeping.{keeps, ran_all}
 use Rattle.exch_lane.proofs.Running.{ran_next}
 use Rattle.exch_lane.proofs.replay.lane_replay.Goals as goal
@@ -12,8 +12,8 @@ loop-number-preserved c =
 
 pub returns-in-Err-clause-cell_so_far : goal.returns-in-Err-clause-cell_so_far
 returns-in-Err-clause-cell_so_far c =
-    rw c.in-Err.ensures.err (keeps c.lane_is_a_cell.ensures.law c.args.lane.now c.loop-number.lane (steps_of (take c.loop-number.number c.args.steps.now)) c.loop-number.invariant)
+    rw c.in-Err.ensures.err (keeps c.lane_is_a_cell.ensures.law c.args.lane.now c.loop-number.lane (lane_steps_of (take c.loop-number.number c.args.steps.now)) c.loop-number.invariant)
 
 pub returns-clause-cell : goal.returns-clause-cell
 returns-clause-cell c =
-    keeps c.lane_is_a_cell.ensures.law c.args.lane.now c.loop-number.lane (steps_of c.args.steps.now) (ran_all c.args.lane.now c.loop-number.lane c.args.steps.now c.loop-number.number (omega arith) c.loop-number.invariant)
+    keeps c.lane_is_a_cell.ensures.law c.args.lane.now c.loop-number.lane (lane_steps_of c.args.steps.now) (ran_all c.args.lane.now c.loop-number.lane c.args.steps.now c.loop-number.number (omega arith) c.loop-number.invariant)

@@ -1,7 +1,7 @@
 use Rattle.std.proofs.Common.{◌≡◌, ◌+◌, ◌++◌, length}
 use Rattle.json.specs.Tree.{items_tokens}
 use Rattle.fw_json.specs.Inspections.{component_value}
-use Rattle.fw_json.specs.Values.{counted_items}
+use Rattle.fw_json.specs.Values.{numbered_items}
 use Rattle.fw_json.proofs.inspection.push_components.Given as goal
 
 -- what is written, and what is left to write
@@ -9,5 +9,5 @@ abbrev pub invariant-loop-number : goal.invariant-loop-number
 invariant-loop-number l = record {
   counted : l.number + length l.components ≡ length l.fn.components;
   before : l.writer.before ≡ l.fn.writer.before;
-  told : l.writer.tokens ++ items_tokens (counted_items component_value (l.number + 1) l.components) ≡ l.fn.writer.tokens ++ items_tokens (counted_items component_value 1 l.fn.components);
+  told : l.writer.tokens ++ items_tokens (numbered_items component_value (l.number + 1) l.components) ≡ l.fn.writer.tokens ++ items_tokens (numbered_items component_value 1 l.fn.components);
 }

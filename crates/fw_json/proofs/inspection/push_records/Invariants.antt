@@ -1,7 +1,7 @@
 use Rattle.std.proofs.Common.{◌≡◌, ◌+◌, ◌++◌, length}
 use Rattle.json.specs.Tree.{items_tokens}
 use Rattle.fw_json.specs.Inspections.{record_value}
-use Rattle.fw_json.specs.Values.{counted_items}
+use Rattle.fw_json.specs.Values.{numbered_items}
 use Rattle.fw_json.proofs.inspection.push_records.Given as goal
 
 -- what is written, and what is left to write
@@ -9,5 +9,5 @@ abbrev pub invariant-loop-number : goal.invariant-loop-number
 invariant-loop-number l = record {
   counted : l.number + length l.records ≡ length l.fn.records;
   before : l.writer.before ≡ l.fn.writer.before;
-  told : l.writer.tokens ++ items_tokens (counted_items record_value (l.number + 1) l.records) ≡ l.fn.writer.tokens ++ items_tokens (counted_items record_value 1 l.fn.records);
+  told : l.writer.tokens ++ items_tokens (numbered_items record_value (l.number + 1) l.records) ≡ l.fn.writer.tokens ++ items_tokens (numbered_items record_value 1 l.fn.records);
 }

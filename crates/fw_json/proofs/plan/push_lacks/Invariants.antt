@@ -2,7 +2,7 @@ use Rattle.std.proofs.Common.{◌≡◌, ◌+◌, ◌++◌, length, map}
 use Rattle.json.specs.Tree.{items_tokens}
 use Rattle.fw_package.specs.Package.{descriptor_of}
 use Rattle.fw_json.specs.Plans.{lack_value}
-use Rattle.fw_json.specs.Values.{counted_items}
+use Rattle.fw_json.specs.Values.{numbered_items}
 use Rattle.fw_json.proofs.plan.push_lacks.Given as goal
 
 -- what is written, and what is left to write
@@ -11,6 +11,6 @@ invariant-loop-number l = record {
   counted : l.number + length l.records ≡ length l.fn.records;
   before : l.writer.before ≡ l.fn.writer.before;
   told :
-      l.writer.tokens ++ items_tokens (counted_items (lack_value (map descriptor_of l.device)) (l.number + 1) l.records)
-      ≡ l.fn.writer.tokens ++ items_tokens (counted_items (lack_value (map descriptor_of l.device)) 1 l.fn.records);
+      l.writer.tokens ++ items_tokens (numbered_items (lack_value (map descriptor_of l.device)) (l.number + 1) l.records)
+      ≡ l.fn.writer.tokens ++ items_tokens (numbered_items (lack_value (map descriptor_of l.device)) 1 l.fn.records);
 }

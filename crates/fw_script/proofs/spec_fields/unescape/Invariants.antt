@@ -1,11 +1,11 @@
 use Rattle.std.proofs.Common.{◌≡◌, length}
-use Rattle.fw_script.specs.SpecFields.{unescaped}
+use Rattle.fw_script.specs.SpecFields.{unescaped_word}
 use Rattle.fw_script.proofs.Specs.{behind}
 use Rattle.fw_script.proofs.spec_fields.unescape.Given as goal
 
 -- the bytes so far, and those of what is left, are those of all
 abbrev pub invariant-loop-rest : goal.invariant-loop-rest
-invariant-loop-rest l = behind l.bytes.items (unescaped l.rest) ≡ unescaped l.word
+invariant-loop-rest l = behind l.bytes.items (unescaped_word l.rest) ≡ unescaped_word l.word
 
 abbrev pub decreases-loop-rest : goal.decreases-loop-rest
 decreases-loop-rest l = length l.rest

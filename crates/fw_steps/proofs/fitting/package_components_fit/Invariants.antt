@@ -1,9 +1,9 @@
 use Rattle.std.specs.List.{AllByRecursion}
-use Rattle.fw_steps.specs.Widths.{HasComponentWidths}
+use Rattle.fw_steps.specs.Widths.{HasPlannedWidths}
 use Rattle.fw_steps.proofs.fitting.package_components_fit.Given as goal
 
 -- where those that are left do, all do
 abbrev pub invariant-loop-component : goal.invariant-loop-component
 invariant-loop-component l = record {
-  all : AllByRecursion HasComponentWidths l.component-iterator → AllByRecursion HasComponentWidths l.fn.components;
+  all : AllByRecursion HasPlannedWidths l.component-iterator → AllByRecursion HasPlannedWidths l.fn.components;
 }

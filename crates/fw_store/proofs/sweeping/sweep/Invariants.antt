@@ -1,5 +1,5 @@
 use Rattle.std.proofs.Common.{◌≡◌, true}
-use Rattle.fw_store.specs.Folders.{Passes}
+use Rattle.fw_store.specs.Folders.{PassesStates}
 use Rattle.fw_store.specs.Opening.{IsUntouched}
 use Rattle.fw_store.proofs.sweeping.sweep.Given as goal
 
@@ -9,5 +9,5 @@ invariant-loop-name g l = record {
   known : g.F.Folder.is_known l.folder ≡ g.F.Folder.is_known l.fn.folder;
   untouched : g.F.Folder.is_known l.fn.folder ≡ true → IsUntouched l.entries (g.F.Folder.files l.fn.folder) (g.F.Folder.files l.folder);
   passes : g.F.Folder.is_known l.fn.folder ≡ true
-      → Passes (IsUntouched l.entries (g.F.Folder.files l.fn.folder)) (g.F.Folder.moments l.fn.folder) (g.F.Folder.moments l.folder);
+      → PassesStates (IsUntouched l.entries (g.F.Folder.files l.fn.folder)) (g.F.Folder.moments l.fn.folder) (g.F.Folder.moments l.folder);
 }

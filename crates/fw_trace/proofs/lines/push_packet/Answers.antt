@@ -5,4 +5,4 @@ use Rattle.fw_trace.proofs.lines.push_packet.Goals as goal
 pub returns : goal.returns
 unfolding packet_text
 returns c =
-    adds_more c.in_ok-push_head.ensures c.in_ok-push_heard.ensures
+    adds_more c.in_ok-push_head.ensures c.in_ok-push_outcome.ensures

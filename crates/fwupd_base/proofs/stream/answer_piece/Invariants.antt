@@ -1,5 +1,5 @@
 use Rattle.std.proofs.Common.{◌≡◌, ◌≤◌, ◌-◌, ◌+◌, ◌*◌, ◌++◌, List, ℕ, Option, length, take, vec_capacity}
-use Rattle.fwupd_base.specs.Stream.{Stands}
+use Rattle.fwupd_base.specs.Stream.{HasAnsweredLines}
 use Rattle.fwupd_base.proofs.stream.answer_piece.Given as goal
 
 -- each whole line so far is answered, what follows is held, and there is room for what is left
@@ -9,8 +9,8 @@ invariant-loop-count g l = record {
   holds : length l.held.items + length l.piece ≤ vec_capacity l.held + l.from;
   decodes : length l.held.items + length l.piece ≤ 2 * vec_capacity l.bytes + l.from;
   endpoint : l.responder.endpoint ≡ l.fn.responder.endpoint;
-  stands : (text : List ℕ) (before : Option (List ℕ)) → Stands l.fn.responder.endpoint l.fn.responder.tid text before (g.W.Write.contents l.fn.writer) l.fn.held.items
-      → Stands l.fn.responder.endpoint l.responder.tid (text ++ take l.from l.piece) before (g.W.Write.contents l.writer) l.held.items;
+  stands : (text : List ℕ) (before : Option (List ℕ)) → HasAnsweredLines l.fn.responder.endpoint l.fn.responder.tid text before (g.W.Write.contents l.fn.writer) l.fn.held.items
+      → HasAnsweredLines l.fn.responder.endpoint l.responder.tid (text ++ take l.from l.piece) before (g.W.Write.contents l.writer) l.held.items;
 }
 
 abbrev pub decreases-loop-count : goal.decreases-loop-count

@@ -78,7 +78,7 @@ returns-in-Ok-watched-clause-ok g c =
 
 pub returns-clause-fault : goal.returns-clause-fault
 returns-clause-fault g c =
-    unseen_ends (g.F.Files.holds c.args.files.now) (source_of (stores_in (g.T.Stores.is_known c.args.stores.now) (g.T.Stores.files c.args.stores.now)) (option_map (λ p. p.now) c.args.store) c.args.config.now) c.args.steps.now (show_of c.args.show) (g.V.Watch.refuses c.args.watch.now) c.in-Err-watched.fault c.watch_fault.result (g.V.Watch.watched c.replayed.new.watch) c.args.output.now c.write.new.self
+    unseen_ends (g.F.Files.holds c.args.files.now) (source_of (stores_in (g.T.Stores.is_known c.args.stores.now) (g.T.Stores.files c.args.stores.now)) (option_map (λ p. p.now) c.args.store) c.args.config.now) c.args.steps.now (show_of c.args.show) (g.V.Watch.refuses c.args.watch.now) c.in-Err-watched.fault c.observer_fault.result (g.V.Watch.watched c.replayed.new.watch) c.args.output.now c.write.new.self
     (replay_reports (g.F.Files.holds c.args.files.now) (source_of (stores_in (g.T.Stores.is_known c.args.stores.now) (g.T.Stores.files c.args.stores.now)) (option_map (λ p. p.now) c.args.store) c.args.config.now) c.args.steps.now c.args.show.form c.in-Ok-replayed.outcome.fault c.in-Ok-replayed.outcome.report.items c.args.output.now c.write.new.self
     (report_there (g.F.Files.holds c.args.files.now) (source_of (stores_in (g.T.Stores.is_known c.args.stores.now) (g.T.Stores.files c.args.stores.now)) (option_map (λ p. p.now) c.args.store) c.args.config.now) c.args.steps.now c.args.show.form (new_world c.in-Ok.config.agent (nodes_made c.in-Ok.config.unit c.in-Ok.config.agent.eid (map device_of c.read_kept.new.devices.items)) c.as_slice-4.result.now) (all_steps c.in-Ok-schedule.script.items) (all_steps c.as_slice-5.result.now) c.in-Ok-replayed.outcome.fault
     c.in-Ok-replayed.outcome.report.items
@@ -87,7 +87,7 @@ returns-clause-fault g c =
     c.in-Ok-package_files.ensures.packed c.as_slice-2.ensures.value c.in-Ok-packages_in.ensures.is) c.in-Ok-read_kept.ensures.devices c.as_slice-4.ensures.value refl)
     c.in-Ok-schedule.ensures.says (ap all_steps c.as_slice-5.ensures.value) c.in-Ok-replayed.ensures.replayed)
     c.in-None.is (rw c.deref.ensures.value at c.in-Ok-write.ensures.ok))
-    c.watch_fault.ensures.told (rw c.in-Err-watched.is at c.in-Ok-replayed.ensures.unseen) c.in-Ok-replayed.ensures.ended
+    c.observer_fault.ensures.told (rw c.in-Err-watched.is at c.in-Ok-replayed.ensures.unseen) c.in-Ok-replayed.ensures.ended
 
 pub replayed-requires-clause-countable : goal.replayed-requires-clause-countable
 replayed-requires-clause-countable g c = subst (λ lines. length (all_steps lines) ≤ 2 ^ 64 - 1) (sym c.as_slice-5.ensures.value) c.in-Ok-schedule.ensures.countable

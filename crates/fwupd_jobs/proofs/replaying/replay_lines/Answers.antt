@@ -1,30 +1,30 @@
 use Rattle.std.proofs.Common.{◌≡◌, ◌∙◌, ◌∷◌, add-one, arith, drop, subst}
-use Rattle.fw_script.specs.ScheduleLines.{all_steps, step_said}
-use Rattle.fw_steps.specs.Headline.{Leads, Run}
-use Rattle.fw_steps.specs.Replays.{Refuses}
+use Rattle.fw_script.specs.ScheduleLines.{all_steps, step_of_next}
+use Rattle.fw_steps.specs.Headline.{StepsTo, Run}
+use Rattle.fw_steps.specs.Replays.{RefusesStep}
 use Rattle.fwupd_jobs.proofs.Seen.{next_step, none_left, rises_to, stepped_on, stopped_at}
 use Rattle.fwupd_jobs.proofs.replaying.replay_lines.Goals as goal
 
 pub returns-in-Err-clause-stopped : goal.returns-in-Err-clause-stopped
 returns-in-Err-clause-stopped g c =
     rw c.in-Err.ensures.kept
-    (stopped_at c.args.world.now c.loop-next.world (all_steps c.args.lines.now) c.loop-next.taken (step_said c.in-Some.next) c.next.new.self c.in-Err.fault c.loop-next.invariant.run
+    (stopped_at c.args.world.now c.loop-next.world (all_steps c.args.lines.now) c.loop-next.taken (step_of_next c.in-Some.next) c.next.new.self c.in-Err.fault c.loop-next.invariant.run
     (c.loop-next.invariant.left ∙ c.in-Some.ensures.some)
-    (subst (λ s. Refuses c.loop-next.world s c.in-Err.fault) c.lent.ensures c.in-Err.ensures.refused))
+    (subst (λ s. RefusesStep c.loop-next.world s c.in-Err.fault) c.lent.ensures c.in-Err.ensures.refused))
 
 pub loop-next-preserved : goal.loop-next-preserved
 loop-next-preserved g c =
-    let first : drop c.loop-next.taken (all_steps c.args.lines.now) ≡ step_said c.in-Some.next ∷ c.next.new.self = c.loop-next.invariant.left ∙ c.in-Some.ensures.some in
-    let next = next_step (all_steps c.args.lines.now) c.loop-next.taken (step_said c.in-Some.next) c.next.new.self first in
+    let first : drop c.loop-next.taken (all_steps c.args.lines.now) ≡ step_of_next c.in-Some.next ∷ c.next.new.self = c.loop-next.invariant.left ∙ c.in-Some.ensures.some in
+    let next = next_step (all_steps c.args.lines.now) c.loop-next.taken (step_of_next c.in-Some.next) c.next.new.self first in
     record {
       run =
-          stepped_on c.args.world.now c.loop-next.world c.take_seen.new.world (all_steps c.args.lines.now) c.loop-next.taken (step_said c.in-Some.next) c.next.new.self c.loop-next.invariant.run first
-          (subst (λ s. Leads c.loop-next.world s c.take_seen.new.world) c.lent.ensures c.in-Ok.ensures.taken);
+          stepped_on c.args.world.now c.loop-next.world c.take_observed.new.world (all_steps c.args.lines.now) c.loop-next.taken (step_of_next c.in-Some.next) c.next.new.self c.loop-next.invariant.run first
+          (subst (λ s. StepsTo c.loop-next.world s c.take_observed.new.world) c.lent.ensures c.in-Ok.ensures.taken);
       left = rw add-one next.left;
       few = omega (arith, next.within);
       same = c.in-Ok.ensures.same ∙ c.loop-next.invariant.same;
       seen = λ traced none.
-          rises_to (g.V.Watch.watched c.loop-next.watch).seen (g.V.Watch.watched c.take_seen.new.watch).seen c.loop-next.taken (c.loop-next.invariant.seen traced none)
+          rises_to (g.V.Watch.watched c.loop-next.watch).seen (g.V.Watch.watched c.take_observed.new.watch).seen c.loop-next.taken (c.loop-next.invariant.seen traced none)
           (omega (arith, next.within, c.requires.countable)) (c.in-Ok.ensures.seen traced);
     }
 

@@ -3,7 +3,7 @@ use Rattle.fw_script.specs.ScheduleLines.{all_steps}
 use Rattle.fw_script.specs.Seen.{device_of}
 use Rattle.fw_steps.specs.Headline.{new_world}
 use Rattle.fw_setup.specs.Nodes.{nodes_made}
-use Rattle.fwupd_jobs.specs.Replayed.{Leaves, taken_of}
+use Rattle.fwupd_jobs.specs.Replayed.{LeavesWorld, taken_of}
 use Rattle.fwupd_jobs.proofs.Told.{replayed_by}
 use Rattle.fwupd_jobs.proofs.replaying.replayed.Goals.{in-Err, in-Ok}
 use Rattle.fwupd_jobs.proofs.replaying.replayed.Goals as goal
@@ -13,8 +13,8 @@ returns-clause-replayed g c =
     replayed_by (new_world c.args.agent (nodes_made c.args.unit c.args.agent.eid (map device_of c.args.devices.items)) c.args.packages.now) c.in_ok-world.world c.replay_lines.new.world (all_steps c.args.lines.now)
     c.match-replay_lines.fault c.args.show.form c.in_ok-report.report.items c.in_ok-world.ensures.made c.in_ok-world.ensures.opens c.packets_are_safe.ensures.law
     (elim c.match-replay_lines.branch [
-      | in-Ok h ↦ subst (λ f. Leaves c.in_ok-world.world (all_steps c.args.lines.now) f c.replay_lines.new.world) (sym h.fault-is) h.in-Ok.ensures.ok
-      | in-Err h ↦ subst (λ f. Leaves c.in_ok-world.world (all_steps c.args.lines.now) f c.replay_lines.new.world) (sym h.fault-is) h.in-Err.ensures.stopped
+      | in-Ok h ↦ subst (λ f. LeavesWorld c.in_ok-world.world (all_steps c.args.lines.now) f c.replay_lines.new.world) (sym h.fault-is) h.in-Ok.ensures.ok
+      | in-Err h ↦ subst (λ f. LeavesWorld c.in_ok-world.world (all_steps c.args.lines.now) f c.replay_lines.new.world) (sym h.fault-is) h.in-Err.ensures.stopped
     ])
     c.in_ok-report.ensures
 

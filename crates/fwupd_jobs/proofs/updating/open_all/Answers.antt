@@ -1,6 +1,6 @@
 use Rattle.std.proofs.Common.{◌≡◌, ◌⊎◌, ◌∙◌, arith, rules, subst, sym, true}
 use Rattle.fwupd_watch.specs.declared.faults.RunFault.TheVariants as faults
-use Rattle.fwupd_jobs.specs.Updated.{IsRough}
+use Rattle.fwupd_jobs.specs.Updated.{IsRoughLink}
 use Rattle.fwupd_jobs.proofs.Linked.{linked_all, linked_next, unlinked_at}
 use Rattle.fwupd_jobs.proofs.updating.open_all.Goals as goal
 
@@ -17,7 +17,7 @@ loop-place-preserved g c = record {
       c.eid.result c.unit.result c.in-Some.node.now (sym (rw c.in-Some.is at c.device_at.ensures)) c.unit.ensures c.eid.ensures.eid
       (subst (λ link. g.S.Wires.is_to c.unit.result c.args.folder.now c.eid.result link ≡ true) (sym c.in-Ok-with_room.ensures.link) c.in-Ok.ensures.to) c.in-Ok-push.ensures.items c.loop-place.invariant.each;
   rough =
-      linked_next (λ unit device link. IsRough c.args.roughness device link.roughness link.generator) c.args.world.now.sites c.loop-place.links.items c.push.new.self.items c.in-Ok-with_room.rough c.loop-place.place
+      linked_next (λ unit device link. IsRoughLink c.args.roughness device link.roughness link.generator) c.args.world.now.sites c.loop-place.links.items c.push.new.self.items c.in-Ok-with_room.rough c.loop-place.place
       c.eid.result c.unit.result c.in-Some.node.now (sym (rw c.in-Some.is at c.device_at.ensures)) c.unit.ensures c.eid.ensures.eid
       (c.in-Ok-with_room.ensures.roughness, search rules) c.in-Ok-push.ensures.items c.loop-place.invariant.rough;
   same = c.open.ensures.same ∙ c.loop-place.invariant.same;
@@ -29,4 +29,4 @@ returns-clause-each g c =
 
 pub returns-clause-rough : goal.returns-clause-rough
 returns-clause-rough g c =
-    linked_all (λ unit device link. IsRough c.args.roughness device link.roughness link.generator) c.args.world.now.sites c.loop-place.links.items c.loop-place.place (omega arith) c.loop-place.invariant.rough
+    linked_all (λ unit device link. IsRoughLink c.args.roughness device link.roughness link.generator) c.args.world.now.sites c.loop-place.links.items c.loop-place.place (omega arith) c.loop-place.invariant.rough

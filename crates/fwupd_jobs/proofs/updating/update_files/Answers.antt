@@ -2,7 +2,7 @@ use Rattle.std.proofs.Common.{ap, arith, inr, map, refl, rules, subst, sym, ◌�
 use Rattle.std.specs.Prelude.{option_map, string_bytes}
 use Rattle.fw_script.specs.Seen.{device_of}
 use Rattle.fw_script.specs.Whole.{AreWhole}
-use Rattle.fw_setup.specs.Stocks.{AreStocked, stores_in}
+use Rattle.fw_setup.specs.Stocks.{HaveStoredImages, stores_in}
 use Rattle.fwupd_jobs.proofs.Packed.{named_with, none_stocked, named_there, numbered_fails, or_later, packed_slice, some_stocked, some_unopened, stores_fail}
 use Rattle.fwupd_jobs.proofs.Told.{stores_end}
 use Rattle.fwupd_watch.specs.Running.{show_of}
@@ -49,7 +49,7 @@ returns-in-Ok-update_new-2-clause-ok g c =
     let nw = named_with (g.F.Files.holds c.args.files.now) (source_of (stores_in (g.T.Stores.is_known c.args.stores.now) (g.T.Stores.files c.args.stores.now)) (option_map (λ p. p.now) c.args.store) c.args.config.now) c.args.order.number c.in-Ok.config c.in-Ok-packages_in.packages.items c.as_slice-4.result.now (map device_of c.as_slice-3.result.now) c.in-Ok-opening_world_over.world c.in-Ok.ensures.says
     (named_there (g.F.Files.holds c.args.files.now) c.in-Ok.config c.as_slice.result.now c.in-Ok-package_files.contents.items c.as_slice-2.result.now c.in-Ok-packages_in.packages.items c.as_slice.ensures.value
     c.in-Ok-package_files.ensures.packed c.as_slice-2.ensures.value c.in-Ok-packages_in.ensures.is)
-    (some_stocked (stores_in (g.T.Stores.is_known c.args.stores.now) (g.T.Stores.files c.args.stores.now)) (option_map (λ p. p.now) c.args.store) c.in-Some.root.now (map device_of c.in-Ok.config.devices.items) (map device_of c.as_slice-3.result.now) (ap (option_map (λ p. p.now)) c.in-Some.is) (subst (λ xs. AreStocked ((stores_in (g.T.Stores.is_known c.args.stores.now) (g.T.Stores.files c.args.stores.now)) c.in-Some.root.now) (map device_of c.in-Ok.config.devices.items) (map device_of xs)) (sym c.as_slice-3.ensures.value) c.in-Ok-open_kept.ensures.stocked)) c.as_slice-4.ensures.value c.in-Ok-opening_world_over.ensures.made (c.if-not-is_numbered.ensures.there refl).0 (omega (arith, (c.if-not-is_numbered.ensures.there refl).1, c.len.ensures)) in
+    (some_stocked (stores_in (g.T.Stores.is_known c.args.stores.now) (g.T.Stores.files c.args.stores.now)) (option_map (λ p. p.now) c.args.store) c.in-Some.root.now (map device_of c.in-Ok.config.devices.items) (map device_of c.as_slice-3.result.now) (ap (option_map (λ p. p.now)) c.in-Some.is) (subst (λ xs. HaveStoredImages ((stores_in (g.T.Stores.is_known c.args.stores.now) (g.T.Stores.files c.args.stores.now)) c.in-Some.root.now) (map device_of c.in-Ok.config.devices.items) (map device_of xs)) (sym c.as_slice-3.ensures.value) c.in-Ok-open_kept.ensures.stocked)) c.as_slice-4.ensures.value c.in-Ok-opening_world_over.ensures.made (c.if-not-is_numbered.ensures.there refl).0 (omega (arith, (c.if-not-is_numbered.ensures.there refl).1, c.len.ensures)) in
     c.in-Ok-update_new-2.ensures.ok (source_of (stores_in (g.T.Stores.is_known c.args.stores.now) (g.T.Stores.files c.args.stores.now)) (option_map (λ p. p.now) c.args.store) c.args.config.now) nw.named refl (nw.is ∙ ap (λ (xs : List (String Global)). map (λ p. string_bytes p) xs) (sym c.deref-2.ensures.value))
 
 pub returns-clause-fault : goal.returns-clause-fault
@@ -57,7 +57,7 @@ returns-clause-fault g c =
     let nw = named_with (g.F.Files.holds c.args.files.now) (source_of (stores_in (g.T.Stores.is_known c.args.stores.now) (g.T.Stores.files c.args.stores.now)) (option_map (λ p. p.now) c.args.store) c.args.config.now) c.args.order.number c.in-Ok.config c.in-Ok-packages_in.packages.items c.as_slice-4.result.now (map device_of c.as_slice-3.result.now) c.in-Ok-opening_world_over.world c.in-Ok.ensures.says
     (named_there (g.F.Files.holds c.args.files.now) c.in-Ok.config c.as_slice.result.now c.in-Ok-package_files.contents.items c.as_slice-2.result.now c.in-Ok-packages_in.packages.items c.as_slice.ensures.value
     c.in-Ok-package_files.ensures.packed c.as_slice-2.ensures.value c.in-Ok-packages_in.ensures.is)
-    (some_stocked (stores_in (g.T.Stores.is_known c.args.stores.now) (g.T.Stores.files c.args.stores.now)) (option_map (λ p. p.now) c.args.store) c.in-Some.root.now (map device_of c.in-Ok.config.devices.items) (map device_of c.as_slice-3.result.now) (ap (option_map (λ p. p.now)) c.in-Some.is) (subst (λ xs. AreStocked ((stores_in (g.T.Stores.is_known c.args.stores.now) (g.T.Stores.files c.args.stores.now)) c.in-Some.root.now) (map device_of c.in-Ok.config.devices.items) (map device_of xs)) (sym c.as_slice-3.ensures.value) c.in-Ok-open_kept.ensures.stocked)) c.as_slice-4.ensures.value c.in-Ok-opening_world_over.ensures.made (c.if-not-is_numbered.ensures.there refl).0 (omega (arith, (c.if-not-is_numbered.ensures.there refl).1, c.len.ensures)) in
+    (some_stocked (stores_in (g.T.Stores.is_known c.args.stores.now) (g.T.Stores.files c.args.stores.now)) (option_map (λ p. p.now) c.args.store) c.in-Some.root.now (map device_of c.in-Ok.config.devices.items) (map device_of c.as_slice-3.result.now) (ap (option_map (λ p. p.now)) c.in-Some.is) (subst (λ xs. HaveStoredImages ((stores_in (g.T.Stores.is_known c.args.stores.now) (g.T.Stores.files c.args.stores.now)) c.in-Some.root.now) (map device_of c.in-Ok.config.devices.items) (map device_of xs)) (sym c.as_slice-3.ensures.value) c.in-Ok-open_kept.ensures.stocked)) c.as_slice-4.ensures.value c.in-Ok-opening_world_over.ensures.made (c.if-not-is_numbered.ensures.there refl).0 (omega (arith, (c.if-not-is_numbered.ensures.there refl).1, c.len.ensures)) in
     c.in-Err-update_new-2.ensures.fault (source_of (stores_in (g.T.Stores.is_known c.args.stores.now) (g.T.Stores.files c.args.stores.now)) (option_map (λ p. p.now) c.args.store) c.args.config.now) nw.named refl (nw.is ∙ ap (λ (xs : List (String Global)). map (λ p. string_bytes p) xs) (sym c.deref-2.ensures.value))
 
 pub returns-in-Err-package_files-clause-fault : goal.returns-in-Err-package_files-clause-fault

@@ -1,15 +1,15 @@
 use Rattle.std.proofs.Common.{inl, inr, subst, sym}
-use Rattle.fwupd_watch.specs.Running.{StepsSeen}
+use Rattle.fwupd_watch.specs.Running.{RunsStepsSeen}
 use Rattle.fwupd_watch.proofs.Started.{begun_none, begun_seen, caused_unwritten}
 use Rattle.fwupd_jobs.proofs.updating.update_over.Goals as goal
 
 pub returns-in-Err-clause-sees : goal.returns-in-Err-clause-sees
 returns-in-Err-clause-sees g c none =
-    subst (StepsSeen c.args.order.number c.args.world.now c.args.world.now) (sym none) (begun_seen c.args.order.number c.args.world.now c.args.world.now 0 (begun_none c.args.order.number c.args.world.now))
+    subst (RunsStepsSeen c.args.order.number c.args.world.now c.args.world.now) (sym none) (begun_seen c.args.order.number c.args.world.now c.args.world.now 0 (begun_none c.args.order.number c.args.world.now))
 
-pub returns-in-Err-update_told-clause-unwritten : goal.returns-in-Err-update_told-clause-unwritten
-returns-in-Err-update_told-clause-unwritten g c =
-    caused_unwritten c.args.order.number c.args.world.now c.update_told.new.world c.in-Err-update_told.fault (g.V.Watch.watched c.update_told.new.watch) c.in-Err-update_told.ensures.fault
+pub returns-in-Err-update_reporting-clause-unwritten : goal.returns-in-Err-update_reporting-clause-unwritten
+returns-in-Err-update_reporting-clause-unwritten g c =
+    caused_unwritten c.args.order.number c.args.world.now c.update_reporting.new.world c.in-Err-update_reporting.fault (g.V.Watch.watched c.update_reporting.new.watch) c.in-Err-update_reporting.ensures.fault
 
 pub returns-in-Err-write_report-clause-fault : goal.returns-in-Err-write_report-clause-fault
 returns-in-Err-write_report-clause-fault g c = elim c.in-Err-write_report.ensures.fault [
@@ -18,10 +18,10 @@ returns-in-Err-write_report-clause-fault g c = elim c.in-Err-write_report.ensure
 ]
 
 pub returns-in-Err-write_report-clause-same : goal.returns-in-Err-write_report-clause-same
-returns-in-Err-write_report-clause-same g c = c.update_told.ensures.same
+returns-in-Err-write_report-clause-same g c = c.update_reporting.ensures.same
 
 pub returns-in-Err-write_report-clause-reached : goal.returns-in-Err-write_report-clause-reached
-returns-in-Err-write_report-clause-reached g c = c.update_told.ensures.reached
+returns-in-Err-write_report-clause-reached g c = c.update_reporting.ensures.reached
 
 pub returns-in-Err-write_report-clause-sees : goal.returns-in-Err-write_report-clause-sees
-returns-in-Err-write_report-clause-sees g c = c.update_told.ensures.sees
+returns-in-Err-write_report-clause-sees g c = c.update_reporting.ensures.sees

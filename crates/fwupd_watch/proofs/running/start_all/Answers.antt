@@ -1,9 +1,9 @@
 use Rattle.std.proofs.Common.{◌≡◌, arith, inr, rules, subst, sym}
 use Rattle.fw_steps.specs.Headline.{Run}
-use Rattle.fw_steps.specs.Replays.{Refuses}
+use Rattle.fw_steps.specs.Replays.{RefusesStep}
 use Rattle.fw_steps.specs.declared.step.Step.TheVariants as steps
 use Rattle.fw_steps.specs.declared.step.StepFault.TheVariants as stops
-use Rattle.fwupd_watch.specs.Running.{MayStart, StepsSeen}
+use Rattle.fwupd_watch.specs.Running.{MayStart, RunsStepsSeen}
 use Rattle.fwupd_watch.proofs.Started.{allowed_at, begun_by, begun_listed, begun_none, begun_seen, listed_by}
 use Rattle.fwupd_watch.proofs.running.start_all.Goals as goal
 
@@ -23,12 +23,12 @@ returns-in_default-clause-unseen_steps g c = begun_seen c.args.number c.args.wor
 
 pub returns-in-Err-Memory-clause-unseen_steps : goal.returns-in-Err-Memory-clause-unseen_steps
 returns-in-Err-Memory-clause-unseen_steps g c =
-    subst (λ x. StepsSeen c.args.number c.args.world.now x 0) (sym c.in-Err-Memory.ensures.same)
+    subst (λ x. RunsStepsSeen c.args.number c.args.world.now x 0) (sym c.in-Err-Memory.ensures.same)
     (begun_seen c.args.number c.args.world.now c.loop-place.world c.loop-place.place c.loop-place.invariant.begun)
 
 pub returns-in-Err-clause-unseen_steps : goal.returns-in-Err-clause-unseen_steps
 returns-in-Err-clause-unseen_steps g c =
-    subst (λ x. StepsSeen c.args.number c.args.world.now x 0) (sym c.in-Err.ensures.same)
+    subst (λ x. RunsStepsSeen c.args.number c.args.world.now x 0) (sym c.in-Err.ensures.same)
     (begun_seen c.args.number c.args.world.now c.loop-place.world c.loop-place.place c.loop-place.invariant.begun)
 
 pub returns-clause-unseen_steps : goal.returns-clause-unseen_steps
@@ -39,7 +39,7 @@ returns-in-Err-Memory-clause-memory g c e =
     let is : c.in-Err-Memory.field-0 ≡ stops.Memory = search rules in
     inr (subst (MayStart c.args.number c.args.world.now) (sym c.in-Err-Memory.ensures.same)
     (allowed_at c.args.number c.args.world.now c.loop-place.world c.loop-place.place c.eid.result c.in-Some.node.now c.loop-place.invariant.begun (sym (rw c.in-Some.is at c.device_at.ensures)) c.eid.ensures.eid
-    (subst (Refuses c.loop-place.world (steps.Start c.eid.result c.args.number)) is c.in-Err-Memory.ensures.refused)))
+    (subst (RefusesStep c.loop-place.world (steps.Start c.eid.result c.args.number)) is c.in-Err-Memory.ensures.refused)))
 
 pub returns-in-Err-Memory-clause-run : goal.returns-in-Err-Memory-clause-run
 returns-in-Err-Memory-clause-run g c =

@@ -1,7 +1,7 @@
 use Rattle.std.proofs.Common.{◌∙◌, ◌+◌, arith, ap, inl, length, map, refl, subst, sym}
-use Rattle.fwupd_watch.specs.Running.{StepsSeen, Updates, starts_of}
+use Rattle.fwupd_watch.specs.Running.{RunsStepsSeen, UpdatesDevices, starts_of}
 use Rattle.fw_edge.specs.Ledgers.{AllSent, packet_counts}
-use Rattle.fw_steps.specs.Moments.{added}
+use Rattle.fw_steps.specs.Moments.{entries_between}
 use Rattle.fw_edge.proofs.Sending.{sent_none, sent_on}
 use Rattle.fwupd_watch.proofs.Happened.{kept_on, kept_on_still, kept_same, kept_still}
 use Rattle.fwupd_watch.proofs.Noted.{none_driven, run_begun, run_broken, run_noted, run_still}
@@ -53,10 +53,10 @@ returns-in-Err-see_turn-clause-reached g c =
 
 pub returns-in-Err-see_turn-clause-failed : goal.returns-in-Err-see_turn-clause-failed
 returns-in-Err-see_turn-clause-failed g c =
-    (λ e. absurd (watched_apart c.in-Err-see_turn.fault edges.Frame (sym c.watch_fault-in-Err-see_turn.ensures.told ∙ e)), λ other. c.in-Ok-drive.ensures.done.counts.kept ∙ c.loop.invariant.kept)
+    (λ e. absurd (watched_apart c.in-Err-see_turn.fault edges.Frame (sym c.observer_fault-in-Err-see_turn.ensures.told ∙ e)), λ other. c.in-Ok-drive.ensures.done.counts.kept ∙ c.loop.invariant.kept)
 
 pub returns-in-Err-see_turn-clause-step : goal.returns-in-Err-see_turn-clause-step
-returns-in-Err-see_turn-clause-step g c e = absurd (watched_apart c.in-Err-see_turn.fault edges.Step (sym c.watch_fault-in-Err-see_turn.ensures.told ∙ e))
+returns-in-Err-see_turn-clause-step g c e = absurd (watched_apart c.in-Err-see_turn.fault edges.Step (sym c.observer_fault-in-Err-see_turn.ensures.told ∙ e))
 
 pub returns-in-Err-drive-clause-failed : goal.returns-in-Err-drive-clause-failed
 returns-in-Err-drive-clause-failed g c =
@@ -68,7 +68,7 @@ returns-in-Err-drive-clause-unwritten g c = turned_apart c.in-Err-drive.fault c.
 
 pub returns-in-Err-see_turn-clause-unwritten : goal.returns-in-Err-see_turn-clause-unwritten
 returns-in-Err-see_turn-clause-unwritten g c =
-    unwritten_by c.in-Err-see_turn.fault (g.V.Watch.watched c.see_turn.new.watch).fault c.watch_fault-in-Err-see_turn.result c.watch_fault-in-Err-see_turn.ensures.told c.in-Err-see_turn.ensures.err
+    unwritten_by c.in-Err-see_turn.fault (g.V.Watch.watched c.see_turn.new.watch).fault c.observer_fault-in-Err-see_turn.result c.observer_fault-in-Err-see_turn.ensures.told c.in-Err-see_turn.ensures.err
 
 pub returns-then-driven-eq0-clause-sent : goal.returns-then-driven-eq0-clause-sent
 returns-then-driven-eq0-clause-sent g c =
@@ -78,7 +78,7 @@ returns-then-driven-eq0-clause-sent g c =
 pub loop-preserved : goal.loop-preserved
 loop-preserved g c = record {
   updates =
-      subst (λ n. Updates c.args.number c.args.world.now c.drive.new.world (c.loop.counter + n)) (omega (arith, c.in-Ok-drive.ensures.done.within, c.if-driven-eq0.false))
+      subst (λ n. UpdatesDevices c.args.number c.args.world.now c.drive.new.world (c.loop.counter + n)) (omega (arith, c.in-Ok-drive.ensures.done.within, c.if-driven-eq0.false))
       (updates_more c.args.number c.args.world.now c.loop.world c.drive.new.world c.loop.counter c.in-Ok-drive.driven.turns c.loop.steps.items c.drive.new.steps.items c.loop.invariant.updates
       c.loop.invariant.none c.drive.ensures.drives.drives c.in-Ok-drive.ensures.done.ticks);
   devices = c.drive.ensures.devices;
@@ -94,7 +94,7 @@ loop-preserved g c = record {
       (g.V.Watch.watched c.see_turn.new.watch).recording c.loop.steps.items c.drive.new.steps.items c.as_slice-in-loop.result.now c.loop.invariant.recorded c.loop.invariant.none c.drive.ensures.drives.drives
       c.as_slice-in-loop.ensures.value c.in-Ok-see_turn.ensures.noted;
   history = λ h.
-      kept_on (g.V.Watch.watched c.loop.watch).history (g.V.Watch.watched c.see_turn.new.watch).history c.loop.world.history c.drive.new.world.history (added c.loop.world c.drive.new.world) (c.loop.invariant.history h)
+      kept_on (g.V.Watch.watched c.loop.watch).history (g.V.Watch.watched c.see_turn.new.watch).history c.loop.world.history c.drive.new.world.history (entries_between c.loop.world c.drive.new.world) (c.loop.invariant.history h)
       (c.moments_are_tied.ensures.grow c.loop.world c.drive.new.world c.drive.ensures.drives.drives.steps c.drive.ensures.drives.drives.run) c.in-Ok-see_turn.ensures.history;
   shows = c.see_turn.ensures.same ∙ c.loop.invariant.shows;
 }
@@ -111,7 +111,7 @@ returns-in-Err-drive-clause-sees g c none =
 pub returns-then-driven-eq0-clause-sees : goal.returns-then-driven-eq0-clause-sees
 returns-then-driven-eq0-clause-sees g c none =
     updates_seen c.args.number c.args.world.now c.drive.new.world c.loop.counter (g.V.Watch.watched c.loop.watch).seen
-    (subst (λ n. Updates c.args.number c.args.world.now c.drive.new.world n) (omega (arith, c.if-driven-eq0.true))
+    (subst (λ n. UpdatesDevices c.args.number c.args.world.now c.drive.new.world n) (omega (arith, c.if-driven-eq0.true))
     (updates_more c.args.number c.args.world.now c.loop.world c.drive.new.world c.loop.counter c.in-Ok-drive.driven.turns c.loop.steps.items c.drive.new.steps.items c.loop.invariant.updates
     c.loop.invariant.none c.drive.ensures.drives.drives c.in-Ok-drive.ensures.done.ticks))
     (c.loop.invariant.seen none)
@@ -119,7 +119,7 @@ returns-then-driven-eq0-clause-sees g c none =
 pub returns-in-Err-see_turn-clause-sees : goal.returns-in-Err-see_turn-clause-sees
 returns-in-Err-see_turn-clause-sees g c none =
     updates_seen c.args.number c.args.world.now c.drive.new.world (c.loop.counter + 1) (g.V.Watch.watched c.see_turn.new.watch).seen
-    (subst (λ n. Updates c.args.number c.args.world.now c.drive.new.world (c.loop.counter + n)) (omega (arith, c.in-Ok-drive.ensures.done.within, c.if-driven-eq0.false))
+    (subst (λ n. UpdatesDevices c.args.number c.args.world.now c.drive.new.world (c.loop.counter + n)) (omega (arith, c.in-Ok-drive.ensures.done.within, c.if-driven-eq0.false))
     (updates_more c.args.number c.args.world.now c.loop.world c.drive.new.world c.loop.counter c.in-Ok-drive.driven.turns c.loop.steps.items c.drive.new.steps.items c.loop.invariant.updates
     c.loop.invariant.none c.drive.ensures.drives.drives c.in-Ok-drive.ensures.done.ticks))
     (seen_next (g.V.Watch.watched c.loop.watch).seen (g.V.Watch.watched c.see_turn.new.watch).seen c.loop.counter (omega arith) (c.loop.invariant.seen none) c.see_turn.ensures.seen)
@@ -129,23 +129,23 @@ returns-clause-sees g c none = updates_seen c.args.number c.args.world.now c.loo
 
 pub returns-in-Err-clause-sees : goal.returns-in-Err-clause-sees
 returns-in-Err-clause-sees g c none =
-    subst (StepsSeen c.args.number c.args.world.now c.start_all-started.new.world) (sym (c.note-noted.ensures.seen ∙ none)) c.start_all-started.ensures.unseen_steps
+    subst (RunsStepsSeen c.args.number c.args.world.now c.start_all-started.new.world) (sym (c.note-noted.ensures.seen ∙ none)) c.start_all-started.ensures.unseen_steps
 
 pub returns-in-Err-clause-unwritten : goal.returns-in-Err-clause-unwritten
 returns-in-Err-clause-unwritten g c = none_unwritten c.in-Err.fault _ c.in-Err.ensures.unseen
 
 pub returns-in-Err-noted-clause-sees : goal.returns-in-Err-noted-clause-sees
 returns-in-Err-noted-clause-sees g c none =
-    subst (StepsSeen c.args.number c.args.world.now c.start_all-started.new.world) (sym (c.note-noted.ensures.seen ∙ none)) c.start_all-started.ensures.unseen_steps
+    subst (RunsStepsSeen c.args.number c.args.world.now c.start_all-started.new.world) (sym (c.note-noted.ensures.seen ∙ none)) c.start_all-started.ensures.unseen_steps
 
 pub returns-in-Err-noted-clause-unwritten : goal.returns-in-Err-noted-clause-unwritten
-returns-in-Err-noted-clause-unwritten g c = unwritten_by c.in-Err-noted.fault _ c.watch_fault.result c.watch_fault.ensures.told c.in-Err-noted.ensures.err
+returns-in-Err-noted-clause-unwritten g c = unwritten_by c.in-Err-noted.fault _ c.observer_fault.result c.observer_fault.ensures.told c.in-Err-noted.ensures.err
 
 pub returns-in-Err-noted-clause-failed : goal.returns-in-Err-noted-clause-failed
-returns-in-Err-noted-clause-failed g c = (λ e. absurd (watched_apart c.in-Err-noted.fault edges.Frame (sym c.watch_fault.ensures.told ∙ e)), λ other. refl)
+returns-in-Err-noted-clause-failed g c = (λ e. absurd (watched_apart c.in-Err-noted.fault edges.Frame (sym c.observer_fault.ensures.told ∙ e)), λ other. refl)
 
 pub returns-in-Err-noted-clause-step : goal.returns-in-Err-noted-clause-step
-returns-in-Err-noted-clause-step g c e = absurd (watched_apart c.in-Err-noted.fault edges.Step (sym c.watch_fault.ensures.told ∙ e))
+returns-in-Err-noted-clause-step g c e = absurd (watched_apart c.in-Err-noted.fault edges.Step (sym c.observer_fault.ensures.told ∙ e))
 
 pub returns-then-driven-eq0-clause-history : goal.returns-then-driven-eq0-clause-history
 returns-then-driven-eq0-clause-history g c h =
@@ -178,12 +178,12 @@ returns-in-Err-noted-clause-history_still g c kept =
 
 pub returns-in-Err-drive-clause-history_still : goal.returns-in-Err-drive-clause-history_still
 returns-in-Err-drive-clause-history_still g c kept =
-    kept_on_still (g.V.Watch.watched c.loop.watch).history (g.V.Watch.watched c.broken_off.new.watch).history c.loop.world.history c.drive.new.world.history (added c.loop.world c.drive.new.world) (c.loop.invariant.history kept)
+    kept_on_still (g.V.Watch.watched c.loop.watch).history (g.V.Watch.watched c.broken_off.new.watch).history c.loop.world.history c.drive.new.world.history (entries_between c.loop.world c.drive.new.world) (c.loop.invariant.history kept)
     (c.moments_are_tied.ensures.grow c.loop.world c.drive.new.world c.drive.ensures.drives.drives.steps c.drive.ensures.drives.drives.run) c.broken_off.ensures.history_still
 
 pub returns-in-Err-see_turn-clause-history_still : goal.returns-in-Err-see_turn-clause-history_still
 returns-in-Err-see_turn-clause-history_still g c kept =
-    kept_on_still (g.V.Watch.watched c.loop.watch).history (g.V.Watch.watched c.see_turn.new.watch).history c.loop.world.history c.drive.new.world.history (added c.loop.world c.drive.new.world) (c.loop.invariant.history kept)
+    kept_on_still (g.V.Watch.watched c.loop.watch).history (g.V.Watch.watched c.see_turn.new.watch).history c.loop.world.history c.drive.new.world.history (entries_between c.loop.world c.drive.new.world) (c.loop.invariant.history kept)
     (c.moments_are_tied.ensures.grow c.loop.world c.drive.new.world c.drive.ensures.drives.drives.steps c.drive.ensures.drives.drives.run) c.see_turn.ensures.history_still
 
 pub returns-then-driven-eq0-clause-history_still : goal.returns-then-driven-eq0-clause-history_still

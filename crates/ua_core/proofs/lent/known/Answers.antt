@@ -1,5 +1,5 @@
 use Rattle.std.proofs.Common.{rules, refl, slice_set, length, ◌<◌, ◌≡◌, ◌+◌}
-use Rattle.fwup_wire.specs.Lent.{descriptor_of}
+use Rattle.fwup_wire.specs.Lent.{device_descriptor_of}
 use Rattle.ua_core.proofs.Known.{known_step}
 use Rattle.ua_core.proofs.lent.known.Goals as goal
 
@@ -14,6 +14,6 @@ loop-descriptor-preserved c =
       left,
       known_step c.loop-descriptor.known c.loop-descriptor.count
           (record { kind = c.in-Some.descriptor.kind; bytes = c.in-Some.descriptor.bytes })
-          (descriptor_of c.in-Some.descriptor) c.next.new.self c.loop-descriptor.descriptor-iterator c.args.descriptors.now
+          (device_descriptor_of c.in-Some.descriptor) c.next.new.self c.loop-descriptor.descriptor-iterator c.args.descriptors.now
           below c.in-Some.ensures.steps refl c.loop-descriptor.invariant.4,
     )

@@ -4,7 +4,7 @@ use Rattle.std.proofs.lemmas.List.{length-map, with_items_is}
 use Rattle.std.proofs.lemmas.Option.{slice_get_read}
 use Rattle.fw_message.specs.Entries.{entry_of}
 use Rattle.fw_message.specs.Replays.{counted_restarted, place_at}
-use Rattle.fw_message.specs.Worlds.{WorldOf, device_of, restarts_agent}
+use Rattle.fw_message.specs.Worlds.{MessageWorldOf, device_of, restarts_agent}
 use Rattle.fw_message.proofs.Apart.{absent_put, absent_restarted}
 use Rattle.fw_message.proofs.Places.{not_at}
 use Rattle.fw_message.proofs.Stepping.{agent_restarts, bank_called, bank_failed, device_refuses, device_steps, faults_restarted, faults_same}
@@ -13,7 +13,7 @@ use Rattle.fw_message.proofs.messages.MessageWorld.step.Goals as goal
 pub returns-then-restarts-clause-step : goal.returns-then-restarts-clause-step
 returns-then-restarts-clause-step g c =
     let is : restarts_agent c.self.inside.agent c.args.step ≡ true = search rules in
-    let w : WorldOf = record { agent = c.self.inside.agent; packages = c.self.inside.packages.now; nodes = map (λ p. p.node) c.self.inside.pairs.items; history = map entry_of c.self.inside.history.items } in
+    let w : MessageWorldOf = record { agent = c.self.inside.agent; packages = c.self.inside.packages.now; nodes = map (λ p. p.node) c.self.inside.pairs.items; history = map entry_of c.self.inside.history.items } in
     let restarted = with_items_is c.self.inside.pairs c.restart_each.new.pairs (ap length c.restart_each.ensures ∙ length-map c.as_mut_slice.result.now (counted_restarted c.self.inside.packages.now) ∙ c.as_mut_slice.ensures.len)
     ∙ (rw c.as_mut_slice.ensures.value at c.restart_each.ensures) in
     rw (sym c.self.view_is, restarted) (agent_restarts w c.self.inside.pairs.items c.args.step true refl is)
@@ -27,7 +27,7 @@ returns-in_default-clause-refused g c =
 pub returns-in-Err-clause-refused : goal.returns-in-Err-clause-refused
 returns-in-Err-clause-refused g c =
     let is : restarts_agent c.self.inside.agent c.args.step ≡ false = search rules in
-    let w : WorldOf = record { agent = c.self.inside.agent; packages = c.self.inside.packages.now; nodes = map (λ p. p.node) c.self.inside.pairs.items; history = map entry_of c.self.inside.history.items } in
+    let w : MessageWorldOf = record { agent = c.self.inside.agent; packages = c.self.inside.packages.now; nodes = map (λ p. p.node) c.self.inside.pairs.items; history = map entry_of c.self.inside.history.items } in
     let at : place_at w.nodes (device_of c.args.step) ≡ Some c.in-Some.place = search rules in
     let lt : c.in-Some.place < length c.self.inside.pairs.items = search rules in
     let found : slice_get c.self.inside.pairs.items c.in-Some.place ≡ Some c.index_mut-pair.result.now =
@@ -37,7 +37,7 @@ returns-in-Err-clause-refused g c =
 pub returns-clause-step : goal.returns-clause-step
 returns-clause-step g c =
     let is : restarts_agent c.self.inside.agent c.args.step ≡ false = search rules in
-    let w : WorldOf = record { agent = c.self.inside.agent; packages = c.self.inside.packages.now; nodes = map (λ p. p.node) c.self.inside.pairs.items; history = map entry_of c.self.inside.history.items } in
+    let w : MessageWorldOf = record { agent = c.self.inside.agent; packages = c.self.inside.packages.now; nodes = map (λ p. p.node) c.self.inside.pairs.items; history = map entry_of c.self.inside.history.items } in
     let at : place_at w.nodes (device_of c.args.step) ≡ Some c.in-Some.place = search rules in
     let lt : c.in-Some.place < length c.self.inside.pairs.items = search rules in
     let found : slice_get c.self.inside.pairs.items c.in-Some.place ≡ Some c.index_mut-pair.result.now =
@@ -46,8 +46,8 @@ returns-clause-step g c =
 
 pub returns-clause-failed : goal.returns-clause-failed
 returns-clause-failed g c =
-    let w : WorldOf = record { agent = c.self.inside.agent; packages = c.self.inside.packages.now; nodes = map (λ p. p.node) c.self.inside.pairs.items; history = map entry_of c.self.inside.history.items } in
-    let later : WorldOf = record { agent = c.self.inside.agent; packages = c.self.inside.packages.now; nodes = map (λ p. p.node) (set c.self.inside.pairs.items c.in-Some.place c.step.new.self); history = map entry_of c.step.new.history.items } in
+    let w : MessageWorldOf = record { agent = c.self.inside.agent; packages = c.self.inside.packages.now; nodes = map (λ p. p.node) c.self.inside.pairs.items; history = map entry_of c.self.inside.history.items } in
+    let later : MessageWorldOf = record { agent = c.self.inside.agent; packages = c.self.inside.packages.now; nodes = map (λ p. p.node) (set c.self.inside.pairs.items c.in-Some.place c.step.new.self); history = map entry_of c.step.new.history.items } in
     let at : place_at w.nodes (device_of c.args.step) ≡ Some c.in-Some.place = search rules in
     let lt : c.in-Some.place < length c.self.inside.pairs.items = search rules in
     let found : slice_get c.self.inside.pairs.items c.in-Some.place ≡ Some c.index_mut-pair.result.now =
@@ -56,7 +56,7 @@ returns-clause-failed g c =
 
 pub returns-clause-called : goal.returns-clause-called
 returns-clause-called g c =
-    let w : WorldOf = record { agent = c.self.inside.agent; packages = c.self.inside.packages.now; nodes = map (λ p. p.node) c.self.inside.pairs.items; history = map entry_of c.self.inside.history.items } in
+    let w : MessageWorldOf = record { agent = c.self.inside.agent; packages = c.self.inside.packages.now; nodes = map (λ p. p.node) c.self.inside.pairs.items; history = map entry_of c.self.inside.history.items } in
     let at : place_at w.nodes (device_of c.args.step) ≡ Some c.in-Some.place = search rules in
     let lt : c.in-Some.place < length c.self.inside.pairs.items = search rules in
     let found : slice_get c.self.inside.pairs.items c.in-Some.place ≡ Some c.index_mut-pair.result.now =

@@ -2,7 +2,7 @@ use Rattle.std.proofs.Common.{rules, ◌≡◌, ◌≤◌, Some, length, map, sy
 use Rattle.std.specs.Prelude.{IfSome, option_to_list, vec_capacity}
 use Rattle.fd_core.specs.States.{IsWhole, staged_of}
 use Rattle.fd_core.specs.declared.states.Verdict.TheVariants as verdicts
-use Rattle.fw_message.specs.Entries.{put_of}
+use Rattle.fw_message.specs.Entries.{keyed_image_of}
 use Rattle.fd_core.specs.Components.{HasComponents}
 use Rattle.fw_message.proofs.Noting.{noting}
 use Rattle.fw_message.proofs.pair.Pair.judge_noting.Goals as goal
@@ -18,5 +18,5 @@ returns-clause-step g c =
     let room : c.in-Some.field-0-1 ≤ vec_capacity c.args.room = rw staged at fits in
     rw (ok, works)
     (noting c.args.packages.now c.args.self.now.node.pair c.judge.new.self.node.pair c.in-Some.key c.in-Some.field-0-1 (vec_capacity c.args.room)
-    (map put_of (option_to_list c.copied.result)) h whole staged room (rw (ok, works) at c.in_ok-works.ensures.step)
+    (map keyed_image_of (option_to_list c.copied.result)) h whole staged room (rw (ok, works) at c.in_ok-works.ensures.step)
     (rw (sym c.self-2.view_is, sym c.bank.ensures.rows) c.copied.ensures.whole))

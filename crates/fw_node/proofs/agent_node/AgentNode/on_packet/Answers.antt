@@ -7,12 +7,12 @@ use Rattle.fw_node.proofs.agent_node.AgentNode.on_packet.Goals as goal
 
 pub returns-clause-after : goal.returns-clause-after
 returns-clause-after c =
-    c.hear.ensures.after
+    c.accept.ensures.after
     ∙ ap (λ heard. heard.agent) (sym (agent_alike c.args.packages.now c.args.self.now c.args.bytes.now (spelling c.in-Ok.packet) c.args.now
     (λ u. spelled_alike U128 u c.args.bytes.now c.in-Ok.packet c.in-Ok.ensures.value)))
 
 pub returns-clause-sent : goal.returns-clause-sent
 returns-clause-sent c =
-    c.hear.ensures.sent
+    c.accept.ensures.sent
     ∙ ap (λ heard. heard.sent) (sym (agent_alike c.args.packages.now c.args.self.now c.args.bytes.now (spelling c.in-Ok.packet) c.args.now
     (λ u. spelled_alike U128 u c.args.bytes.now c.in-Ok.packet c.in-Ok.ensures.value)))

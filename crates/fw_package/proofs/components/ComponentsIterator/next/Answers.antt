@@ -1,7 +1,7 @@
 use Rattle.std.proofs.Common.{◌-◌, ◌∷◌, ◌∙◌, sym, ap}
 use Rattle.fw_package.specs.Components.{components_of}
 use Rattle.fw_package.specs.Lent.{component_seen}
-use Rattle.fw_package.specs.Views.{listed}
+use Rattle.fw_package.specs.Views.{list_or_empty}
 use Rattle.fw_package.proofs.Walked.{less_behind}
 use Rattle.fw_package.proofs.Rows.{component_left, not_refused}
 use Rattle.fw_package.specs.Components.{component_of}
@@ -27,7 +27,7 @@ pub returns-clause-steps : goal.returns-clause-steps
 returns-clause-steps c =
     sym c.self.view_is
     ∙ (component_left c.self.inside.file.now c.self.inside.count c.self.inside.rest.now c.self.invariant c.if-self-eq0.false).list (component_seen c.in-Ok.component) (sym c.in-Ok.ensures)
-    ∙ ap (λ xs. component_seen c.in-Ok.component ∷ listed (components_of c.self.inside.file.now (c.self.inside.count - 1) xs)) (sym c.others.ensures)
+    ∙ ap (λ xs. component_seen c.in-Ok.component ∷ list_or_empty (components_of c.self.inside.file.now (c.self.inside.count - 1) xs)) (sym c.others.ensures)
 
 pub returns-clause-goes : goal.returns-clause-goes
 returns-clause-goes c = record {
@@ -37,7 +37,7 @@ returns-clause-goes c = record {
     less_behind _ _ _ (
         sym c.self.view_is
         ∙ (component_left c.self.inside.file.now c.self.inside.count c.self.inside.rest.now c.self.invariant c.if-self-eq0.false).list (component_seen c.in-Ok.component) (sym c.in-Ok.ensures)
-        ∙ ap (λ xs. component_seen c.in-Ok.component ∷ listed (components_of c.self.inside.file.now (c.self.inside.count - 1) xs)) (sym c.others.ensures)
+        ∙ ap (λ xs. component_seen c.in-Ok.component ∷ list_or_empty (components_of c.self.inside.file.now (c.self.inside.count - 1) xs)) (sym c.others.ensures)
         ),
   );
   keeps = tt;

@@ -2,7 +2,7 @@ use Rattle.std.proofs.Common.{◌-◌, ◌∷◌, ◌∙◌, sym, ap, take}
 use Rattle.byteorder.specs.Endian.{little_number}
 use Rattle.fw_package.specs.Lent.{record_seen}
 use Rattle.fw_package.specs.Records.{record_of, records_of}
-use Rattle.fw_package.specs.Views.{listed}
+use Rattle.fw_package.specs.Views.{list_or_empty}
 use Rattle.fw_package.proofs.Walked.{less_behind}
 use Rattle.fw_package.proofs.Rows.{not_refused, record_left}
 use Rattle.fw_package.proofs.records.RecordsIterator.next.Goals as goal
@@ -28,7 +28,7 @@ returns-clause-steps c =
     sym c.self.view_is
     ∙ (record_left c.self.inside.bitmap_size c.self.inside.component_count c.self.inside.count c.self.inside.rest.now c.self.invariant c.if-self-eq0.false).list
     (record_seen c.in-Ok.«record») (sym (rw c.first_record.ensures.«record» at c.in-Ok.ensures))
-    ∙ ap (λ xs. record_seen c.in-Ok.«record» ∷ listed (records_of c.self.inside.bitmap_size c.self.inside.component_count (c.self.inside.count - 1) xs)) (sym c.first_record.ensures.others)
+    ∙ ap (λ xs. record_seen c.in-Ok.«record» ∷ list_or_empty (records_of c.self.inside.bitmap_size c.self.inside.component_count (c.self.inside.count - 1) xs)) (sym c.first_record.ensures.others)
 
 pub returns-clause-goes : goal.returns-clause-goes
 returns-clause-goes c = record {
@@ -39,7 +39,7 @@ returns-clause-goes c = record {
         sym c.self.view_is
         ∙ (record_left c.self.inside.bitmap_size c.self.inside.component_count c.self.inside.count c.self.inside.rest.now c.self.invariant c.if-self-eq0.false).list
         (record_seen c.in-Ok.«record») (sym (rw c.first_record.ensures.«record» at c.in-Ok.ensures))
-        ∙ ap (λ xs. record_seen c.in-Ok.«record» ∷ listed (records_of c.self.inside.bitmap_size c.self.inside.component_count (c.self.inside.count - 1) xs)) (sym c.first_record.ensures.others)
+        ∙ ap (λ xs. record_seen c.in-Ok.«record» ∷ list_or_empty (records_of c.self.inside.bitmap_size c.self.inside.component_count (c.self.inside.count - 1) xs)) (sym c.first_record.ensures.others)
         ),
   );
   keeps = tt;

@@ -1,6 +1,6 @@
-use Rattle.fw_soak.specs.Courses.{GoesOn}
+use Rattle.fw_soak.specs.Courses.{ContinuesRun}
 use Rattle.fw_soak.proofs.traffic.Traffic.meet_round.Given as goal
 
 -- the run went on so far
 abbrev pub invariant-loop-place : goal.invariant-loop-place
-invariant-loop-place l = GoesOn l.fn.course l.course
+invariant-loop-place l = ContinuesRun l.fn.course l.course

@@ -1,6 +1,6 @@
-use Rattle.fw_soak.specs.Courses.{GoesOn}
+use Rattle.fw_soak.specs.Courses.{ContinuesRun}
 use Rattle.fw_soak.proofs.traffic.Traffic.release.Given as goal
 
 -- the run went on so far
 abbrev pub invariant-loop : goal.invariant-loop
-invariant-loop l = GoesOn l.fn.course l.course
+invariant-loop l = ContinuesRun l.fn.course l.course

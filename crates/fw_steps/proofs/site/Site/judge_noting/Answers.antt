@@ -2,7 +2,7 @@ use Rattle.std.proofs.Common.{◌≡◌, ◌≤◌, ◌∙◌, ◌++◌, IfSome,
 use Rattle.std.specs.Vec.{vec_capacity}
 use Rattle.fd_core.specs.Components.{HasComponents}
 use Rattle.fd_core.specs.States.{IsWhole, staged_of}
-use Rattle.fw_message.specs.Entries.{entry_of, put_of}
+use Rattle.fw_message.specs.Entries.{entry_of, keyed_image_of}
 use Rattle.fw_message.specs.History.{EntryOf}
 use Rattle.fw_message.specs.Worlds.{noted_of}
 use Rattle.fw_steps.proofs.Judging.{application_noted, failure_noted}
@@ -20,7 +20,7 @@ returns g c =
     let staged : c.staged-staged.result ≡ staged_of c.args.self.now.site.node.half.core.device.phase =
     c.staged-staged.ensures.staged ∙ ap (λ v. staged_of v.phase) device in
     application_noted c.args.self.now.site c.judge_now.new.self.site c.args.verdict (map entry_of c.args.history.now.items) _ c.staged-staged.result (vec_capacity c.args.room)
-    (map put_of (option_to_list c.applied-image.result))
+    (map keyed_image_of (option_to_list c.applied-image.result))
     c.in-ApplyOk.is
     c.judge_now.ensures.judged
     (subst HasComponents (ap (λ s. s.site.node.half.core.device) c.self.view_is) c.self.invariant.0)
@@ -30,5 +30,5 @@ returns g c =
     (sym c.has_failed.ensures ∙ c.if-has_failed.false)
     c.applied-image.ensures
     (c.note_applied.ensures
-    ∙ ap (λ d. map entry_of c.args.history.now.items ++ map (λ p. noted_of d (EntryOf.Applied p)) (map put_of (option_to_list c.applied-image.result)))
+    ∙ ap (λ d. map entry_of c.args.history.now.items ++ map (λ p. noted_of d (EntryOf.Applied p)) (map keyed_image_of (option_to_list c.applied-image.result)))
     (c.eid.ensures ∙ ap (λ e. e.eid) c.judge_now.ensures.endpoint))

@@ -2,7 +2,7 @@ use Rattle.std.proofs.Common.{◌<◌, ◌≡◌, ◌∙◌, ap, arith, sym, tru
 use Rattle.std.proofs.lemmas.Bool.{lt-ltb}
 use Rattle.std.specs.List.{list_all}
 use Rattle.fw_steps.specs.Headline.{is_node, may_all_beat}
-use Rattle.fw_steps.specs.Worlds.{ticks}
+use Rattle.fw_steps.specs.Worlds.{world_after_tick}
 use Rattle.fw_steps.proofs.Leading.{tick_goes, tick_leads}
 use Rattle.fw_steps.proofs.state.State.tick.Goals as goal
 
@@ -14,4 +14,4 @@ returns-clause-taken g c =
     let known : list_all (is_node w) c.args.missed.now.items ≡ true = sym (c.if-not-has_nodes.ensures ∙ ap (list_all (is_node w)) c.as_slice.ensures.value) in
     let may : may_all_beat c.args.missed.now.items w ≡ true = sym (c.if-not-may_all_beat.ensures ∙ ap (λ m. may_all_beat m w) c.as_slice-2.ensures.value) in
     tick_leads w c.pass.new.self c.args.missed.now (tick_goes known (lt-ltb w.now 4294967295 soon) may)
-    (c.in-Ok.ensures.after ∙ ap (λ m. ticks m w) c.as_slice-3.ensures.value)
+    (c.in-Ok.ensures.after ∙ ap (λ m. world_after_tick m w) c.as_slice-3.ensures.value)

@@ -1,5 +1,0 @@
-use Rattle.fw_setup.proofs.Leading.{foretells_sessions as sessions_foretold}
-use Rattle.fw_setup.proofs.forecast_laws.foretells_sessions.Goals as goal
-
-pub returns : goal.returns
-returns c = sessions_foretold
