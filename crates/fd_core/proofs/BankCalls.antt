@@ -1,5 +1,5 @@
 -- What a device does depends on whether its bank works exactly where it calls the bank.
-use Rattle.std.proofs.Common.{◌≡◌, ◌==◌, ◌∙◌, ap, refl, sym, nat_lt, not, Bool, true, false, ℕ, List, length, Option, Some, is_some, if◌then◌else◌}
+use Rattle.std.proofs.Common.{◌≡◌, ◌≢◌, ◌==◌, ◌∙◌, ap, refl, sym, nat_lt, not, Bool, true, false, ℕ, List, length, Option, Some, is_some, if◌then◌else◌}
 use Rattle.pldm_base.specs.Codes.{error, invalid_data}
 use Rattle.fwup_wire.specs.Answers.{answer_bytes}
 use Rattle.fwup_wire.specs.Values.{AnswerOf, CommandOf, TableEntryOf, OfferOf, UpdateRequestOf}
@@ -8,8 +8,8 @@ use Rattle.fd_core.specs.Codes.{activation_not_required, incomplete_update, long
 use Rattle.fd_core.specs.Commands.{OfferRow, RequestRow, SwitchRow, TableRow, bytes_work, cancel_by, cancel_row, device_answer, device_take, download_progress, has_applied, is_odd_request, is_switch, lacks_listed, offer_by, offer_restriction, offer_row, offer_under, request_by, request_row, restriction, return_by, return_row, switch_by, switch_row, table_by, table_row}
 use Rattle.fd_core.specs.Images.{RowOf}
 use Rattle.fd_core.specs.States.{DeviceState, Phase, UpdateOf, WorkOf}
-use Rattle.fd_core.specs.Steps.{device_verdict, judged_or, verdict_at}
-use Rattle.fd_core.specs.Wishes.{DeviceLearnRow, applied_row, apply_by, asked_length, device_learn, download_by, download_row, has_failed, is_failure, learn_at, piece_row, report_row, verified_row, verify_by}
+use Rattle.fd_core.specs.Steps.{VerdictEffect, device_verdict, judged_or, verdict_at}
+use Rattle.fd_core.specs.Wishes.{DeviceLearnRow, applied_row, apply_by, asked_length, device_learn, download_by, download_row, has_failed, is_failure, learn_at, piece_row, report_row, stage_with, verified_row, verify_by}
 use Rattle.fd_core.specs.declared.parts.BankComponent.{BankComponent}
 use Rattle.fd_core.specs.declared.states.Progress.{Progress}
 use Rattle.fd_core.specs.declared.states.Progress.TheVariants as progress
@@ -25,16 +25,31 @@ either : {R : Type 0} (P : R → Type 0) (b : Bool) (x y : R) → P x → P y �
 either P true x y hx hy = hx
 either P false x y hx hy = hy
 
+-- Two results that differ in a part if the bank is called, and else are the same.
+abbrev pub DifferInIf : {R S : Type 0} (part : R → S) → (called : Bool) → (failing working : R) → Type 0
+DifferInIf part true failing working = part failing ≢ part working
+DifferInIf part false failing working = failing ≡ working
+
+pub differ_if : {R S : Type 0} (part : R → S) (called : Bool) (failing working : R) → DifferInIf part called failing working → DifferIf called failing working
+differ_if part true failing working h = λ e. h (ap part e)
+differ_if part false failing working h = h
+
+-- What is made of two such results differs likewise, if the part can be read off what is made.
+pub differ_through : {R S T : Type 0} (part : R → S) (f : R → T) (read : T → S) (called : Bool) (failing working : R)
+    → read (f failing) ≡ part failing → read (f working) ≡ part working → DifferInIf part called failing working → DifferIf called (f failing) (f working)
+differ_through part f read true failing working x y h = λ e. h (sym x ∙ ap read e ∙ y)
+differ_through part f read false failing working x y h = ap f h
+
 -- COMMANDS
 
 -- a row with a bank that fails, and with one that works
 abbrev OffersDiffer : DeviceState → OfferOf → OfferRow → OfferRow → Type 0
-OffersDiffer v o failing working = DifferIf (begins_stage working) (offer_by v o failing) (offer_by v o working)
+OffersDiffer v o failing working = DifferInIf (λ t. t.answer) (begins_stage working) (offer_by v o failing) (offer_by v o working)
 
 under : (v : DeviceState) (o : OfferOf) (u : UpdateOf) (code : ℕ) → OffersDiffer v o (offer_under u code false) (offer_under u code true)
 under v o u code =
     both (OffersDiffer v o) (not (code == no_restriction)) (OfferRow.DeclineOffer code) (OfferRow.RefuseOffer error) (OfferRow.DeclineOffer code) (OfferRow.BeginWork u)
-    refl (λ e. absurd (let same : (offer_by v o (OfferRow.RefuseOffer error)).answer ≡ (offer_by v o (OfferRow.BeginWork u)).answer = ap (λ t. t.answer) e in cc))
+    refl (λ e. absurd (cc))
 
 offers : (v : DeviceState) (o : OfferOf) (rows : List RowOf) (p : Phase) (quiet : Bool) → OffersDiffer v o (offer_row rows p o quiet false) (offer_row rows p o quiet true)
 offers v o rows Phase.Idle quiet = refl
@@ -45,29 +60,35 @@ offers v o rows (Phase.Ready u) true =
 offers v o rows p quiet = refl
 
 abbrev SwitchesDiffer : DeviceState → SwitchRow → SwitchRow → Type 0
-SwitchesDiffer v failing working = DifferIf (is_switch working) (switch_by v failing) (switch_by v working)
+SwitchesDiffer v failing working = DifferInIf (λ t. t.answer) (is_switch working) (switch_by v failing) (switch_by v working)
 
 switches : (v : DeviceState) (cs : List BankComponent) (rows : List RowOf) (p : Phase) → SwitchesDiffer v (switch_row cs rows p false) (switch_row cs rows p true)
 switches v cs rows Phase.Idle = refl
 switches v cs rows (Phase.Ready u) =
     both (SwitchesDiffer v) (lacks_listed rows u.table) (SwitchRow.RefuseSwitch incomplete_update) _ (SwitchRow.RefuseSwitch incomplete_update) _ refl
     (both (SwitchesDiffer v) (not (has_applied rows cs)) (SwitchRow.RefuseSwitch activation_not_required) (SwitchRow.RefuseSwitch error) (SwitchRow.RefuseSwitch activation_not_required) SwitchRow.Switch refl
-    (λ e. absurd (let same : (switch_by v (SwitchRow.RefuseSwitch error)).answer ≡ (switch_by v SwitchRow.Switch).answer = ap (λ t. t.answer) e in cc)))
+    (λ e. absurd (cc)))
 switches v cs rows p = refl
 
+pub commands_differ : (v : DeviceState) (c : CommandOf) (quiet : Bool) → DifferInIf (λ t. t.answer) (command_calls_bank v c quiet) (device_take v c quiet false) (device_take v c quiet true)
+commands_differ v (CommandOf.UpdateComponent o) quiet = offers v o v.rows v.phase quiet
+commands_differ v (CommandOf.ActivateFirmware s) quiet = switches v v.components v.rows v.phase
+commands_differ v c quiet = refl
+
 pub commands_depend : CommandsDependOnCalls
-commands_depend v (CommandOf.UpdateComponent o) quiet = offers v o v.rows v.phase quiet
-commands_depend v (CommandOf.ActivateFirmware s) quiet = switches v v.components v.rows v.phase
-commands_depend v c quiet = refl
+commands_depend v c quiet = differ_if (λ t. t.answer) (command_calls_bank v c quiet) (device_take v c quiet false) (device_take v c quiet true) (commands_differ v c quiet)
 
 -- ANSWERS
 
 abbrev PiecesDiffer : DeviceState → UpdateOf → WorkOf → DeviceLearnRow → DeviceLearnRow → Type 0
-PiecesDiffer v u w failing working = DifferIf (puts_piece working) (download_by v u w failing) (download_by v u w working)
+PiecesDiffer v u w failing working = DifferInIf (λ l. has_failed l.after.phase) (puts_piece working) (download_by v u w failing) (download_by v u w working)
+
+no_failure_put : (more : Bool) → is_failure (if more then progress.InProgress else progress.Succeeded) ≡ false
+no_failure_put true = refl
+no_failure_put false = refl
 
 piece_differs : (v : DeviceState) (u : UpdateOf) (w : WorkOf) (bytes : List ℕ) → PiecesDiffer v u w DeviceLearnRow.PutFails (DeviceLearnRow.PutPiece bytes)
-piece_differs v u w bytes e = absurd (
-    let stirred : (download_by v u w DeviceLearnRow.PutFails).stirs ≡ (download_by v u w (DeviceLearnRow.PutPiece bytes)).stirs = ap (λ l. l.stirs) e in cc)
+piece_differs v u w bytes e = absurd (let whole = no_failure_put (nat_lt (length (stage_with v w bytes)) w.size) in cc)
 
 pieces : (v : DeviceState) (u : UpdateOf) (w : WorkOf) (n : ℕ) (a : Option AnswerOf) → PiecesDiffer v u w (piece_row n a false) (piece_row n a true)
 pieces v u w n (Some (AnswerOf.RequestFirmwareData bytes)) =
@@ -82,27 +103,36 @@ report_differs v u w progress.Succeeded (Some AnswerOf.TransferComplete) n = ref
 report_differs v u w progress.Succeeded a n = refl
 report_differs v u w (progress.Failed reported) a n = refl
 
-answers_in : (v : DeviceState) (p : Phase) (a : Option AnswerOf) → DifferIf (answer_calls_bank_in p v a) (learn_at v p a false) (learn_at v p a true)
+answers_in : (v : DeviceState) (p : Phase) (a : Option AnswerOf) → DifferInIf (λ l. has_failed l.after.phase) (answer_calls_bank_in p v a) (learn_at v p a false) (learn_at v p a true)
 answers_in v (Phase.Download u w p) a = report_differs v u w p a (asked_length v.unit u w (length v.stage))
 answers_in v (Phase.Verify u w p) a = refl
 answers_in v (Phase.Apply u w p) a = refl
 answers_in v p a = refl
 
+pub answers_differ : (v : DeviceState) (a : Option AnswerOf) → DifferInIf (λ l. has_failed l.after.phase) (answer_calls_bank v a) (learn_at v v.phase a false) (learn_at v v.phase a true)
+answers_differ v a = answers_in v v.phase a
+
 pub answers_depend : AnswersDependOnCalls
-answers_depend v a = answers_in v v.phase a
+answers_depend v a = differ_if (λ l. has_failed l.after.phase) (answer_calls_bank v a) (learn_at v v.phase a false) (learn_at v v.phase a true) (answers_differ v a)
 
 -- VERDICTS
 
-verdicts_in : (v : DeviceState) (p : Phase) (verdict : Verdict) → DifferIf (verdict_calls_bank_in p verdict) (verdict_at v p verdict false) (verdict_at v p verdict true)
+pub effect_failed : Option VerdictEffect → Bool
+effect_failed None = false
+effect_failed (Some j) = has_failed j.after.phase
+
+verdicts_in : (v : DeviceState) (p : Phase) (verdict : Verdict) → DifferInIf effect_failed (verdict_calls_bank_in p verdict) (verdict_at v p verdict false) (verdict_at v p verdict true)
 verdicts_in v (Phase.Verify u w progress.InProgress) verdicts.VerifyOk = refl
 verdicts_in v (Phase.Verify u w progress.InProgress) verdicts.VerifyFail = refl
-verdicts_in v (Phase.Apply u w progress.InProgress) verdicts.ApplyOk =
-    λ e. absurd (let same : true ≡ false = ap (λ o. has_failed (judged_or v o).phase) e in cc)
+verdicts_in v (Phase.Apply u w progress.InProgress) verdicts.ApplyOk = λ e. absurd (cc)
 verdicts_in v (Phase.Apply u w progress.InProgress) verdicts.ApplyFail = refl
 verdicts_in v p verdict = refl
 
+pub verdicts_differ : (v : DeviceState) (verdict : Verdict) → DifferInIf effect_failed (verdict_calls_bank v verdict) (device_verdict v verdict false) (device_verdict v verdict true)
+verdicts_differ v verdict = verdicts_in v v.phase verdict
+
 pub verdicts_depend : VerdictsDependOnCalls
-verdicts_depend v verdict = verdicts_in v v.phase verdict
+verdicts_depend v verdict = differ_if effect_failed (verdict_calls_bank v verdict) (device_verdict v verdict false) (device_verdict v verdict true) (verdicts_differ v verdict)
 
 -- WHERE THE BANK ISN'T CALLED
 

@@ -1,10 +1,11 @@
 -- Whether a step has a device call its bank: the device takes the command in a cell, learns the answer that it waits for, or
 -- has a verdict, and its table calls the bank then.
-use Rattle.std.specs.Prelude.{Bool, false, true, Option, Some, None}
+use Rattle.std.specs.Prelude.{◌≡◌, Bool, false, true, List, Option, Some, None, is_some}
+use Rattle.fw_package.specs.Package.{PackageText}
 use Rattle.fwup_wire.specs.Values.{AnswerOf}
-use Rattle.fd_core.specs.BankCalls.{answer_calls_bank, command_calls_bank, verdict_calls_bank}
+use Rattle.fd_core.specs.BankCalls.{DifferIf, answer_calls_bank, command_calls_bank, verdict_calls_bank}
 use Rattle.fd_core.specs.States.{DeviceState}
-use Rattle.fw_message.specs.Pairs.{CellContentOf, PairOf, StepOf, waiting_answer}
+use Rattle.fw_message.specs.Pairs.{CellContentOf, PairOf, StepOf, step_of, waiting_answer}
 use Rattle.fw_message.specs.Worlds.{NodeOf, MessageWorldOf, device_of, node_at, pair_step}
 use Rattle.fw_message.specs.declared.step.MessageStep.{MessageStep}
 
@@ -32,3 +33,10 @@ node_calls_bank s (Some n) = pair_step_calls_bank n.pair (pair_step true s)
 
 abbrev pub message_step_calls_bank : MessageWorldOf → MessageStep → Bool
 message_step_calls_bank w s = node_calls_bank s (node_at w.nodes (device_of s))
+
+-- Among the steps that may be taken, what a step makes of a pair depends on whether the bank works exactly where the step calls
+-- the bank.
+abbrev pub PairStepsDependOnCalls : Type 0
+PairStepsDependOnCalls = (packages : List PackageText) (m : PairOf) (s : MessageStep)
+    → is_some (step_of packages m (pair_step true s)) ≡ true
+    → DifferIf (pair_step_calls_bank m (pair_step true s)) (step_of packages m (pair_step false s)) (step_of packages m (pair_step true s))

@@ -1,5 +1,6 @@
 //! What holds of every run of messages.
 
+ghost use Rattle.fw_message.specs.BankCalls.{PairStepsDependOnCalls};
 ghost use Rattle.fw_message.specs.Cases.{HistoriesAreJudged};
 ghost use Rattle.fw_message.specs.Laws.{MessagesAreSafe};
 ghost use Rattle.fw_message.specs.RunLaws.{MessageRunsGrow, MessageRunsJoin, MessageRunsStayTied};
@@ -48,4 +49,10 @@ pub fn histories_are_judged()
 /// worked update, and not of what differs from it in one thing.
 pub fn message_worlds_are_judged()
     ensures { MessageWorldsAreJudged }
+{}
+
+/// Among the steps that may be taken, what a step makes of a pair depends on whether the bank works exactly if the step
+/// calls the bank.
+pub fn bank_calls_decide()
+    ensures { PairStepsDependOnCalls }
 {}

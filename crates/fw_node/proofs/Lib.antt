@@ -8,6 +8,7 @@
 -- - `NodeServes`: what a node makes of a firmware update request.
 -- - `Controls`: the answer to a control message.
 -- - `Working`: where a bank isn't called, nothing depends on whether its call works.
+-- - `BankCalls`: where it is called, all depends on that.
 --
 -- A TICK of a half, and of the agent with all its halves.
 -- - `Again`: what a tick asks to be sent again, by the message of the open request.
@@ -25,6 +26,7 @@
 mod Addressed
 mod Again
 mod AgentTicks
+mod BankCalls
 mod Calls
 mod Controls
 mod HalfHears

@@ -1,11 +1,13 @@
 -- Whether a packet has a half's core call its bank. It does where it brings the answer to the half's open request, or a new
 -- firmware update request, and the core's table calls the bank at that answer or at that command. A session has no bank.
-use Rattle.std.specs.Prelude.{ℕ, ◌==◌, ◌&&◌, Bool, false, List, Result, Ok, Err}
+use Rattle.std.specs.Prelude.{ℕ, ◌==◌, ◌&&◌, Bool, false, true, List, Result, Ok, Err}
+use Rattle.fd_core.specs.BankCalls.{DifferIf}
 use Rattle.fwup_wire.specs.Answers.{answer_read}
 use Rattle.fwup_wire.specs.Values.{CommandOf}
 use Rattle.pldm_exch.specs.Caller.{is_quiet}
 use Rattle.pldm_exch.specs.Sides.{asker_row, taker_row}
-use Rattle.fw_node.specs.Halves.{CoreOf, HalfOf, IncomingOf, incoming, read_by}
+use Rattle.fw_node.specs.Cores.{TimedDevice, device_core}
+use Rattle.fw_node.specs.Halves.{CoreOf, HalfOf, IncomingOf, half_on_packet, incoming, read_by}
 
 -- what was read of a request: a command calls the bank as the table says, and what is none doesn't
 abbrev pub read_calls_bank : {C : Type 0} → CoreOf C → (quiet : Bool) → C → Result CommandOf ℕ → Bool
@@ -24,3 +26,8 @@ abbrev pub packet_calls_bank : {C : Type 0} → CoreOf C → HalfOf C → List �
 packet_calls_bank core h bytes =
     incoming_calls_bank core h
     (incoming (asker_row h.unit h.own h.peer h.asker bytes) (taker_row h.unit h.own h.peer h.taker bytes))
+
+-- What a packet is for a device's half depends on whether the bank works exactly where the packet calls the bank.
+abbrev pub PacketsDependOnCalls : Type 0
+PacketsDependOnCalls = (h : HalfOf TimedDevice) (bytes : List ℕ)
+    → DifferIf (packet_calls_bank device_core h bytes) (half_on_packet device_core false h bytes) (half_on_packet device_core true h bytes)

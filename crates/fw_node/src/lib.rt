@@ -9,6 +9,7 @@ mod ends;
 mod half;
 mod identity;
 mod incoming;
+mod laws;
 mod notes;
 mod noting;
 mod outbox;
@@ -16,4 +17,5 @@ mod sending;
 
 pub use agent_node::AgentNode;
 pub use device_node::DeviceNode;
+pub use laws::bank_calls_decide;
 pub use outbox::Outbox;
