@@ -187,7 +187,7 @@ repeat c pldm_type command body n young =
     let before = open_after first (open_request c.number pldm_type command m) n refl refl young in
     ap (λ x. (caller_tick_for (after_ticks n first) x).1) before ∙ tick_says (after_ticks n first) (record { tag = c.number % 8; identifier = c.number; pldm_type = pldm_type; command = command; message = m; age = n })
 
--- the rests after `n` requests, one begun and answered in each tick
+-- the rests after some requests, numbered from n on, one begun and answered in each tick
 rounds : ℕ → ℕ → List ℕ → List ℕ
 rounds zero n rests = rests
 rounds (suc zero) n rests = slice_set rests (n % 8) 40
