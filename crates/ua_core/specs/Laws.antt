@@ -79,7 +79,7 @@ OutsideUpdateRecordsNothing = (p : PackageText) (s : SessionOf) (c : CommandOf) 
 abbrev pub RecordsGrow : Type 0
 RecordsGrow = (p : PackageText) (s : SessionOf) (c : CommandOf) → (agent_after p s c).records ≡ s.records ++ recorded_by p s c
 
--- a record is made exactly if the device applies the component being updated
+-- the component being updated is being applied; only then does a command make a record
 abbrev pub IsApplying : Stage → Type 0
 IsApplying (Stage.Apply _) = Unit {0}
 IsApplying _ = ⊥
@@ -106,7 +106,7 @@ abbrev pub IsApplyingLast : Stage → Type 0
 IsApplyingLast (Stage.Apply t) = t.todo ≡ []
 IsApplyingLast _ = ⊥
 
--- a command takes the session to AllApplied exactly if it reports the last component as applied
+-- a command takes the session to AllApplied only while the last component is being applied
 abbrev pub AppliesAll : Type 0
 AppliesAll = (p : PackageText) (s : SessionOf) (c : CommandOf) → (IsAllApplied s.stage → ⊥) → IsAllApplied (agent_after p s c).stage
     → IsApplyingLast s.stage

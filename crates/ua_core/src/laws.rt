@@ -2,9 +2,9 @@
 
 ghost use Rattle.ua_core.specs.Laws.{AppliesAll, ChoosesRecord, LearnsAllAppliedNowhere, LearnsInPlan, LearnsNoRecord, OutsideUpdateRecordsNothing, PlanHasKeysOnce, RecordsGoodApply, RecordsGrow, RecordsInApply, RefusalsKeepTheSession, RefusalsRecordNothing, RefusalsKeepSessionIdle, ServesInPlan, WindowContinues, WishStands};
 
-/// The records grow exactly if the device applied the component being updated, by that component.
-/// No answer adds a record, and no command after which the session is in Idle, Query, Done,
-/// Cancelling or Failed does.
+/// A successful ApplyComplete in Apply adds a record of the component being updated. A command in
+/// any other state adds none, and neither does an answer, nor a command after which the session is in
+/// Idle, Query, Done, Cancelling or Failed.
 pub fn records_what_is_applied()
     ensures grow { RecordsGrow }
     ensures applying { RecordsInApply }
@@ -13,8 +13,8 @@ pub fn records_what_is_applied()
     ensures learnt { LearnsNoRecord }
 {}
 
-/// A session is in AllApplied with nothing left to do. Only the device's command that reports the
-/// last component as applied takes it there; no answer does.
+/// A command of the device takes a session to AllApplied only while its last component is being
+/// applied. No answer takes it there.
 pub fn applies_all()
     ensures served { AppliesAll }
     ensures learnt { LearnsAllAppliedNowhere }
