@@ -1,4 +1,4 @@
--- How a packet of a message arrives at an end.
+-- The arrival of a packet of a message at an end.
 use Rattle.std.proofs.Common.{◌≡◌, ◌≢◌, ◌∙◌, ◌<◌, ℕ, Bool, true, false, List, Some, None, Ok, slice_get, refl, sym, ap}
 use Rattle.mctp_wire.specs.declared.unit.Unit.{«Unit»}
 use Rattle.std.proofs.lemmas.Bool.{eq-eqb, ne_eqb}

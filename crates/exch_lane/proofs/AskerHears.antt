@@ -1,4 +1,5 @@
--- A packet of a reply comes to the asker: it is held or dropped, or its reply is learnt and is that of the cell.
+-- A packet of a reply arrives at the asker: it is held or dropped, or it completes the reply, which
+-- is that of the cell.
 use Rattle.std.proofs.Common.{◌≡◌, ◌∙◌, ◌+◌, ◌≤◌, ◌<◌, ◌++◌, ◌∷◌, [], ℕ, true, false, List, Option, Some, None, IfSome, slice_set, inl, inr, refl, sym, ap, subst, arith}
 use Rattle.std.proofs.lemmas.Bool.Decides.{eqb_tells}
 use Rattle.std.proofs.lemmas.Cmp.{nat_list_eq_equiv}
@@ -12,7 +13,7 @@ use Rattle.exch_lane.proofs.Lifts.{set_here, set_length, set_there}
 use Rattle.exch_lane.proofs.Tags.{view_leaves}
 use Rattle.exch_lane.proofs.Views.{Exchange, IsReplies, IsSettled, TagOf, TagView}
 
--- where a packet of the reply of an exchange came to the hearing asker
+-- a packet of the reply of an exchange arrived at the asker, which isn't deaf
 pub record ReplyCame (w : LaneOf) (g : Ghost) (tag : ℕ) (e : Exchange) (r : List ℕ) : Type 0 where
   pub low : tag < 8
   pub is : g.exchanges tag ≡ Some e
@@ -20,7 +21,7 @@ pub record ReplyCame (w : LaneOf) (g : Ghost) (tag : ℕ) (e : Exchange) (r : Li
   pub hears : w.asker.deaf ≡ 0
   pub soon : w.now ≤ e.last + 16
 
--- what is held of a reply changes
+-- the held packets of a reply change
 abbrev pub replies_lane : LaneOf → ℕ → Option Held → LaneOf
 replies_lane w tag o = record w { asker = record w.asker { replies = slice_set w.asker.replies tag o } }
 
@@ -62,7 +63,7 @@ asker_holds w g tag e r o c holds h = record {
   runs = refl;
 }
 
--- the reply is learnt
+-- the reply is received
 abbrev pub learnt_caller : CallerState → CallerState
 learnt_caller c = record c { asked = None; answered = true }
 

@@ -1,4 +1,4 @@
--- What a packet of a reply is for the asker.
+-- The outcome of a packet of a reply at the asker.
 use Rattle.std.proofs.Common.{◌≡◌, ◌∙◌, ◌≤◌, ◌<◌, ◌==◌, ℕ, false, List, Option, Some, None, IfSome, length, slice_set, inl, inr, refl, sym, ap, subst}
 use Rattle.pldm_base.specs.Limits.{reply_limit}
 use Rattle.mctp_wire.specs.declared.unit.Unit.{«Unit»}
@@ -25,7 +25,7 @@ use Rattle.exch_lane.proofs.TakerHears.{goes_nowhere}
 use Rattle.exch_lane.proofs.TakerTakes.{came_of}
 use Rattle.exch_lane.proofs.Views.{Ends, Exchange, IsPart, IsReplies, IsWording, reply_of}
 
--- what the asker does by a row, and what that is for the cell
+-- the effect of an outcome on the asker and on the cell
 abbrev pub HearsRow : LaneOf → Ghost → AskerRow → Type 0
 HearsRow w g row = GoesOn (asker_does w row) (cell_at_asker row (run_of w g))
 
@@ -39,7 +39,7 @@ answers l x e r o c wording same h =
 no_answer : (x : Ends) (e : Exchange) (r : List ℕ) (o : Open) → (x.tag == o.tag) ≡ false → answer_body o (reply_of x e r) ≡ None
 no_answer x e r o other = rw other refl
 
--- a whole reply
+-- a complete reply
 ignored_row : (w : LaneOf) (g : Ghost) (tag : ℕ) (e : Exchange) (r : List ℕ) → ReplyCame w g tag e r → LaneGood w g
     → HearsRow w g (AskerRow.Ignores (slice_set w.asker.replies tag None))
 ignored_row w g tag e r c h = asker_holds w g tag e r None c tt h
@@ -66,7 +66,7 @@ row_heard : (l : Laws) (w : LaneOf) (g : Ghost) (tag : ℕ) (e : Exchange) (r : 
 row_heard l w g tag e r None asked k c h = ignored_row w g tag e r c h
 row_heard l w g tag e r (Some o) asked k c h = row_open l w g tag e r o asked k c h
 
--- what its assembly says of a packet of a reply
+-- the outcome of a packet of a reply, from that of its assembly
 row_fed : (l : Laws) (w : LaneOf) (g : Ghost) (tag : ℕ) (e : Exchange) (r : List ℕ) (f : Fed) (o : Option Held)
     → Comes w.unit (reply_of (ends_of w tag) e r) f o → ReplyCame w g tag e r → LaneGood w g
     → HearsRow w g (asker_fed (slice_set w.asker.replies tag o) w.asker.caller f)
@@ -78,7 +78,7 @@ row_fed l w g tag e r outcomes.Open o comes c h =
 row_fed l w g tag e r (Dropped cause) o comes c h =
     asker_holds w g tag e r o c (holds_replies (asker_clock w) (ends_of w tag) e r (Dropped cause) o c.answered h.body.asker_time c.soon comes) h
 
--- the row of a packet of a reply
+-- the outcome of a packet of a reply
 row_is : (l : Laws) (w : LaneOf) (tag : ℕ) (e : Exchange) (r : List ℕ) (s : Sent) (p : IsPacketOf w.unit (reply_of (ends_of w tag) e r) s.bytes)
     → w.asker.deaf ≡ 0 → length r ≤ reply_limit w.unit → tag < 8
     → asker_row_in w s.bytes ≡ asker_fed (slice_set w.asker.replies tag (held_after w.unit (held_at w.asker.replies tag) p.packet)) w.asker.caller (feed_outcome w.unit (held_at w.asker.replies tag) p.packet)
@@ -88,7 +88,7 @@ row_is l w tag e r s p hears few low =
     let under : p.packet.head.tag ≡ tag = piece_tag l w.unit (reply_of (ends_of w tag) e r) p.number p.packet lawful p.at in
     rw (hears, arrives, under) refl
 
--- what is held is part of the reply
+-- the held packets are part of the reply
 part_from : (c : Clock) (x : Ends) (e : Exchange) (r : List ℕ) (o : Option Held) → e.reply ≡ Some r → IfSome o (IsReplies c x e)
     → IfSome o (λ h. IsPart x.unit (reply_of x e r) h.packets)
 part_from c x e r None is h = tt
@@ -97,7 +97,7 @@ part_from c x e r (Some held) is h = rw is at h.part
 pub few_of : (u : «Unit») (e : Exchange) (r : List ℕ) → e.reply ≡ Some r → IsWording u e → length r ≤ reply_limit u
 few_of u e r is h = rw is at h.reply
 
--- a packet of a reply comes to the hearing asker
+-- a packet of a reply arrives at an asker that isn't deaf
 pub hears_reply : (l : Laws) (w : LaneOf) (g : Ghost) (tag : ℕ) (e : Exchange) (r : List ℕ) (s : Sent)
     → IsPacketOf w.unit (reply_of (ends_of w tag) e r) s.bytes → ReplyCame w g tag e r → LaneGood w g → HearsRow w g (asker_row_in w s.bytes)
 hears_reply l w g tag e r s p c h =

@@ -1,4 +1,4 @@
--- How time goes on for the asker's side of one tag.
+-- The asker's side of one tag over time.
 use Rattle.std.proofs.Common.{◌≡◌, ◌+◌, ◌-◌, ◌≤◌, ◌<◌, Bool, true, false, Option, Some, None, IfSome, inl, inr, refl, arith}
 use Rattle.std.proofs.lemmas.Bool.{cases_lt, lt-leb, le-leb}
 use Rattle.std.proofs.lemmas.Bool.Decides.{eqb_tells}
@@ -8,7 +8,7 @@ use Rattle.exch_lane.proofs.Elapsed.{elapsed_counted, elapsed_later, elapsed_mis
 use Rattle.exch_lane.proofs.Facts.{lt_from, none_of, some_maps}
 use Rattle.exch_lane.proofs.Views.{AskerView, Ends, Exchange, IsAsker, IsReplies, IsSpan, asker_at, asker_view_tick, resent, rested}
 
--- what is held ages only below its limit
+-- held packets age only below their limit
 pub held_ages : (o : Option Held) (P Q : Held → Type 0) → IfSome o P → ((h : Held) → P h → h.age ≤ 8)
     → ((h : Held) → P h → h.age < 8 → Q (record h { age = h.age + 1 })) → IfSome (held_tick o) Q
 held_ages None P Q h young next = tt
@@ -70,7 +70,7 @@ asker_resends c x e w hears past h = record {
   deaf = λ z. absurd (omega (arith, z, hears));
 }
 
--- nothing old is left where a tag has rested
+-- nothing old is left if a tag has rested
 pub nothing_held : (c : Clock) (x : Ends) (e : Exchange) (w : AskerView) → w.deaf ≡ 0 → w.rest ≡ 0 → IsAsker c x e w → (e.last + 40 ≤ c.now) × (w.replies ≡ None)
 nothing_held c x e w hears rested h =
     let far : e.last + 40 ≤ c.now = (let r = h.rest hears in omega (arith, r, rested)) in

@@ -4,7 +4,7 @@ use Rattle.mctp_reasm.specs.Laws.{FeedsNext, FeedsOther, PiecesOfAMessage}
 use Rattle.pldm_base.specs.Header.{ReadsMessages, WritesMessages}
 use Rattle.pldm_exch.specs.Laws.{CallersStayLawful, RestsChange}
 
--- what the crates below promise
+-- the laws of the crates below
 pub record Laws : Type 0 where
   pub packets_written : WritesPackets
   pub packets_read : ReadsPackets

@@ -1,4 +1,4 @@
--- What one delivery makes of a tag.
+-- The effect of one delivery on a tag.
 use Rattle.std.proofs.Common.{◌≡◌, ◌∙◌, ◌+◌, ◌≤◌, ℕ, Bool, true, false, List, Option, Some, None, IfSome, IsSomeAnd, is_some, Ok, length, inl, inr, refl, sym, arith}
 use Rattle.mctp_reasm.specs.Pieces.{IsMessage}
 use Rattle.mctp_reasm.specs.Held.{Held}
@@ -32,7 +32,7 @@ reply_reads l x e r h =
     l.messages_read (reply_of x e r).bytes (record { rq = false; instance = e.identifier; pldm_type = 5; command = e.command }) r
     (l.messages_written (record { rq = false; instance = e.identifier; pldm_type = 5; command = e.command }) r (h.identifier, omega arith))
 
--- what is held of a message after one of its pieces
+-- the held packets of a message after one of its pieces
 begins_requests : (c : Clock) (x : Ends) (e : Exchange) (o : Option Held) → IsClock c → c.now ≤ e.last + 8
     → IsSomeAnd o (λ h. IsPart x.unit (request_of x e) h.packets × (h.age ≡ 0)) → IfSome o (IsRequests c x e)
 begins_requests c x e None ok soon h = tt
@@ -55,7 +55,7 @@ holds_replies c x e r (Whole m) o is ok soon h = rw h.1 tt
 holds_replies c x e r Open o is ok soon h = begins_replies c x e r o is ok soon h
 holds_replies c x e r (Dropped cause) o is ok soon h = rw h tt
 
--- an end holds something else
+-- an end holds other packets
 pub view_taker_holds : (v : TagView) (e : Exchange) (o : Option Held) → v.taker.deaf ≡ 0 → IfSome o (IsRequests (taker_time v) v.ends e)
     → IsExchange v e → IsExchange (record v { taker = record { deaf = v.taker.deaf; kept = v.taker.kept; requests = o } }) e
 view_taker_holds v e o hears holds h = record {
@@ -76,7 +76,7 @@ view_asker_holds v e o hears holds h = record {
   settled = h.settled;
 }
 
--- a request that meets no kept answer is unanswered, and it is that of the cell
+-- a request without a kept answer is unanswered, and it is that of the cell
 unanswered_from : (c : Clock) (x : Ends) (e : Exchange) (w : TakerView) (o : Option (List ℕ)) → e.reply ≡ o → w.deaf ≡ 0 → w.kept ≡ None
     → c.now ≤ e.last + 8 → IsSpan c.now e → IsTaker c x e w → e.reply ≡ None
 unanswered_from c x e w None is hears none soon span h = is

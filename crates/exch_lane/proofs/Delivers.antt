@@ -1,4 +1,4 @@
--- A packet comes to an end.
+-- A packet is delivered to an end.
 use Rattle.std.proofs.Common.{◌≡◌, ◌+◌, ◌-◌, ◌≤◌, ◌<◌, ℕ, true, false, List, Option, Some, None, IsSomeAnd, length, slice_get, inl, inr, refl, sym, arith}
 use Rattle.pldm_base.specs.Limits.{reply_limit}
 use Rattle.std.proofs.lemmas.Bool.{cases_lt, le-ltb, lt-ltb}
@@ -20,7 +20,7 @@ use Rattle.exch_lane.proofs.TakerRows.{hears_request, taker_silent}
 use Rattle.exch_lane.proofs.TakerTakes.{came_of}
 use Rattle.exch_lane.proofs.Views.{Exchange, reply_of, request_of}
 
--- what an end does with bytes, and what that is for the cell
+-- the effect of bytes on an end and on the cell
 abbrev pub Hears : LaneOf → Ghost → End → List ℕ → List ℕ → Type 0
 Hears w g end reply bytes = GoesOn (lane_after_packet w end bytes reply) (cell_after_packet w end reply bytes (run_of w g))
 
@@ -87,7 +87,7 @@ living_comes : (l : Laws) (w : LaneOf) (g : Ghost) (end : End) (reply : List ℕ
     → w.now ≤ s.date + 8 → length reply ≤ reply_limit w.unit → LaneGood w g → Hears w g end reply s.bytes
 living_comes l w g end reply s k soon few h = exchange_from l w g k.tag (g.exchanges k.tag) end reply s refl k.of soon k.low few h
 
--- the packet of a number
+-- the packet with a number
 at_number : (packets : List Sent) (number : ℕ) (s : Sent) → item_numbered packets number ≡ Some s → slice_get packets (number - 1) ≡ Some s
 at_number packets number s e = elim (cases_lt 0 number) [
   | inl some ↦ rw (lt-ltb 0 number some) at e

@@ -1,4 +1,4 @@
--- How many units pass while an end counts ticks. Only this file knows the clocks.
+-- The units that pass while an end counts ticks. Only this file uses the clocks.
 use Rattle.std.proofs.Common.{◌≡◌, ◌+◌, ◌*◌, ◌≤◌, ℕ, Bool, true, false, if◌then◌else◌, nat_lt, List, [], ◌∷◌, length, arith, inl, inr}
 use Rattle.std.proofs.lemmas.Bool.{cases_lt, eqb-true, le-ltb, lt-ltb}
 use Rattle.exch_lane.specs.Clocks.{AreAllowed, Clock, ClocksStay, IsClock, MayBeat, TicksAreLate, TimeIsLate, TimeIsMissed, TimeStarts, clock_after_unit, counted_ticks, HasElapsedAtMost, since_after, since_all}
@@ -51,11 +51,11 @@ pub within_keeping : (c : Clock) (date count : ℕ) → HasElapsedAtMost c date 
 unfolding HasElapsedAtMost
 within_keeping c date count h le = omega arith
 
--- a clock that didn't run yet
+-- a new clock
 pub clock_new : IsClock (record { now = 0; since_miss = 8 })
 clock_new = omega arith
 
--- eight times the units are at most nine times the ticks, and what is counted since a miss at first
+-- eight times the units are at most nine times the ticks, and the count since a miss at first
 ninths : (bs : List Bool) (n : ℕ) → n ≤ 8 → AreAllowed bs n → 8 * length bs + since_all bs n ≤ 9 * counted_ticks bs + n
 ninths [] n le k = omega arith
 ninths (true ∷ bs) n le k =

@@ -1,9 +1,9 @@
--- Facts of tests, of numbers and of what may be there.
+-- Facts about tests, numbers and options.
 use Rattle.std.proofs.Common.{◌≡◌, ◌≤◌, ◌<◌, ◌&&◌, ◌⊎◌, ℕ, Bool, true, false, if◌then◌else◌, Option, Some, None, IfSome, is_none, inl, inr, refl, arith}
 use Rattle.std.proofs.lemmas.Bool.{cases_lt}
 use Rattle.exch_lane.specs.declared.step.LaneFault.{LaneFault}
 
--- what a test told
+-- the result of a test
 pub bool_cases : (b : Bool) → (b ≡ true) ⊎ (b ≡ false)
 bool_cases true = inl refl
 bool_cases false = inr refl
@@ -16,11 +16,11 @@ pub may_of : (b : Bool) (x : LaneFault) → (if b then None else Some x) ≡ Non
 may_of true x e = refl
 may_of false x e = absurd (cc)
 
--- a number that is at most another, and not that
+-- a number that is at most another, and not equal to it
 pub lt_from : (a b : ℕ) → a ≤ b → (a ≡ b → ⊥) → a < b
 lt_from a b le ne = elim (cases_lt a b) [ inl lt ↦ lt | inr ge ↦ let is : a ≡ b = omega arith in absurd (ne is) ]
 
--- what may be there
+-- options
 pub some_maps : {A : Type 0} (o : Option A) (P Q : A → Type 0) → IfSome o P → ((x : A) → P x → Q x) → IfSome o Q
 some_maps None P Q h f = tt
 some_maps (Some x) P Q h f = f x h

@@ -1,4 +1,4 @@
--- What explains a lane: the latest exchange of each tag, and which of them stands in the cell.
+-- The ghost state of a lane: the latest exchange of each tag, and the exchange in the cell.
 use Rattle.std.proofs.Common.{◌≡◌, ◌≢◌, ◌+◌, ◌≤◌, ◌<◌, ◌==◌, ℕ, Bool, true, false, if◌then◌else◌, List, Option, Some, None, IfSome, IsSomeAnd, is_none, is_some, length, slice_get, ◌⊎◌}
 use Rattle.mctp_wire.specs.declared.unit.Unit.{«Unit»}
 use Rattle.std.specs.List.{AllByRecursion}
@@ -12,7 +12,7 @@ use Rattle.pldm_exch.specs.Ends.{AskerOf, TakerOf}
 use Rattle.mctp_reasm.specs.Inboxes.{held_at}
 use Rattle.exch_lane.proofs.Views.{AskerView, Ends, Exchange, TagOf, TagView, TakerView, reply_of, request_of}
 
--- by tag, the latest exchange; and the tag of that which stands in the cell
+-- the latest exchange of each tag, and the tag of the exchange in the cell
 pub record Ghost : Type 0 where
   pub exchanges : ℕ → Option Exchange
   pub current : Option ℕ
@@ -47,7 +47,7 @@ view_of w current t =
       is_current = is_at current t;
     }
 
--- the cell that a lane has
+-- the cell of a lane
 abbrev pub cell_with : Exchange → Bool → Option (List ℕ) → Cell
 cell_with e live None = Cell.Asked e.command e.body live
 cell_with e live (Some r) = Cell.Answered e.command e.body r live
@@ -70,8 +70,8 @@ pub record IsPacketOf (u : «Unit») (m : MessageOf) (bytes : List ℕ) : Type 0
   pub at : slice_get (pieces u m) number ≡ Some packet
   pub is : bytes ≡ spelling_of packet
 
--- a packet of an exchange: of its request, not sent after the last sending; or of its reply, which some packet of the
--- request called forth
+-- a packet of an exchange: of its request, not sent after the last sending; or of its reply, which
+-- some packet of the request caused
 abbrev pub IsOfExchange : Ends → Exchange → Sent → Type 0
 IsOfExchange x e s =
     (IsPacketOf x.unit (request_of x e) s.bytes × (s.date ≤ e.last))
@@ -82,7 +82,7 @@ pub record IsExplained (u : «Unit») (asker taker : ℕ) (exchanges : ℕ → O
   pub low : tag < 8
   pub of : IsSomeAnd (exchanges tag) (λ e. IsOfExchange (record { unit = u; asker = asker; taker = taker; tag = tag }) e s)
 
--- each packet that can still come is one of the latest exchange of its tag
+-- each packet that can still arrive is one of the latest exchange of its tag
 abbrev pub IsLiving : (u : «Unit») (now asker taker : ℕ) → (ℕ → Option Exchange) → Sent → Type 0
 IsLiving u now asker taker exchanges s = now ≤ s.date + 8 → IsExplained u asker taker exchanges s
 
@@ -106,7 +106,8 @@ pub record IsCurrent (g : Ghost) (t : ℕ) : Type 0 where
   pub low : t < 8
   pub there : is_some (g.exchanges t) ≡ true
 
--- what is true of a lane and what explains it, but for what its caller says of the cell
+-- the invariant of a lane and its ghost state, except for the relation between the caller and the
+-- cell
 pub record LaneBody (w : LaneOf) (g : Ghost) : Type 0 where
   pub differ : w.asker_eid ≢ w.taker_eid
   pub own : w.asker.caller.own ≡ w.asker_eid
@@ -123,13 +124,14 @@ pub record LaneBody (w : LaneOf) (g : Ghost) : Type 0 where
   pub current : IfSome g.current (IsCurrent g)
   pub deaf : 0 < w.asker.deaf → w.asker.caller ≡ new_caller w.asker_eid w.taker_eid
 
--- all that is true of it: a hearing asker's cell is that of its last request, and it is empty exactly where it is quiet
+-- the whole invariant: the cell of an asker that isn't deaf is that of its last request, and it is
+-- empty exactly if the asker is quiet
 pub record LaneGood (w : LaneOf) (g : Ghost) : Type 0 where
   pub body : LaneBody w g
   pub last : w.asker.deaf ≡ 0 → IfSome g.current (λ t. t ≡ last_tag w.asker.caller)
   pub quiet : w.asker.deaf ≡ 0 → is_quiet w.asker.caller ≡ is_none g.current
 
--- A step goes on: what explains the lane afterwards, and the cell's run is that of the lane.
+-- A step keeps the invariant: the ghost state afterwards, and the cell's run is that of the lane.
 pub record GoesOn (after : LaneOf) (along : Option CellRun) : Type 0 where
   pub ghost : Ghost
   pub good : LaneGood after ghost

@@ -1,4 +1,4 @@
--- What is known of the open request and of the cell's exchange stays as an exchange grows.
+-- The facts about the open request and about the cell's exchange hold as an exchange grows.
 use Rattle.std.proofs.Common.{◌≡◌, ◌∙◌, ℕ, true, List, Option, Some, None, inl, inr, refl, sym, ap}
 use Rattle.mctp_wire.specs.declared.unit.Unit.{«Unit»}
 use Rattle.std.proofs.lemmas.Bool.{eq-eqb, eqb-true}

@@ -1,4 +1,4 @@
--- What is true of the hearing asker after a tick.
+-- The facts about an asker that isn't deaf after a tick.
 use Rattle.std.proofs.Common.{◌≡◌, ◌∙◌, ◌+◌, ◌≤◌, ◌<◌, ◌==◌, ℕ, Bool, true, false, true≢false, Option, Some, None, IfSome, is_none, inl, inr, refl, sym, ap, subst, arith}
 use Rattle.std.proofs.lemmas.Bool.{cases_lt, eqb-true, ne_eqb}
 use Rattle.pldm_exch.specs.Caller.{CallerState, IsCaller, IsOpen, Open, new_caller, is_quiet, last_tag, open_after_tick, rest_at, sends_at, caller_tick_for}
@@ -63,7 +63,7 @@ rested_waits l w g less none h = record {
   rested = λ z q. rested_over w g none q h;
 }
 
--- the open request waits on
+-- the open request keeps waiting
 abbrev pub older_caller : CallerState → Open → CallerState
 older_caller c o = record c { rests = rests_after_tick c.rests; asked = Some (open_after_tick o) }
 

@@ -1,4 +1,4 @@
--- The cell of a lane that steps have led to.
+-- The cell of a lane after some steps.
 use Rattle.std.proofs.Common.{◌≡◌, ◌∙◌, ◌≤◌, ℕ, List, [], ◌∷◌, ◌++◌, length, take, Some, IsSomeAnd, sym, refl, subst, ap}
 use Rattle.std.proofs.lemmas.List.{take_all}
 use Rattle.exch_lane.specs.Cells.{cells_along, no_cell_yet}
@@ -8,7 +8,7 @@ use Rattle.exch_lane.specs.Steps.{MayRun, lane_after, lane_run}
 use Rattle.exch_lane.specs.declared.step.LaneStep.{LaneStep}
 use Rattle.exch_lane.proofs.Running.{Ran}
 
--- runs one after another
+-- consecutive runs
 may_append : (w : LaneOf) (ss ts : List LaneStepOf) → MayRun w ss → MayRun (lane_run w ss) ts → MayRun w (ss ++ ts)
 may_append w [] ts may more = more
 may_append w (s ∷ ss) ts may more = (may.0, may_append (lane_after w s) ss ts may.1 more)

@@ -1,4 +1,4 @@
--- What a step of a lane makes of it, by the rows of its ends.
+-- The effect of a step on a lane, from the outcomes at its ends.
 use Rattle.std.proofs.Common.{◌≡◌, ℕ, true, false, List, ◌++◌, Option, Some, None, Ok, refl, ap}
 use Rattle.std.specs.Option.{option_map}
 use Rattle.mctp_wire.specs.Packet as wire
@@ -17,7 +17,7 @@ use Rattle.exch_lane.specs.Journals.{with_learnt, with_sent, with_taken}
 use Rattle.pldm_exch.specs.Ends.{AnsweringOf, AskingOf, asker_of, taker_of}
 use Rattle.exch_lane.specs.Nodes.{asker_after, asker_ticked, call_tick_of, taker_action_in, taker_after}
 
--- a hearing end has the same row for bytes as for the packet that they read as
+-- an end that isn't deaf has the same outcome for bytes as for the packet that they read as
 pub asker_reads : (deaf : ℕ) (a : AskingOf) (u : «Unit») (bytes : List ℕ) (p : Packet) → deaf ≡ 0 → Ok (p.head, p.body.now) ≡ wire.packet_of u bytes
     → asker_row a.unit a.own a.peer (asker_of deaf a) bytes ≡ asking_row a (spelling p)
 asker_reads deaf a u bytes p hears reads =
@@ -28,7 +28,7 @@ pub taker_reads : (deaf : ℕ) (t : AnsweringOf) (u : «Unit») (bytes : List �
 taker_reads deaf t u bytes p hears reads =
     rw hears (ap (λ r. taker_packet t.unit (taker_of 0 t) (for_end t.own t.peer true r)) (spelled_alike u t.unit bytes p reads))
 
--- a hearing end has the row of its node
+-- an end that isn't deaf has the outcome of its node
 pub hears_as : (a : AskingOf) (row : AskerRow) → asker_of 0 (asking_after a row) ≡ asker_after (asker_of 0 a) row
 hears_as a (AskerRow.Ignores replies) = refl
 hears_as a (AskerRow.Learns replies caller heard) = refl
@@ -56,7 +56,7 @@ taker_does_is w reply (TakerRow.Repeats requests answer) = refl
 taker_does_is w reply (TakerRow.TakesUp requests m head body) = refl
 taker_does_is w reply (TakerRow.Strays requests m) = refl
 
--- the message of the open request is what a tick asks to be sent again
+-- a tick that sends sends the message of the open request
 pub again_is : (o : Option Open) (m : MessageOf) → Some m ≡ option_map (λ o. o.message) o → tick_of ticks.Send o ≡ CallTickOf.Send m
 again_is None m e = absurd (cc)
 again_is (Some o) m e = let same : o.message ≡ m = cc in rw same refl

@@ -7,7 +7,7 @@ use Rattle.pldm_exch.specs.Caller.{new_caller, rest_at}
 use Rattle.pldm_exch.specs.Kept.{KeptAnswer, kept_at, none_kept}
 use Rattle.mctp_reasm.specs.Inboxes.{none_held, held_at}
 
--- what stands under a tag after a tick
+-- the data under a tag after a tick
 pub at_map : {A : Type 0} (f : Option A → Option A) → f None ≡ None → (xs : List (Option A)) (t : ℕ) → get_or (map f xs) t None ≡ f (get_or xs t None)
 at_map f none [] t = rw none refl
 at_map f none (x ∷ xs) zero = refl
@@ -27,13 +27,13 @@ all_at P [] i x h e = absurd (cc)
 all_at P (y ∷ ys) zero x h e = let is : y ≡ x = cc in rw is at h.0
 all_at P (y ∷ ys) (suc i) x h e = all_at P ys i x h.1 e
 
--- what is made of each element
+-- a fact of the image of each element
 pub all_made : {A B C : Type 0} (P : C → Type 0) (f : B → C) (g : A → B) (xs : List A) → ((i : ℕ) (x : A) → slice_get xs i ≡ Some x → P (f (g x)))
     → AllByRecursion P (map f (map g xs))
 all_made P f g [] h = tt
 all_made P f g (x ∷ xs) h = (h 0 x refl, all_made P f g xs (λ i y e. h (suc i) y e))
 
--- what new ends hold under a tag
+-- the data of new ends under a tag
 pub no_rest : (own peer t : ℕ) → t < 8 → rest_at (new_caller own peer) t ≡ 0
 no_rest own peer t lt = get_or-replicate {A = ℕ} 8 t 0 0 lt
 
@@ -43,7 +43,7 @@ nothing_held_at t lt = get_or-replicate {A = Option Held} 8 t None None lt
 pub nothing_kept_at : (t : ℕ) → t < 8 → kept_at none_kept t ≡ None
 nothing_kept_at t lt = get_or-replicate {A = Option KeptAnswer} 8 t None None lt
 
--- what a tag holds where something was put under it
+-- the data of a tag after something was put under it
 pub set_here : {A : Type 0} (xs : List (Option A)) (tag : ℕ) (x : Option A) → length xs ≡ 8 → tag < 8 → get_or (slice_set xs tag x) tag None ≡ x
 set_here xs tag x long low = get_or-set_same xs tag x None (omega (arith, long, low))
 

@@ -1,4 +1,4 @@
--- Each packet that can still come is one of the lane.
+-- Each packet that can still arrive is one of the lane.
 use Rattle.std.proofs.Common.{◌≡◌, ◌∙◌, ◌+◌, ◌≤◌, ◌<◌, ℕ, true, false, List, Option, Some, None, IsSomeAnd, Ok, inl, inr, refl, ap}
 use Rattle.std.specs.List.{AllByRecursion}
 use Rattle.std.proofs.lemmas.Bool.{eq-eqb}

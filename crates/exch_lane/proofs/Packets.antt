@@ -1,4 +1,4 @@
--- How what is known of packets goes on.
+-- The facts about packets over time.
 use Rattle.std.proofs.Common.{◌≡◌, ◌∙◌, ◌+◌, ◌≤◌, ◌<◌, ◌++◌, ℕ, List, Option, Some, None, IfSome, IsSomeAnd, inl, inr, refl, ap, arith}
 use Rattle.mctp_wire.specs.declared.unit.Unit.{«Unit»}
 use Rattle.std.specs.List.{AllByRecursion}
@@ -48,7 +48,7 @@ pub packets_grow : (u : «Unit») (now a b : ℕ) (exchanges : ℕ → Option Ex
 packets_grow u now a b exchanges tag e last reply packets is le same h =
     all_maps (IsLiving u now a b exchanges) (IsLiving u now a b (put tag (grown last reply e) exchanges)) packets h (λ s k. living_grows u now a b exchanges tag e last reply s is le same k)
 
--- time goes on by a unit
+-- a unit of time passes
 pub packets_later : (u : «Unit») (now a b : ℕ) (exchanges : ℕ → Option Exchange) (packets : List Sent) → AllByRecursion (IsLiving u now a b exchanges) packets
     → AllByRecursion (IsLiving u (now + 1) a b exchanges) packets
 packets_later u now a b exchanges packets h = all_maps (IsLiving u now a b exchanges) (IsLiving u (now + 1) a b exchanges) packets h (λ s k soon. k (omega (arith, soon)))

@@ -1,4 +1,5 @@
--- The pieces of a message: how each reads back, and what an assembly that holds a beginning of the message makes of one.
+-- The pieces of a message: each reads back, and its effect on an assembly that holds a beginning of
+-- the message.
 use Rattle.std.proofs.Common.{◌≡◌, ◌+◌, ◌*◌, ◌-◌, ◌≤◌, ◌<◌, ℕ, zero, suc, true, false, List, [], ◌∷◌, Option, Some, None, IfSome, IsSomeAnd, Ok, length, take, drop, slice_get, ◌⊎◌, inl, inr, refl, sym, ap, subst, arith}
 use Rattle.mctp_wire.specs.declared.unit.Unit.{«Unit»}
 use Rattle.mctp_wire.specs.Units.{bytes_of}
@@ -63,7 +64,7 @@ piece_reads l u m i p lawful low h =
     let tag : p.head.tag ≡ m.tag = ap (λ r. r.tag) here.route in
     l.packets_read u (spelling_of p) p.head p.body (l.packets_written u p.head p.body (omega arith, omega (arith, low, tag)) sized.0 sized.1)
 
--- what may come of a piece of a message: the whole message, a longer beginning of it, or nothing
+-- the result of a piece of a message: the whole message, a longer beginning of it, or nothing
 abbrev pub Comes : «Unit» → MessageOf → Fed → Option Held → Type 0
 Comes u m (Whole whole) held = (whole ≡ m) × (held ≡ None)
 Comes u m Open held = IsSomeAnd held (λ h. IsPart u m h.packets × (h.age ≡ 0))

@@ -1,4 +1,5 @@
--- What is true of the asker after a tick that it misses, in which it is still deaf, or in which no request is open.
+-- The facts about the asker after a tick that it misses, in which it is still deaf, or in which no
+-- request is open.
 use Rattle.std.proofs.Common.{◌≡◌, ◌∙◌, ◌-◌, ◌≤◌, ◌<◌, ◌==◌, ℕ, true, false, true≢false, Option, Some, None, IfSome, IsSomeAnd, length, map, get_or, inl, inr, refl, sym, ap, arith}
 use Rattle.std.proofs.lemmas.Bool.{eq-eqb, eqb-true}
 use Rattle.std.proofs.lemmas.List.{length-map}
@@ -16,7 +17,7 @@ use Rattle.exch_lane.proofs.Ticked.{IsAskedThen, IsTicked}
 use Rattle.exch_lane.proofs.Views.{Ends, Exchange}
 use Rattle.exch_lane.proofs.Waits.{IsWaiting}
 
--- the open request as time goes on
+-- the open request over time
 pub open_misses : (c : Clock) (x : Ends) (o : Open) (exchange : Option Exchange) → MayBeat false c → IsSomeAnd exchange (IsOpenOf c x o)
     → IsSomeAnd exchange (IsOpenOf (clock_after_unit false c) x o)
 open_misses c x o None may h = h
@@ -54,7 +55,7 @@ deaf_waits w g more h = record {
   rested = λ z q. absurd (omega (arith, z, more));
 }
 
--- the asker that hears, with its caller after the tick
+-- the asker, which isn't deaf, with its caller after the tick
 abbrev pub heard_tick : LaneOf → CallerState → AskerOf
 heard_tick w c = record w.asker { deaf = 0; caller = c; replies = map held_tick w.asker.replies }
 

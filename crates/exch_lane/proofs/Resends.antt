@@ -37,7 +37,7 @@ due_age o due = elim (eqb_tells (o.age + 1) 6) [
   ]
 ]
 
--- where the open request of an exchange is due
+-- the open request of an exchange is due
 pub record IsDue (w : LaneOf) (g : Ghost) (o : Open) (e : Exchange) : Type 0 where
   pub asked : w.asker.caller.asked ≡ Some o
   pub hears : w.asker.deaf ≡ 0
@@ -47,7 +47,7 @@ pub record IsDue (w : LaneOf) (g : Ghost) (o : Open) (e : Exchange) : Type 0 whe
   pub due : sends_at (o.age + 1) ≡ true
   pub low : o.tag < 8
 
--- the lane and what explains it then
+-- the lane and its ghost state after the tick
 abbrev pub sent_lane : LaneOf → Bool → Open → LaneOf
 sent_lane w taker o = ticked_lane w true taker (heard_tick w (sent_caller w.asker.caller o)) (w.packets ++ packets_of_message w.unit (w.now + 1) o.message)
 

@@ -5,7 +5,7 @@ use Rattle.exch_lane.specs.declared.step.LaneStep.{LaneStep}
 use Rattle.exch_lane.specs.Lanes.{LaneOf, LaneStepOf, lane_step_of, lane_steps_of}
 use Rattle.exch_lane.specs.Steps.{MayRun, MayTake, lane_after, lane_run}
 
--- the steps may be taken one after another, and lead from one lane to another
+-- the steps may be taken in order, and take one lane to another
 pub record Ran (w : LaneOf) (ss : List LaneStepOf) (v : LaneOf) : Type 0 where
   pub may : MayRun w ss
   pub leads : v ≡ lane_run w ss

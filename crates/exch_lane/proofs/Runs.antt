@@ -1,4 +1,5 @@
--- Lane refinement: a new lane is an empty cell, each step goes on, and so does every list of steps.
+-- Lane refinement: a new lane is an empty cell, each step keeps the invariant, and so does every
+-- list of steps.
 use Rattle.std.proofs.Common.{◌≡◌, ◌≢◌, ◌≤◌, ◌∙◌, ◌-◌, ◌^◌, ◌&&◌, ℕ, nat_lt, Bool, if◌then◌else◌, length, true, false, List, [], ◌∷◌, Option, Some, None, IfSome, IsSomeAnd, is_some, refl, sym, subst, arith}
 use Rattle.std.proofs.lemmas.Bool.{le-ltb}
 use Rattle.mctp_wire.specs.declared.unit.Unit.{«Unit»}
@@ -25,7 +26,7 @@ use Rattle.exch_lane.proofs.Restarts.{goes_abandon, goes_restart_asker, goes_res
 use Rattle.exch_lane.proofs.Ticks.{goes_tick}
 use Rattle.exch_lane.proofs.Views.{Ends, Exchange}
 
--- nothing explains a new lane
+-- a new lane has an empty ghost state
 abbrev pub ghost_new : Ghost
 ghost_new = record { exchanges = λ t. None; current = None }
 
@@ -51,18 +52,18 @@ new_good l u asker taker differ = record {
   quiet = λ _. refl;
 }
 
--- a tick that may be taken is one that both ends' clocks allow
+-- a tick that may be taken is allowed by both ends' clocks
 ticks_beat : (w : LaneOf) (asker taker : Bool) → may_step w (LaneStepOf.Tick asker taker) ≡ None → MayBeat asker (asker_clock w) × MayBeat taker (taker_clock w)
 ticks_beat w asker taker may =
     let ends = may_beat asker w.asker_since_miss && may_beat taker w.taker_since_miss in
     let all = both (nat_lt w.now (2 ^ 32 - 1)) ends (may_of (nat_lt w.now (2 ^ 32 - 1) && ends) faults.NotNow may) in
     both (may_beat asker w.asker_since_miss) (may_beat taker w.taker_since_miss) all.1
 
--- what is short enough may go on as it could
+-- a size within its limit gives no fault
 short_enough : (limit size : ℕ) (o : Option LaneFault) → size ≤ limit → (if nat_lt limit size then Some faults.NotNow else o) ≡ None → o ≡ None
 short_enough limit size o le h = rw (le-ltb limit size le) at h
 
--- each step goes on
+-- each step keeps the invariant
 step_goes : (l : Laws) (w : LaneOf) (g : Ghost) (s : LaneStepOf) → MayTake w s → LaneGood w g → GoesOn (lane_after w s) (cell_along w s (run_of w g))
 step_goes l w g (LaneStepOf.Begin command body) may h = goes_begin l w g command body may.lawful (short_enough (reply_limit w.unit) (length body) _ may.lawful may.may) h
 step_goes l w g LaneStepOf.Abandon may h = goes_abandon l w g may.may h
@@ -73,7 +74,7 @@ step_goes l w g (LaneStepOf.Tick asker taker) may h =
 step_goes l w g (LaneStepOf.Restart ends.Asker) may h = goes_restart_asker l w g h
 step_goes l w g (LaneStepOf.Restart ends.Taker) may h = goes_restart_taker w g h
 
--- what the cell waits for is the open request
+-- the cell's awaited request is the open request
 waits_with : (e : Exchange) (r : Option (List ℕ)) → awaited_request (cell_with e true r) ≡ Some (e.command, e.body)
 waits_with e None = refl
 waits_with e (Some r) = refl
@@ -95,7 +96,7 @@ waits_of : (w : LaneOf) (g : Ghost) (o : Option Open) → IfSome o (IsAskedOf w 
 waits_of w g None is = none_waits (exchange_at g.exchanges g.current)
 waits_of w g (Some o) is = rw is.current (some_waits (asker_clock w) (ends_of w o.tag) o (g.exchanges o.tag) is.of)
 
--- a lane that is explained has its cell
+-- a lane with the invariant has its cell
 cell_of_good : (l : Laws) (w : LaneOf) (g : Ghost) → LaneGood w g → IsCellOf w (run_of w g)
 cell_of_good l w g h = record {
   packets = of_lane l w g h;
@@ -104,7 +105,7 @@ cell_of_good l w g h = record {
   waits = waits_of w g w.asker.caller.asked h.body.asked;
 }
 
--- every list of steps goes on
+-- every list of steps keeps the invariant
 run_goes : (l : Laws) (w : LaneOf) (g : Ghost) (ss : List LaneStepOf) → MayRun w ss → LaneGood w g
     → IsSomeAnd (cells_along w ss (Some (run_of w g))) (IsCellOf (lane_run w ss))
 run_goes l w g [] may h = cell_of_good l w g h

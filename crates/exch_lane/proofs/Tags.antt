@@ -1,4 +1,4 @@
--- How one tag goes through ticks, repeats, a beginning and restarts.
+-- One tag in ticks, repeats, a beginning and restarts.
 use Rattle.std.proofs.Common.{◌≡◌, ◌∙◌, ◌≤◌, ℕ, Bool, true, false, Option, Some, None, IfSome, inl, inr, refl, sym, arith}
 use Rattle.exch_lane.specs.Clocks.{Clock, MayBeat, clock_after_unit, HasElapsedAtMost}
 use Rattle.exch_lane.proofs.AskerTicks.{asker_at_none, asker_begins, asker_beats, asker_resends, asker_restarts, nothing_held}
@@ -6,7 +6,7 @@ use Rattle.exch_lane.proofs.Elapsed.{within_repeats}
 use Rattle.exch_lane.proofs.TakerTicks.{nothing_kept, taker_at_none, taker_begins, taker_beats, taker_resends, taker_restarts}
 use Rattle.exch_lane.proofs.Views.{Exchange, IsEmptyTag, IsExchange, IsSettled, IsSpan, IsWording, TagOf, TagView, asker_time, resent, rested, taker_time, view_ticked}
 
--- time goes on by a unit, and each end counts the tick or misses it
+-- a unit of time passes, and each end counts the tick or misses it
 span_beats : (counts : Bool) (c : Clock) (e : Exchange) → IsSpan c.now e → IsSpan (clock_after_unit counts c).now e
 span_beats counts c e h = let past = h.past in record { order = h.order; span = h.span; past = omega arith }
 
@@ -47,7 +47,7 @@ pub view_leaves : (o : Option Exchange) (v : TagView) → IfSome o (IsSettled v.
 view_leaves None v settled h = h
 view_leaves (Some e) v settled h = record { wording = h.wording; span = h.span; asker = h.asker; taker = h.taker; settled = λ _. settled }
 
--- what is left under a tag that has rested
+-- a tag that has rested has nothing left
 pub view_rested : (o : Option Exchange) (v : TagView) → v.asker.deaf ≡ 0 → v.asker.rest ≡ 0 → TagOf v o → IsEmptyTag v
 view_rested None v hears rest h = h
 view_rested (Some e) v hears rest h =

@@ -1,4 +1,4 @@
--- A packet of a request comes to the taker.
+-- A packet of a request arrives at the taker.
 use Rattle.std.proofs.Common.{◌≡◌, ◌<◌, ℕ, List, Option, Some, IfSome, length, slice_set, inl, inr, refl, sym, subst}
 use Rattle.std.specs.List.{AllByRecursion}
 use Rattle.std.proofs.lemmas.Bool.Decides.{eqb_tells}
@@ -46,7 +46,7 @@ taker_turns w g exchanges taker packets entries h kept requests tags living aske
   quiet = h.quiet;
 }
 
--- what is held of a request changes
+-- the held packets of a request change
 silent_tags : (w : LaneOf) (g : Ghost) (tag : ℕ) (e : Exchange) (o : Option Held) (packets : List Sent) → tag < 8 → g.exchanges tag ≡ Some e
     → w.taker.deaf ≡ 0 → IfSome o (IsRequests (taker_clock w) (ends_of w tag) e) → LaneGood w g
     → (t : ℕ) → t < 8 → TagOf (view_of (taker_turned w (record w.taker { requests = slice_set w.taker.requests tag o }) packets w.entries) g.current t) (g.exchanges t)

@@ -1,4 +1,4 @@
--- What a packet of a request is for the taker.
+-- The outcome of a packet of a request at the taker.
 use Rattle.std.proofs.Common.{◌≡◌, ◌≤◌, ◌<◌, ◌++◌, ◌∷◌, [], ℕ, true, List, Option, Some, None, IfSome, length, slice_set, refl, sym, ap, subst}
 use Rattle.pldm_base.specs.Limits.{reply_limit}
 use Rattle.std.proofs.lemmas.Bool.{eq-eqb}
@@ -23,7 +23,7 @@ use Rattle.exch_lane.proofs.TakerHears.{goes_nowhere, taker_holds, taker_turned}
 use Rattle.exch_lane.proofs.TakerTakes.{RequestCame, came_of, taker_repeats, taker_takes}
 use Rattle.exch_lane.proofs.Views.{Ends, Exchange, IsKept, IsPart, IsRequests, IsWording, reply_of, request_of}
 
--- what the taker does by a row, and what that is for the cell
+-- the effect of an outcome on the taker and on the cell
 abbrev pub DoesRow : LaneOf → Ghost → List ℕ → TakerRow → Type 0
 DoesRow w g reply row = GoesOn (taker_does w reply row) (cell_at_taker reply row (run_of w g))
 
@@ -37,7 +37,7 @@ request_identifier l x e h = ap identifier_in (request_reads l x e h)
 reply_identifier : (l : Laws) (x : Ends) (e : Exchange) (r : List ℕ) → IsWording x.unit e → identifier_of (reply_of x e r) ≡ Some e.identifier
 reply_identifier l x e r h = ap identifier_in (reply_reads l x e r h)
 
--- a whole request is new or there again
+-- a complete request is new or repeated
 row_again : (w : LaneOf) (g : Ghost) (tag : ℕ) (e : Exchange) (reply : List ℕ) (k : KeptAnswer) → IsKept (taker_clock w) (ends_of w tag) e k
     → RequestCame w g tag e → LaneGood w g
     → DoesRow w g reply (TakerRow.Repeats (slice_set w.taker.requests tag None) k.reply)
@@ -72,7 +72,7 @@ row_whole l w g tag e reply few c h =
     (subst (λ a. DoesRow w g reply (taker_asked (slice_set w.taker.requests tag None) (request_of (ends_of w tag) e) (request_head e) e.body a)) (sym heard)
     (row_asked l w g tag e reply (kept_at w.taker.kept tag) refl k.taker.kept few c h))
 
--- what its assembly says of a packet of a request
+-- the outcome of a packet of a request, from that of its assembly
 row_fed : (l : Laws) (w : LaneOf) (g : Ghost) (tag : ℕ) (e : Exchange) (reply : List ℕ) (f : Fed) (o : Option Held)
     → Comes w.unit (request_of (ends_of w tag) e) f o → length reply ≤ reply_limit w.unit → RequestCame w g tag e → LaneGood w g
     → DoesRow w g reply (taker_fed (slice_set w.taker.requests tag o) w.taker.kept f)
@@ -84,7 +84,7 @@ row_fed l w g tag e reply Open o comes few c h =
 row_fed l w g tag e reply (Dropped cause) o comes few c h =
     taker_holds w g tag e o w.packets c.low c.is c.hears (holds_requests (taker_clock w) (ends_of w tag) e (Dropped cause) o h.body.taker_time c.soon comes) h.body.packets h
 
--- the row of a packet of a request
+-- the outcome of a packet of a request
 row_is : (l : Laws) (w : LaneOf) (tag : ℕ) (e : Exchange) (s : Sent) (p : IsPacketOf w.unit (request_of (ends_of w tag) e) s.bytes) → w.taker.deaf ≡ 0 → IsWording w.unit e → tag < 8
     → taker_row_in w s.bytes ≡ taker_fed (slice_set w.taker.requests tag (held_after w.unit (held_at w.taker.requests tag) p.packet)) w.taker.kept (feed_outcome w.unit (held_at w.taker.requests tag) p.packet)
 row_is l w tag e s p hears wording low =
@@ -93,7 +93,7 @@ row_is l w tag e s p hears wording low =
     let under : p.packet.head.tag ≡ tag = piece_tag l w.unit (request_of (ends_of w tag) e) p.number p.packet lawful p.at in
     rw (hears, arrives, under) refl
 
--- a packet of a request comes to the hearing taker
+-- a packet of a request arrives at a taker that isn't deaf
 pub hears_request : (l : Laws) (w : LaneOf) (g : Ghost) (tag : ℕ) (e : Exchange) (reply : List ℕ) (s : Sent)
     → IsPacketOf w.unit (request_of (ends_of w tag) e) s.bytes → length reply ≤ reply_limit w.unit → RequestCame w g tag e → LaneGood w g
     → DoesRow w g reply (taker_row_in w s.bytes)

@@ -1,4 +1,4 @@
--- A whole request comes to the taker: it is there again, or it is new and is that of the cell.
+-- A complete request arrives at the taker: it is repeated, or it is new and is that of the cell.
 use Rattle.std.proofs.Common.{◌≡◌, ◌∙◌, ◌+◌, ◌≤◌, ◌<◌, ◌++◌, ◌∷◌, [], ℕ, List, Option, Some, None, IsSomeAnd, length, slice_set, inl, inr, refl, sym, subst, arith}
 use Rattle.pldm_base.specs.Limits.{reply_limit}
 use Rattle.std.specs.List.{AllByRecursion}
@@ -19,7 +19,7 @@ use Rattle.exch_lane.proofs.Packets.{packets_grow, reply_sent}
 use Rattle.exch_lane.proofs.TakerHears.{taker_holds, taker_turned, taker_turns}
 use Rattle.exch_lane.proofs.Views.{Exchange, IsExchange, IsKept, TagOf, answered_with, reply_of}
 
--- where a packet of the request of an exchange came to the hearing taker
+-- a packet of the request of an exchange arrived at the taker, which isn't deaf
 pub record RequestCame (w : LaneOf) (g : Ghost) (tag : ℕ) (e : Exchange) : Type 0 where
   pub low : tag < 8
   pub is : g.exchanges tag ≡ Some e
@@ -79,7 +79,7 @@ takes_good w g tag e reply few none c h =
     (λ o k. asked_grows w.unit (asker_clock w) w.asker_eid w.taker_eid w.asker.deaf g tag e e.last (Some reply) o c.is k))
     (some_maps g.current (IsCurrent g) (IsCurrent (record { exchanges = put tag (answered_with reply e) g.exchanges; current = g.current })) h.body.current (λ t k. current_grows g g.current tag (answered_with reply e) t k))
 
--- it is that of the cell
+-- the request is that of the cell
 takes_runs : (w : LaneOf) (g : Ghost) (tag : ℕ) (e : Exchange) (reply : List ℕ) → e.reply ≡ None → g.exchanges tag ≡ Some e → g.current ≡ Some tag
     → cell_take e.command e.body reply (run_of w g) ≡ Some (run_of (taken_lane w tag e reply) (record { exchanges = put tag (answered_with reply e) g.exchanges; current = g.current }))
 takes_runs w g tag e reply none is current = rw (current, is, none, eq-eqb e.command e.command refl, nat_list_eq_equiv.refl e.body, eq-eqb tag tag refl) refl

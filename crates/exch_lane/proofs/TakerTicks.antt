@@ -1,4 +1,4 @@
--- How time goes on for the taker's side of one tag.
+-- The taker's side of one tag over time.
 use Rattle.std.proofs.Common.{◌≡◌, ◌∙◌, ◌+◌, ◌-◌, ◌≤◌, ◌<◌, Bool, true, false, Option, Some, None, IfSome, is_some, inl, inr, refl, sym, arith}
 use Rattle.std.proofs.lemmas.Bool.{cases_lt, lt-leb, le-leb, lt-ltb, le-ltb}
 use Rattle.mctp_reasm.specs.Held.{held_tick}
@@ -83,7 +83,7 @@ taker_resends c x e w past h = record {
   deaf = h.deaf;
 }
 
--- nothing old is left where a tag has rested
+-- nothing old is left if a tag has rested
 pub nothing_kept : (c : Clock) (x : Ends) (e : Exchange) (w : TakerView) → e.last + 40 ≤ c.now → IsTaker c x e w → (w.requests ≡ None) × (w.kept ≡ None)
 nothing_kept c x e w far h = (
   none_of w.requests (IsRequests c x e) h.requests (λ o r. let soon = within_assembly c (e.last + 8) o.age r.soon (let young = r.age in omega arith) in omega arith),

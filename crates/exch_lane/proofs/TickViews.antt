@@ -1,4 +1,4 @@
--- What a tick makes of an end is what it makes of each tag.
+-- The effect of a tick on an end is its effect on each tag.
 use Rattle.std.proofs.Common.{◌≡◌, ◌≢◌, ◌∙◌, ◌-◌, ◌≤◌, ◌<◌, ℕ, zero, suc, Bool, true, false, List, [], ◌∷◌, length, map, get_or, slice_set, inl, inr, refl, arith}
 use Rattle.std.proofs.lemmas.Bool.{cases_lt, le-leb, lt-leb}
 use Rattle.std.proofs.lemmas.List.{get_or-set_other, get_or-set_same, length-map}
@@ -40,7 +40,7 @@ rest_anew rests t h lt = let long = length-map rests (λ rest. rest - 1) in get_
 pub rest_of_others : (rests : List ℕ) (tag t : ℕ) → t ≢ tag → get_or (slice_set (rests_after_tick rests) tag 40) t 0 ≡ get_or rests t 0 - 1
 rest_of_others rests tag t other = get_or-set_other (rests_after_tick rests) tag t 40 0 other ∙ rest_falls rests t
 
--- the asker: it waits, or it hears and one tag may rest anew
+-- the asker: it waits, or it isn't deaf and one tag's rest may start again
 pub asker_wait_view : (a : AskerOf) (t : ℕ) → 1 < a.deaf → asker_view (record a { deaf = a.deaf - 1 }) t ≡ asker_at true (asker_view a t)
 asker_wait_view a t more = rw (lt-leb a.deaf 1 more) refl
 

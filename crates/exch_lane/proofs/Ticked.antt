@@ -1,4 +1,4 @@
--- What a tick makes of a lane, whatever its asker does.
+-- The effect of a tick on a lane, for any action of its asker.
 use Rattle.std.proofs.Common.{◌≡◌, ◌+◌, ◌<◌, ℕ, Bool, List, Option, IfSome, length, refl, sym, subst}
 use Rattle.std.specs.List.{AllByRecursion}
 use Rattle.pldm_exch.specs.Caller.{IsCaller, Open, new_caller}
@@ -16,7 +16,7 @@ use Rattle.exch_lane.proofs.Views.{AskerView, Ends, Exchange, TagOf, TagView, Ta
 abbrev pub ticked_lane : LaneOf → (asker taker : Bool) → AskerOf → List Sent → LaneOf
 ticked_lane w asker taker a packets = record (tick_begins w asker taker) { asker = a; packets = packets }
 
--- what is true of the asker after each tick
+-- the facts about the asker after each tick
 pub record IsTicked (w : LaneOf) (asker : Bool) (a : AskerOf) : Type 0 where
   pub own : a.caller.own ≡ w.asker_eid
   pub peer : a.caller.peer ≡ w.taker_eid

@@ -17,7 +17,7 @@ use Rattle.exch_lane.proofs.Resends.{resends}
 use Rattle.exch_lane.proofs.Views.{Exchange}
 use Rattle.exch_lane.proofs.Waits.{TicksRow, goes_wait}
 
--- what the tick of its caller is for the hearing asker
+-- the effect of its caller's tick on an asker that isn't deaf
 abbrev pub CallsRow : LaneOf → Ghost → Bool → Option Open → Type 0
 CallsRow w g taker o = TicksRow w g true taker (asker_called (heard_tick w (caller_tick_for w.asker.caller o).0) (caller_tick_for w.asker.caller o).1)
 

@@ -1,4 +1,4 @@
--- One tag of a lane: its latest exchange, and what both ends hold under it.
+-- One tag of a lane: its latest exchange, and the data of both ends under it.
 use Rattle.std.proofs.Common.{◌≡◌, ◌+◌, ◌-◌, ◌≤◌, ◌<◌, ℕ, Bool, true, false, nat_le, if◌then◌else◌, List, Option, Some, None, IfSome, IsSomeAnd, is_some, length, take, ◌⊎◌}
 use Rattle.mctp_wire.specs.declared.unit.Unit.{«Unit»}
 use Rattle.pldm_base.specs.Limits.{reply_limit}
@@ -8,14 +8,15 @@ use Rattle.pldm_base.specs.Header.{pldm_bytes}
 use Rattle.pldm_exch.specs.Kept.{KeptAnswer, kept_tick}
 use Rattle.exch_lane.specs.Clocks.{Clock, clock_after_unit, HasElapsedAtMost}
 
--- who asks whom, under which tag
+-- the two nodes, and the tag
 pub record Ends : Type 0 where
   pub unit : «Unit»
   pub asker : ℕ
   pub taker : ℕ
   pub tag : ℕ
 
--- the latest exchange of a tag: its request, when that was first and last sent, and what the taker answered
+-- the latest exchange of a tag: its request, the times of its first and last sending, and the
+-- taker's answer
 pub record Exchange : Type 0 where
   pub identifier : ℕ
   pub command : ℕ
@@ -52,13 +53,13 @@ resent now e = record e { last = now }
 abbrev pub answered_with : List ℕ → Exchange → Exchange
 answered_with r e = record e { reply = Some r }
 
--- one tag as its asker has it
+-- one tag at its asker
 pub record AskerView : Type 0 where
   pub deaf : ℕ
   pub rest : ℕ
   pub replies : Option Held
 
--- one tag as its taker has it
+-- one tag at its taker
 pub record TakerView : Type 0 where
   pub deaf : ℕ
   pub kept : Option KeptAnswer
@@ -84,11 +85,12 @@ abbrev pub taker_at : Bool → TakerView → TakerView
 taker_at true w = taker_view_tick w
 taker_at false w = w
 
--- the tag rests anew
+-- the tag's rest starts again
 abbrev pub rested : AskerView → AskerView
 rested w = record w { rest = 40 }
 
--- one tag: time, who asks whom, its latest exchange, both ends, and whether that exchange stands in the cell
+-- one tag: time, the two nodes, its latest exchange, both ends, and whether that exchange is in the
+-- cell
 pub record TagView : Type 0 where
   pub now : ℕ
   pub asker_miss : ℕ
@@ -104,7 +106,7 @@ asker_time v = record { now = v.now; since_miss = v.asker_miss }
 abbrev pub taker_time : TagView → Clock
 taker_time v = record { now = v.now; since_miss = v.taker_miss }
 
--- time goes on by a unit
+-- a unit of time passes
 abbrev pub view_ticked : TagView → Bool → Bool → TagView
 view_ticked v asker taker =
     record v {
@@ -122,13 +124,13 @@ pub record IsPart (u : «Unit») (m : MessageOf) (ps : List PacketOf) : Type 0 w
   pub proper : count < length (pieces u m)
   pub is : ps ≡ take count (pieces u m)
 
--- what is held of the request
+-- facts about the held packets of the request
 pub record IsRequests (c : Clock) (x : Ends) (e : Exchange) (h : Held) : Type 0 where
   pub part : IsPart x.unit (request_of x e) h.packets
   pub age : h.age ≤ 8
   pub soon : HasElapsedAtMost c (e.last + 8) h.age
 
--- what is held of the reply
+-- facts about the held packets of the reply
 pub record IsReplies (c : Clock) (x : Ends) (e : Exchange) (h : Held) : Type 0 where
   pub part : IsSomeAnd e.reply (λ r. IsPart x.unit (reply_of x e r) h.packets)
   pub age : h.age ≤ 8
@@ -142,13 +144,13 @@ pub record IsKept (c : Clock) (x : Ends) (e : Exchange) (k : KeptAnswer) : Type 
   pub old : e.first + k.age ≤ c.now
   pub soon : HasElapsedAtMost c (e.last + 8) k.age
 
--- when the request was sent
+-- the times at which the request was sent
 pub record IsSpan (now : ℕ) (e : Exchange) : Type 0 where
   pub order : e.first ≤ e.last
   pub span : e.last ≤ e.first + 14
   pub past : e.last ≤ now
 
--- the exchange can be written
+-- the exchange can be encoded
 pub record IsWording (u : «Unit») (e : Exchange) : Type 0 where
   pub identifier : e.identifier ≤ 31
   pub body : length e.body ≤ reply_limit u
@@ -160,7 +162,7 @@ pub record IsAsker (c : Clock) (x : Ends) (e : Exchange) (w : AskerView) : Type 
   pub rest : w.deaf ≡ 0 → e.last + 40 ≤ c.now + w.rest
   pub deaf : 0 < w.deaf → (e.last + 40 ≤ c.now + w.deaf) × (w.rest ≡ 0) × (w.replies ≡ None)
 
--- the taker's side: an answer is kept as long as its request can come
+-- the taker's side: an answer is kept as long as its request can arrive
 pub record IsTaker (c : Clock) (x : Ends) (e : Exchange) (w : TakerView) : Type 0 where
   pub requests : IfSome w.requests (IsRequests c x e)
   pub kept : IfSome w.kept (IsKept c x e)

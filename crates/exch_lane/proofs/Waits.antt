@@ -1,4 +1,4 @@
--- A tick in which the asker sends nothing: where it is quiet then, the cell is emptied.
+-- A tick in which the asker sends nothing: if it is then quiet, the cell is emptied.
 use Rattle.std.proofs.Common.{◌≡◌, ◌∙◌, ◌<◌, ◌==◌, ◌||◌, ℕ, Bool, true, false, if◌then◌else◌, List, Option, Some, None, IfSome, is_none, is_some, inl, inr, refl, sym, ap, arith}
 use Rattle.std.proofs.lemmas.Bool.{eqb-true}
 use Rattle.std.proofs.lemmas.Bool.Decides.{eqb_tells}
@@ -18,7 +18,7 @@ use Rattle.exch_lane.proofs.Tags.{view_leaves}
 use Rattle.exch_lane.proofs.Ticked.{IsAskedThen, IsTicked, tag_ticks, ticked_lane, ticks_body}
 use Rattle.exch_lane.proofs.Views.{Exchange, IsSettled, TagOf, TagView, asker_at}
 
--- what is true of an asker after a tick in which it sends nothing
+-- the facts about an asker after a tick in which it sends nothing
 pub record IsWaiting (w : LaneOf) (g : Ghost) (asker : Bool) (a : AskerOf) : Type 0 where
   pub ticked : IsTicked w asker a
   pub view : (t : ℕ) → t < 8 → asker_view a t ≡ asker_at asker (asker_view w.asker t)
@@ -27,7 +27,7 @@ pub record IsWaiting (w : LaneOf) (g : Ghost) (asker : Bool) (a : AskerOf) : Typ
   pub unquiet : a.deaf ≡ 0 → is_quiet a.caller ≡ false → is_none g.current ≡ false
   pub rested : a.deaf ≡ 0 → is_quiet a.caller ≡ true → IfSome g.current (λ t. rest_at a.caller t ≡ 0)
 
--- what a tick of the asker makes of the lane and of its cell
+-- the effect of a tick of the asker on the lane and on its cell
 abbrev pub TicksRow : LaneOf → Ghost → (asker taker : Bool) → AskerTick → Type 0
 TicksRow w g asker taker row = GoesOn (asker_ticks (tick_begins w asker taker) row) (cell_ticks row (run_of w g))
 
@@ -37,7 +37,7 @@ waiting_body w g asker taker a may allowed h k =
     ticks_body w g asker taker a g.exchanges w.packets may allowed h k.ticked (λ t lt. tag_ticks w g asker taker a w.packets t may allowed h lt (k.view t lt))
     (packets_later w.unit w.now w.asker_eid w.taker_eid g.exchanges w.packets h.packets) k.asked h.current
 
--- where it hears and isn't quiet
+-- it isn't deaf and isn't quiet
 busy_quiet : (a : AskerOf) → a.deaf ≡ 0 → is_asker_quiet a ≡ false → is_quiet a.caller ≡ false
 busy_quiet a z busy = rw z at busy
 
@@ -49,7 +49,7 @@ busy_good w g asker taker a body k busy = record {
   quiet = λ z. busy_quiet a z busy ∙ sym (k.unquiet z (busy_quiet a z busy));
 }
 
--- where it is quiet, each exchange is settled
+-- if it is quiet, each exchange is settled
 rested_settled : (o : Option Exchange) (v : TagView) → v.asker.deaf ≡ 0 → v.asker.rest ≡ 0 → TagOf v o → IfSome o (IsSettled v.now)
 rested_settled None v hears rest h = tt
 rested_settled (Some e) v hears rest h = let far = h.asker.rest hears in inr (omega (arith, far, rest))

@@ -1,4 +1,4 @@
--- Worked lanes, by computation: what the definitions must say of them.
+-- Example lanes, by computation.
 use Rattle.std.proofs.Common.{◌≡◌, ℕ, true, false, List, [], ◌∷◌, ◌++◌, replicate, length, Some, None, refl}
 use Rattle.mctp_wire.specs.declared.unit.Unit.TheVariants.{U64}
 use Rattle.mctp_reasm.specs.Pieces.{pieces_from}
@@ -8,7 +8,7 @@ use Rattle.exch_lane.specs.Steps.{lane_run, may_step}
 use Rattle.exch_lane.specs.declared.step.End.TheVariants as ends
 use Rattle.exch_lane.specs.declared.step.LaneFault.TheVariants as faults
 
--- so many ticks that both ends count
+-- `n` ticks that both ends count
 ticks : ℕ → List LaneStepOf
 ticks n = replicate n (LaneStepOf.Tick true true)
 
@@ -16,14 +16,14 @@ ticks n = replicate n (LaneStepOf.Tick true true)
 repeated : List LaneStepOf
 repeated = LaneStepOf.Begin 16 (7 ∷ []) ∷ LaneStepOf.Deliver 1 ends.Taker (0 ∷ 1 ∷ []) ∷ ticks 6
 
--- the repeat arrives, with another reply at hand; then the second and the first reply
+-- the repeat arrives, and another reply is at hand; then the second and the first reply arrive
 replied : List LaneStepOf
 replied = LaneStepOf.Deliver 3 ends.Taker (0 ∷ 2 ∷ []) ∷ LaneStepOf.Deliver 4 ends.Asker [] ∷ LaneStepOf.Deliver 2 ends.Asker [] ∷ []
 
 after_reply : LaneOf
 after_reply = lane_run (lane_new U64 8 9) (repeated ++ replied)
 
--- four packets were sent, and the request was taken once and its first reply learnt once
+-- four packets were sent, and the request was taken once and its first reply received once
 four_packets : length after_reply.packets ≡ 4
 unfolding after_reply pieces_from repeated replied ticks
 four_packets = refl
@@ -45,7 +45,8 @@ nine_units : may_step (lane_run (lane_new U64 8 9) (repeated ++ ticks 3)) (LaneS
 unfolding pieces_from repeated ticks
 nine_units = refl
 
--- a request that gets no reply is given up after 18 ticks, and 34 later its cell is dropped and the next may begin
+-- a request that gets no reply is given up after 18 ticks, and 34 later its cell is dropped and the
+-- next may begin
 unanswered_for : ℕ → List LaneStepOf
 unanswered_for n = LaneStepOf.Begin 16 [] ∷ ticks n
 

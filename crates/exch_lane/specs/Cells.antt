@@ -1,5 +1,5 @@
--- The cell of a lane: one request and its reply, without tags, packets or time. What a lane's steps are for its cell is
--- a function that gives None where the cell doesn't allow it.
+-- The cell of a lane: one request and its reply, without tags, packets or time. Each step of the
+-- lane maps to a function on its cell, which gives None if the cell doesn't allow the step.
 use Rattle.std.specs.Prelude.{ℕ, ◌==◌, ◌&&◌, Bool, true, false, if◌then◌else◌, List, [], ◌∷◌, ◌++◌, nat_eq, Option, Some, None, is_some}
 use Rattle.std.specs.Cmp.Lexicographic.{pointwise}
 use Rattle.std.specs.Option.{option_and_then}
@@ -11,19 +11,19 @@ use Rattle.exch_lane.specs.Steps.{asker_row_in, asker_tick_in, lane_after, taker
 use Rattle.exch_lane.specs.declared.step.End.{End}
 use Rattle.exch_lane.specs.declared.step.End.TheVariants as ends
 
--- What the layer above sees of a lane: nothing, a request, or a request and its reply. It is live while its asker waits
--- for the reply.
+-- The layer above a lane sees nothing, a request, or a request and its reply. The cell is live
+-- while its asker waits for the reply.
 pub data Cell : Type 0 where
   Empty : Cell
   Asked : (command : ℕ) → (body : List ℕ) → (live : Bool) → Cell
   Answered : (command : ℕ) → (body reply : List ℕ) → (live : Bool) → Cell
 
--- a cell and what happened to it
+-- a cell and its history
 pub record CellRun : Type 0 where
   pub cell : Cell
   pub entries : List LaneEntryOf
 
--- a cell to which nothing happened yet
+-- an empty cell with an empty history
 abbrev pub no_cell_yet : CellRun
 no_cell_yet = record { cell = Cell.Empty; entries = [] }
 
@@ -31,15 +31,15 @@ no_cell_yet = record { cell = Cell.Empty; entries = [] }
 abbrev pub same_bytes : List ℕ → List ℕ → Bool
 same_bytes = pointwise nat_eq
 
--- the cell becomes this one, and nothing is noted
+-- the cell is replaced, and nothing is recorded
 abbrev pub cell_run_with : CellRun → Cell → Option CellRun
 cell_run_with run cell = Some (record run { cell = cell })
 
--- the cell becomes this one, and the entry is noted
+-- the cell is replaced, and the entry is recorded
 abbrev pub cell_run_with_entry : CellRun → Cell → LaneEntryOf → Option CellRun
 cell_run_with_entry run cell entry = Some (record { cell = cell; entries = run.entries ++ entry ∷ [] })
 
--- A request is asked, where the cell is empty.
+-- A request is asked, if the cell is empty.
 abbrev pub ask_in : CellRun → (command : ℕ) → (body : List ℕ) → Cell → Option CellRun
 ask_in run command body Cell.Empty = cell_run_with_entry run (Cell.Asked command body true) (LaneEntryOf.Asked command body)
 ask_in run command body _ = None
@@ -47,7 +47,7 @@ ask_in run command body _ = None
 abbrev pub cell_ask : (command : ℕ) → (body : List ℕ) → CellRun → Option CellRun
 cell_ask command body run = ask_in run command body run.cell
 
--- A request is taken and answered, where the cell holds this very request and no reply.
+-- A request is taken and answered, if the cell holds this request and no reply.
 abbrev pub take_in : CellRun → (command : ℕ) → (body reply : List ℕ) → Cell → Option CellRun
 take_in run command body reply (Cell.Asked asked data_of live) =
     if (command == asked) && same_bytes body data_of then
@@ -58,7 +58,7 @@ take_in run command body reply _ = None
 abbrev pub cell_take : (command : ℕ) → (body reply : List ℕ) → CellRun → Option CellRun
 cell_take command body reply run = take_in run command body reply run.cell
 
--- A reply is learnt, where the cell is live and holds this very reply.
+-- A reply is received, if the cell is live and holds this reply.
 abbrev pub learn_in : CellRun → (reply : List ℕ) → Cell → Option CellRun
 learn_in run reply (Cell.Answered command body answer true) =
     if same_bytes reply answer then cell_run_with_entry run Cell.Empty (LaneEntryOf.Learnt reply) else None
@@ -67,7 +67,7 @@ learn_in run reply _ = None
 abbrev pub cell_learn : (reply : List ℕ) → CellRun → Option CellRun
 cell_learn reply run = learn_in run reply run.cell
 
--- Its asker waits no longer, where the cell is live.
+-- The cell's asker stops waiting, if the cell is live.
 abbrev pub close_in : CellRun → Cell → Option CellRun
 close_in run (Cell.Asked command body true) = cell_run_with run (Cell.Asked command body false)
 close_in run (Cell.Answered command body reply true) = cell_run_with run (Cell.Answered command body reply false)
@@ -80,7 +80,7 @@ cell_close run = close_in run run.cell
 abbrev pub cell_give_up : CellRun → Option CellRun
 cell_give_up run = cell_close run
 
--- A closed cell is emptied: nothing of its request can come any more.
+-- A closed cell is emptied: no packet of its request can still arrive.
 abbrev pub drop_in : CellRun → Cell → Option CellRun
 drop_in run (Cell.Asked command body false) = cell_run_with run Cell.Empty
 drop_in run (Cell.Answered command body reply false) = cell_run_with run Cell.Empty
@@ -89,7 +89,7 @@ drop_in run _ = None
 abbrev pub cell_drop : CellRun → Option CellRun
 cell_drop run = drop_in run run.cell
 
--- the node hears, no request is open, and nothing of the last one can come any more
+-- the node isn't deaf, no request is open, and no packet of the last one can still arrive
 abbrev pub is_asker_quiet : AskerOf → Bool
 is_asker_quiet a = (a.deaf == 0) && is_quiet a.caller
 
@@ -98,12 +98,12 @@ abbrev pub is_empty_cell : Cell → Bool
 is_empty_cell Cell.Empty = true
 is_empty_cell _ = false
 
--- Where a tick leaves a hearing and quiet asker, a cell that isn't empty is dropped.
+-- If the asker isn't deaf and is quiet after a tick, a cell that isn't empty is dropped.
 abbrev pub cell_rests : AskerOf → CellRun → Option CellRun
 cell_rests a run =
     if is_asker_quiet a then (if is_empty_cell run.cell then Some run else cell_drop run) else Some run
 
--- what a packet at the taker is for the cell
+-- the effect on the cell of a packet at the taker
 abbrev pub cell_at_taker : (reply : List ℕ) → TakerRow → CellRun → Option CellRun
 cell_at_taker reply (TakerRow.Silent requests) run = Some run
 cell_at_taker reply (TakerRow.Repeats requests answer) run = Some run
@@ -111,12 +111,12 @@ cell_at_taker reply (TakerRow.TakesUp requests m head body) run =
     if head.pldm_type == 5 then cell_take head.command body reply run else None
 cell_at_taker reply (TakerRow.Strays requests m) run = None
 
--- what a packet at the asker is for the cell
+-- the effect on the cell of a packet at the asker
 abbrev pub cell_at_asker : AskerRow → CellRun → Option CellRun
 cell_at_asker (AskerRow.Ignores replies) run = Some run
 cell_at_asker (AskerRow.Learns replies caller heard) run = cell_learn heard.reply run
 
--- what a packet at an end is for the cell
+-- the effect on the cell of a packet at an end
 abbrev pub cell_after_packet : LaneOf → End → (reply : List ℕ) → List ℕ → CellRun → Option CellRun
 cell_after_packet w ends.Asker reply bytes run = cell_at_asker (asker_row_in w bytes) run
 cell_after_packet w ends.Taker reply bytes run = cell_at_taker reply (taker_row_in w bytes) run
@@ -125,18 +125,18 @@ abbrev pub cell_delivers : LaneOf → End → (reply : List ℕ) → Option Sent
 cell_delivers w end reply None run = Some run
 cell_delivers w end reply (Some p) run = cell_after_packet w end reply p.bytes run
 
--- what a tick of the asker is for the cell: never both a request given up and a cell dropped
+-- the effect on the cell of a tick of the asker: never both a request given up and a cell dropped
 abbrev pub cell_ticks : AskerTick → CellRun → Option CellRun
 cell_ticks (AskerTick.Waits a) run = cell_rests a run
 cell_ticks (AskerTick.Resends a m) run = Some run
 cell_ticks (AskerTick.GivesUp a) run = cell_give_up run
 
--- an asker that starts anew waits for nothing
+-- an asker that restarts waits for nothing
 abbrev pub cell_closes_if : Bool → CellRun → Option CellRun
 cell_closes_if true run = cell_close run
 cell_closes_if false run = Some run
 
--- What a step of the lane is for its cell, and None where the cell doesn't allow it.
+-- The effect of a step of the lane on its cell; None if the cell doesn't allow it.
 abbrev pub cell_along : LaneOf → LaneStepOf → CellRun → Option CellRun
 cell_along w (LaneStepOf.Begin command body) run = cell_ask command body run
 cell_along w LaneStepOf.Abandon run = cell_close run
@@ -145,7 +145,7 @@ cell_along w (LaneStepOf.Tick asker taker) run = cell_ticks (asker_tick_in w ask
 cell_along w (LaneStepOf.Restart ends.Asker) run = cell_closes_if (is_some w.asker.caller.asked) run
 cell_along w (LaneStepOf.Restart ends.Taker) run = Some run
 
--- The cell along a lane's steps.
+-- The cell after a lane's steps.
 abbrev pub cells_along : LaneOf → List LaneStepOf → Option CellRun → Option CellRun
 cells_along w [] run = run
 cells_along w (s ∷ ss) run = cells_along (lane_after w s) ss (option_and_then (cell_along w s) run)

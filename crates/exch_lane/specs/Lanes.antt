@@ -15,22 +15,24 @@ pub record Sent : Type 0 where
   pub date : ℕ
   pub bytes : List ℕ
 
--- A packet lives for 8 units of time after its sending: this is the last unit at which it may come.
+-- A packet lives for 8 units of time after its sending. This is the last unit at which it may
+-- arrive.
 abbrev pub lives_until : Sent → ℕ
 lives_until p = p.date + 8
 
--- it may still come
+-- it may still arrive
 abbrev pub IsAlive : (now : ℕ) → Sent → Type 0
 IsAlive now p = now ≤ lives_until p
 
--- what happened: a request was asked, a request was taken and answered, a reply was learnt
+-- an entry of a history: a request was asked, a request was taken and answered, or a reply was
+-- received
 pub data LaneEntryOf : Type 0 where
   Asked : (command : ℕ) → (body : List ℕ) → LaneEntryOf
   Taken : (command : ℕ) → (body reply : List ℕ) → LaneEntryOf
   Learnt : (reply : List ℕ) → LaneEntryOf
 
--- The lane: the network's transmission unit, who asks whom, the time, the ticks of each end since it last missed one, both
--- ends, every packet ever sent, in order, and all that happened.
+-- The lane: the network's transmission unit, the two nodes, the time, the ticks of each end since
+-- its last missed one, both ends, every packet that was sent, in order, and the history.
 pub record LaneOf : Type 0 where
   pub unit : «Unit»
   pub asker_eid : ℕ
@@ -43,7 +45,7 @@ pub record LaneOf : Type 0 where
   pub packets : List Sent
   pub entries : List LaneEntryOf
 
--- what can happen next; a tick says which ends count it
+-- the next step; a tick says which ends count it
 pub data LaneStepOf : Type 0 where
   Begin : (command : ℕ) → (body : List ℕ) → LaneStepOf
   Abandon : LaneStepOf
@@ -51,7 +53,7 @@ pub data LaneStepOf : Type 0 where
   Tick : (asker taker : Bool) → LaneStepOf
   Restart : (end : End) → LaneStepOf
 
--- a step as the code has it
+-- a step of the code
 abbrev pub lane_step_of : LaneStep → LaneStepOf
 lane_step_of (steps.Begin command body) = LaneStepOf.Begin command body.items
 lane_step_of steps.Abandon = LaneStepOf.Abandon
@@ -62,13 +64,13 @@ lane_step_of (steps.Restart end) = LaneStepOf.Restart end
 abbrev pub lane_steps_of : List LaneStep → List LaneStepOf
 lane_steps_of steps = map lane_step_of steps
 
--- an entry as the code has it
+-- an entry of the code
 abbrev pub lane_entry_of : LaneEntry → LaneEntryOf
 lane_entry_of (entries.Asked command body) = LaneEntryOf.Asked command body.items
 lane_entry_of (entries.Taken command body reply) = LaneEntryOf.Taken command body.items reply.items
 lane_entry_of (entries.Learnt reply) = LaneEntryOf.Learnt reply.items
 
--- a lane in which nothing happened yet
+-- a lane with an empty history
 abbrev pub lane_new : (u : «Unit») (asker taker : ℕ) → LaneOf
 lane_new u asker taker =
     record {
@@ -88,7 +90,7 @@ lane_new u asker taker =
 abbrev pub IsEid : ℕ → Type 0
 IsEid eid = (8 ≤ eid) × (eid ≤ 254)
 
--- a lane lies between two different nodes
+-- a lane is between two different nodes
 pub record AreEnds (asker_eid taker_eid : ℕ) : Type 0 where
   pub asker : IsEid asker_eid
   pub taker : IsEid taker_eid
@@ -101,7 +103,7 @@ asker_clock w = record { now = w.now; since_miss = w.asker_since_miss }
 abbrev pub taker_clock : LaneOf → Clock
 taker_clock w = record { now = w.now; since_miss = w.taker_since_miss }
 
--- what a list that is counted from 1 has at a number
+-- the item of a list with a number, counted from 1
 abbrev pub item_numbered : {A : Type 0} → List A → ℕ → Option A
 item_numbered xs number = if nat_lt 0 number then slice_get xs (number - 1) else None
 

@@ -1,4 +1,4 @@
--- What the calls of both nodes give out, by the rows of the ends.
+-- The results of both nodes' calls, from the outcomes at the ends.
 use Rattle.std.specs.Prelude.{List, ℕ}
 use Rattle.mctp_reasm.specs.Pieces.{MessageOf}
 use Rattle.pldm_exch.specs.Caller.{CallTickOf}
@@ -12,7 +12,7 @@ abbrev pub asker_after : AskerOf → AskerRow → AskerOf
 asker_after a (AskerRow.Ignores replies) = record a { replies = replies }
 asker_after a (AskerRow.Learns replies caller heard) = record a { caller = caller; replies = replies }
 
--- what a tick asks of it
+-- the result of a tick
 abbrev pub call_tick_of : AskerTick → CallTickOf
 call_tick_of (AskerTick.Waits a) = CallTickOf.Nothing
 call_tick_of (AskerTick.Resends a m) = CallTickOf.Send m
@@ -24,13 +24,14 @@ asker_ticked (AskerTick.Waits a) = a
 asker_ticked (AskerTick.Resends a m) = a
 asker_ticked (AskerTick.GivesUp a) = a
 
--- what a packet makes the node that answers do: nothing, send a kept answer again, or take a request and answer it
+-- the action of the node that answers on a packet: do nothing, send a kept answer again, or take a
+-- request and answer it
 pub data TakerAction : Type 0 where
   Nothing : TakerAction
   Again : (answer : MessageOf) → TakerAction
   New : (command : ℕ) → (body : List ℕ) → (answer : MessageOf) → TakerAction
 
--- that, by the row
+-- the same for a `TakerRow`
 abbrev pub taker_action_in : (reply : List ℕ) → TakerRow → TakerAction
 taker_action_in reply (TakerRow.Silent requests) = TakerAction.Nothing
 taker_action_in reply (TakerRow.Repeats requests answer) = TakerAction.Again answer

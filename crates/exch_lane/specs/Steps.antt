@@ -1,4 +1,4 @@
--- What a step makes of a lane, and when it may be taken.
+-- The effect of a step on a lane, and the steps that may be taken.
 use Rattle.std.specs.Prelude.{◌≡◌, ◌⊎◌, ◌≤◌, ℕ, ◌+◌, ◌-◌, ◌^◌, ◌==◌, ◌&&◌, nat_lt, if◌then◌else◌, Bool, false, true, List, [], ◌∷◌, ◌++◌, length, map, Option, Some, None, is_some}
 use Rattle.mctp_wire.specs.declared.unit.Unit.{«Unit»}
 use Rattle.mctp_reasm.specs.Held.{Held}
@@ -29,7 +29,7 @@ packets_of_message u now m = map (sent_at now) (map spelling_of (pieces u m))
 abbrev pub lane_after_sending : LaneOf → MessageOf → LaneOf
 lane_after_sending w m = record w { packets = w.packets ++ packets_of_message w.unit w.now m }
 
--- something happened
+-- an entry is appended
 abbrev pub lane_with_entry : LaneOf → LaneEntryOf → LaneOf
 lane_with_entry w e = record w { entries = w.entries ++ e ∷ [] }
 
@@ -61,44 +61,44 @@ lane_after_take w requests m head body reply =
     (reply_message m head reply))
     (LaneEntryOf.Taken head.command body reply)
 
--- what the node that answers does with a packet
+-- the effect of a packet at the node that answers
 abbrev pub taker_does : LaneOf → (reply : List ℕ) → TakerRow → LaneOf
 taker_does w reply (TakerRow.Silent requests) = with_taker w (record w.taker { requests = requests })
 taker_does w reply (TakerRow.Repeats requests answer) = lane_after_sending (with_taker w (record w.taker { requests = requests })) answer
 taker_does w reply (TakerRow.TakesUp requests m head body) = lane_after_take w requests m head body reply
 taker_does w reply (TakerRow.Strays requests m) = with_taker w (record w.taker { requests = requests })
 
--- what the node that asks does with a packet
+-- the effect of a packet at the node that asks
 abbrev pub asker_does : LaneOf → AskerRow → LaneOf
 asker_does w (AskerRow.Ignores replies) = with_asker w (record w.asker { replies = replies })
 asker_does w (AskerRow.Learns replies caller heard) =
     lane_with_entry (with_asker w (record w.asker { caller = caller; replies = replies })) (LaneEntryOf.Learnt heard.reply)
 
--- the row of the node that answers, for these bytes
+-- the outcome of these bytes at the node that answers
 abbrev pub taker_row_in : LaneOf → List ℕ → TakerRow
 taker_row_in w bytes = taker_row w.unit w.taker_eid w.asker_eid w.taker bytes
 
--- the row of the node that asks, for these bytes
+-- the outcome of these bytes at the node that asks
 abbrev pub asker_row_in : LaneOf → List ℕ → AskerRow
 asker_row_in w bytes = asker_row w.unit w.asker_eid w.taker_eid w.asker bytes
 
--- An end hears these bytes, and answers a new request with this reply.
+-- An end receives these bytes; a new request is answered with this reply.
 abbrev pub lane_after_packet : LaneOf → End → List ℕ → (reply : List ℕ) → LaneOf
 lane_after_packet w ends.Asker bytes reply = asker_does w (asker_row_in w bytes)
 lane_after_packet w ends.Taker bytes reply = taker_does w reply (taker_row_in w bytes)
 
--- A packet comes to an end; it stays in the list, so that it can come again.
+-- A packet is delivered to an end. It stays in the list, so that it can be delivered again.
 abbrev pub lane_after_deliver : LaneOf → End → (reply : List ℕ) → Option Sent → LaneOf
 lane_after_deliver w end reply None = w
 lane_after_deliver w end reply (Some p) = lane_after_packet w end p.bytes reply
 
--- what a tick does to the node that asks; what it sends is dated with the new time
+-- the effect of a tick at the node that asks; its packets are dated with the new time
 abbrev pub asker_ticks : LaneOf → AskerTick → LaneOf
 asker_ticks w (AskerTick.Waits a) = with_asker w a
 asker_ticks w (AskerTick.Resends a m) = lane_after_sending (with_asker w a) m
 asker_ticks w (AskerTick.GivesUp a) = with_asker w a
 
--- A unit passes: the time rises, the clocks go on, and each end that counts it ticks.
+-- A unit passes: the time rises, the clocks count or miss it, and each end that counts it ticks.
 abbrev pub tick_begins : LaneOf → (asker taker : Bool) → LaneOf
 tick_begins w asker taker =
     record w {
@@ -108,14 +108,14 @@ tick_begins w asker taker =
       taker = taker_tick taker w.taker;
     }
 
--- the row of the node that asks, for a tick
+-- the outcome of a tick at the node that asks
 abbrev pub asker_tick_in : LaneOf → (asker taker : Bool) → AskerTick
 asker_tick_in w asker taker = asker_tick asker (tick_begins w asker taker).asker
 
 abbrev pub lane_after_tick : LaneOf → (asker taker : Bool) → LaneOf
 lane_after_tick w asker taker = asker_ticks (tick_begins w asker taker) (asker_tick_in w asker taker)
 
--- An end starts anew, and is deaf for 40 ticks; nothing that was sent is lost by it.
+-- An end restarts, and is deaf for 40 ticks. No packet that was sent is lost.
 abbrev pub lane_after_restart : LaneOf → End → LaneOf
 lane_after_restart w ends.Asker = with_asker w (asker_new w.asker_eid w.taker_eid 40)
 lane_after_restart w ends.Taker = with_taker w (taker_new 40)
@@ -128,17 +128,17 @@ lane_after w (LaneStepOf.Deliver number end reply) = lane_after_deliver w end re
 lane_after w (LaneStepOf.Tick asker taker) = lane_after_tick w asker taker
 lane_after w (LaneStepOf.Restart end) = lane_after_restart w end
 
--- the lane after these steps, one after another
+-- the lane after the steps, in order
 abbrev pub lane_run : LaneOf → List LaneStepOf → LaneOf
 lane_run w [] = w
 lane_run w (s ∷ ss) = lane_run (lane_after w s) ss
 
--- a packet may come as long as it lives
+-- a packet may be delivered while it lives
 abbrev pub may_deliver : ℕ → Option Sent → Option LaneFault
 may_deliver now None = Some faults.NoSuchPacket
 may_deliver now (Some p) = if nat_lt (lives_until p) now then Some faults.Dead else None
 
--- Why a step may not be taken; None where it may.
+-- The reason why a step may not be taken; None if it may.
 abbrev pub may_step : LaneOf → LaneStepOf → Option LaneFault
 may_step w (LaneStepOf.Begin command body) =
     if nat_lt (reply_limit w.unit) (length body) then Some faults.NotNow
@@ -151,7 +151,8 @@ may_step w (LaneStepOf.Tick asker taker) =
     else Some faults.NotNow
 may_step w (LaneStepOf.Restart end) = None
 
--- a step that may add packets or an entry needs memory for them; to give a request up and to start anew needs none
+-- a step that may add packets or an entry needs memory for them; abandoning a request and
+-- restarting need none
 abbrev pub needs_memory : LaneStepOf → Bool
 needs_memory (LaneStepOf.Begin command body) = true
 needs_memory LaneStepOf.Abandon = false
@@ -159,11 +160,12 @@ needs_memory (LaneStepOf.Deliver number end reply) = true
 needs_memory (LaneStepOf.Tick asker taker) = true
 needs_memory (LaneStepOf.Restart end) = false
 
--- Why a step isn't taken: it may not be, for this reason; or it may, and there is no memory for what it adds.
+-- The cause of a refused step: it may not be taken, for this reason, or there is no memory for its
+-- additions.
 abbrev pub IsCause : LaneOf → LaneStepOf → LaneFault → Type 0
 IsCause w s e = (may_step w s ≡ Some e) ⊎ ((e ≡ faults.Memory) × (needs_memory s ≡ true) × (may_step w s ≡ None))
 
--- request data and a reply with its code fit a message of the transmission unit behind its header
+-- request data, and a reply with its code, fit a message of the transmission unit after its header
 abbrev pub IsStep : «Unit» → LaneStepOf → Type 0
 IsStep u (LaneStepOf.Begin command body) = length body ≤ reply_limit u
 IsStep u LaneStepOf.Abandon = Prim.Unit {0}
@@ -176,7 +178,7 @@ pub record MayTake (w : LaneOf) (s : LaneStepOf) : Type 0 where
   pub lawful : IsStep w.unit s
   pub may : may_step w s ≡ None
 
--- each of these steps may be taken where it stands
+-- each step may be taken in its place
 abbrev pub MayRun : LaneOf → List LaneStepOf → Type 0
 MayRun w [] = Prim.Unit {0}
 MayRun w (s ∷ ss) = MayTake w s × MayRun (lane_after w s) ss

@@ -3,17 +3,20 @@
 ghost use Rattle.std.specs.Prelude.{◌≡◌};
 ghost use Rattle.exch_lane.specs.Clocks as clocks;
 
-/// How many ticks a node that missed none has behind it.
+/// The ticks that a node has counted since its last missed tick, if it missed none; also the most
+/// that are counted.
 pub const UNMISSED: u8 = 8;
 
-/// Whether a node that counted so many ticks since the last that it missed, at most 8, may miss this one, or counts it.
+/// Returns whether a node may take this tick: it counts it, or it has counted 8 since the last one
+/// that it missed. `since_miss` is at most 8.
 pub fn may_beat(counts: bool, since_miss: u8) -> bool
     ensures { result ≡ clocks.may_beat counts since_miss }
 {
     counts || since_miss == UNMISSED
 }
 
-/// How many ticks it counted then since the last that it missed, at most 8.
+/// Returns the ticks counted since the last missed one, at most 8, after a tick that is counted or
+/// missed.
 pub fn since_after(counts: bool, since_miss: u8) -> u8
     ensures { result ≡ clocks.since_after counts since_miss }
 {

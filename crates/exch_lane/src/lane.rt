@@ -25,22 +25,23 @@ use pldm_exch::{Asker, CallTick, DEAF, Received, Request, Taker, body_of};
 use std::alloc::Global;
 use std::marker::Model;
 
-/// One direction of requests between two nodes: both ends, and every packet that was ever sent between them.
+/// One direction of requests between two nodes: both ends, and every packet that was ever sent
+/// between them.
 #[derive(Drop)]
 pub struct Lane {
-    /// How many ticks the end that asks counted since it last missed one, at most 8.
+    /// The ticks that the asker counted since its last missed one, at most 8.
     asker_since_miss: u8,
-    /// The same of the end that answers.
+    /// The ticks that the taker counted since its last missed one, at most 8.
     taker_since_miss: u8,
-    /// For how many ticks the end that asks is still deaf after a restart; 0 where it hears.
+    /// The ticks for which the asker is still deaf after a restart; 0 if it isn't deaf.
     asker_deaf: u8,
-    /// The same of the end that answers.
+    /// The ticks for which the taker is still deaf after a restart; 0 if it isn't deaf.
     taker_deaf: u8,
     /// The end that asks.
     asker: Asker,
     /// The end that answers.
     taker: Taker,
-    /// The time, every packet with its date, and what happened.
+    /// The time, every packet with its date, and the history.
     journal: Journal,
 }
 
@@ -58,8 +59,8 @@ impl Model for Lane {
 }
 
 impl Lane {
-    /// A lane in which nothing happened yet, between two different nodes with endpoints of 8 to 254, in a network with
-    /// this transmission unit.
+    /// Returns a lane with an empty history, between two different nodes with endpoint identifiers
+    /// of 8 to 254, in a network with this transmission unit.
     pub fn new(alloc: Global, unit: Unit, asker: u8, taker: u8) -> Lane
         requires { AreEnds asker taker }
         ensures { result ≡ lane_new unit asker taker }
@@ -75,28 +76,29 @@ impl Lane {
         }
     }
 
-    /// The units that have passed, at most 4,294,967,295.
+    /// Returns the units that have passed, at most 4,294,967,295.
     pub fn now(&self) -> u32
         ensures { result ≡ self.now.now }
     {
         self.journal.time
     }
 
-    /// Every packet that was sent, in the order of sending: what a Deliver numbers from 1.
+    /// Returns every packet that was sent, in the order of sending. `LaneStep::Deliver` numbers
+    /// them from 1.
     pub fn packets(&self) -> &[SentPacket]
         ensures { map sent_of result.now ≡ self.now.packets }
     {
         self.journal.packets.as_slice()
     }
 
-    /// All that happened, in order.
+    /// Returns the lane's history, in order.
     pub fn history(&self) -> &[LaneEntry]
         ensures { map lane_entry_of result.now ≡ self.now.entries }
     {
         self.journal.entries.as_slice()
     }
 
-    /// Whether an end drops every packet, since it started anew less than 40 ticks ago.
+    /// Returns whether an end drops every packet, since it was restarted less than 40 ticks ago.
     pub fn is_deaf(&self, end: End) -> bool
         ensures { result ≡ is_deaf_in self.now end }
     {
@@ -106,22 +108,23 @@ impl Lane {
         }
     }
 
-    /// Whether a request waits for its reply.
+    /// Returns whether a request waits for its reply.
     pub fn is_open(&self) -> bool
         ensures { result ≡ is_some self.now.asker.caller.asked }
     {
         self.asker.is_open()
     }
 
-    /// Whether nothing of the asker's last request can come any more: no request is open, and the last one was answered,
-    /// or its tag has rested.
+    /// Returns whether no packet of the asker's last request can still arrive: no request is open,
+    /// and the last one was answered or its tag has rested.
     pub fn is_quiet(&self) -> bool
         ensures { result ≡ is_quiet self.now.asker.caller }
     {
         self.asker.is_quiet()
     }
 
-    /// Whether a request may begin: the asker hears and is quiet, and the next tag has rested.
+    /// Returns whether a request may begin: the asker isn't deaf and is quiet, and the next tag has
+    /// rested.
     pub fn can_begin(&self) -> bool
         ensures { result ≡ ((self.now.asker.deaf == 0) && may_begin self.now.asker.caller) }
     {
@@ -166,7 +169,7 @@ impl Lane {
         Ok(())
     }
 
-    /// The asker gives its open request up.
+    /// The asker abandons its open request.
     fn abandon(&mut self) -> Result<(), LaneFault>
         ensures ok { OnOk result ((may_step self.old LaneStepOf.Abandon ≡ None) × (self.new ≡ lane_after_abandon self.old)) }
         ensures err { OnErr result (self.new ≡ self.old) }
@@ -179,7 +182,7 @@ impl Lane {
         Ok(())
     }
 
-    /// A packet comes to an end.
+    /// Delivers a packet to an end.
     fn deliver(&mut self, number: usize, end: End, reply: &[u8]) -> Result<(), LaneFault>
         ensures ok { OnOk result ((may_step self.old (LaneStepOf.Deliver number end reply.now) ≡ None) × (self.new ≡ lane_after self.old (LaneStepOf.Deliver number end reply.now))) }
         ensures err { OnErr result (self.new ≡ self.old) }
@@ -246,7 +249,7 @@ impl Lane {
         Ok(())
     }
 
-    /// An end starts anew.
+    /// Restarts an end.
     fn restart(&mut self, end: End)
         ensures { self.new ≡ lane_after_restart self.old end }
     {
@@ -263,7 +266,7 @@ impl Lane {
     }
 }
 
-/// The asker hears the bytes of a packet; where it is deaf it drops it.
+/// Delivers the bytes of a packet to the asker, which drops them if it is deaf.
 fn asker_on_packet(deaf: u8, asker: &mut Asker, journal: &mut Journal, bytes: &[u8])
     requires room { HasJournalRoom journal.old }
     ensures asker { asker_of deaf asker.new ≡ asker_after (asker_of deaf asker.old) (asker_row asker.old.unit asker.old.own asker.old.peer (asker_of deaf asker.old) bytes.now) }
@@ -281,7 +284,7 @@ fn asker_on_packet(deaf: u8, asker: &mut Asker, journal: &mut Journal, bytes: &[
     asker_learns(asker, journal, &packet);
 }
 
-/// The asker hears a packet, and learns the reply that the packet makes whole.
+/// Delivers a packet to the asker, which records the reply that the packet completes.
 #[tactic(auto, using(crate::proofs::LaneRows::rows))]
 fn asker_learns(asker: &mut Asker, journal: &mut Journal, packet: &Packet<'_>)
     requires read { IsRead packet.now }
@@ -298,7 +301,8 @@ fn asker_learns(asker: &mut Asker, journal: &mut Journal, packet: &Packet<'_>)
     }
 }
 
-/// The taker hears the bytes of a packet, and answers a new request by `reply`; where it is deaf it drops the packet.
+/// Delivers the bytes of a packet to the taker, which answers a new request with `reply`. If it is
+/// deaf it drops the packet.
 fn taker_on_packet(deaf: u8, taker: &mut Taker, journal: &mut Journal, bytes: &[u8], reply: &[u8])
     requires room { HasJournalRoom journal.old }
     requires reply { length reply.now ≤ reply_limit taker.old.unit }
@@ -317,7 +321,8 @@ fn taker_on_packet(deaf: u8, taker: &mut Taker, journal: &mut Journal, bytes: &[
     taker_answers(taker, journal, &packet, reply);
 }
 
-/// The taker hears a packet, and sends what it answers to the request that the packet makes whole: a new one by `reply`.
+/// Delivers a packet to the taker, which sends the answer to the request that the packet completes:
+/// `reply` if the request is new.
 #[tactic(auto, using(crate::proofs::LaneRows::rows))]
 fn taker_answers(taker: &mut Taker, journal: &mut Journal, packet: &Packet<'_>, reply: &[u8])
     requires read { IsRead packet.now }
@@ -337,7 +342,7 @@ fn taker_answers(taker: &mut Taker, journal: &mut Journal, packet: &Packet<'_>, 
     }
 }
 
-/// The taker takes a new request, the message under this head, and answers it by `reply`.
+/// The taker takes a new request, the message with this head, and answers it with `reply`.
 fn taker_takes(
     taker: &mut Taker,
     journal: &mut Journal,
@@ -359,7 +364,8 @@ fn taker_takes(
     journal.note(LaneEntry::Taken(head.command, body, data_of(reply)));
 }
 
-/// A tick at the asker: a deaf count falls by one, and where it is 0 then the end grows older.
+/// Counts a tick at the asker: a deaf count falls by one, and if it is then 0, the asker counts the
+/// tick.
 #[tactic(auto, using(crate::proofs::LaneRows::rows))]
 fn asker_ticks(deaf: &mut u8, asker: &mut Asker) -> CallTick
     ensures answer { result ≡ tick_word (call_tick_of (asker_counts (asker_of deaf.old asker.old))) }
@@ -375,7 +381,8 @@ fn asker_ticks(deaf: &mut u8, asker: &mut Asker) -> CallTick
     asker.tick()
 }
 
-/// A tick at the taker: a deaf count falls by one, and where it is 0 then the end grows older.
+/// Counts a tick at the taker: a deaf count falls by one, and if it is then 0, the taker counts the
+/// tick.
 fn taker_ticks(deaf: &mut u8, taker: &mut Taker)
     ensures after { taker_of deaf.new taker.new ≡ taker_counts (taker_of deaf.old taker.old) }
     ensures between { (taker.new.unit ≡ taker.old.unit) × (taker.new.own ≡ taker.old.own) × (taker.new.peer ≡ taker.old.peer) }
@@ -388,14 +395,15 @@ fn taker_ticks(deaf: &mut u8, taker: &mut Taker)
     taker.tick();
 }
 
-/// The most bytes of request data, and of a reply with its code: what a message holds after its header.
+/// Returns the most bytes of request data, and of a reply with its code: the bytes of a message
+/// after its header.
 fn reply_limit(unit: Unit) -> usize
     ensures { result ≡ reply_limit unit }
 {
     MAX_PACKETS * unit.bytes() - HEADER_SIZE
 }
 
-/// Request data, or a reply, of their own.
+/// Returns a copy of request data, or of a reply.
 fn data_of(bytes: &[u8]) -> Reply
     requires { length bytes.now ≤ MAX_REPLY }
     ensures { result.items ≡ bytes.now }

@@ -1,12 +1,13 @@
-//! What layers above rely on: a lane is one cell.
+//! Laws for the layers above: a lane is one cell.
 
 ghost use Rattle.exch_lane.specs.Clocks.{ClocksStay, PassesWithin, TimeIsCounted, TicksAreLate, TimeIsLate, TimeIsMissed, TimeStarts};
 ghost use Rattle.exch_lane.specs.Laws.{LaneIsACell};
 
-/// One direction of packets (DSP0236), tags and time is one cell: from a new lane, for every list of steps that may be
-/// taken one after another, whatever is lost, repeated, reordered or late and whoever restarts, the cell's run along the
-/// steps is never stuck. So a request is taken at most once, and as it was asked; its reply is learnt at most once, and
-/// is the one that was given; the lane's history is the cell's; and where the asker hears and is quiet, the cell is
+/// One direction of packets (DSP0236), tags and time is one cell. From a new lane, for every list
+/// of steps that may be taken in order, the cell's run along the steps is never stuck, whatever is
+/// lost, repeated, reordered or late and whoever restarts. So a request is taken at most once, with
+/// the data that the asker gave. Its reply is received at most once, with the data that the taker
+/// gave. The lane's history is the cell's, and if the asker isn't deaf and is quiet, the cell is
 /// empty.
 pub fn lane_is_a_cell()
     ensures law { LaneIsACell }
@@ -20,9 +21,9 @@ pub fn lane_is_a_cell()
     pldm_exch::rests_change();
 }
 
-/// Time in a lane adds up: an end that counted so many ticks may have missed one before them and one after each eight,
-/// so that 9 ticks, after which an assembly is over, are at most 11 units, the 12 in which a request is repeated at most
-/// 14, and the 25 after which no kept answer is left at most 29.
+/// The bound on time: an end that counted some ticks may have missed one before them and one after
+/// each eight. So the 9 ticks after which an assembly ends are at most 11 units, the 12 in which a
+/// request is repeated at most 14, and the 25 after which no kept answer is left at most 29.
 pub fn time_adds_up()
     ensures clocks { ClocksStay }
     ensures starts { TimeStarts }

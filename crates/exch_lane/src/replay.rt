@@ -1,4 +1,4 @@
-//! Steps of a lane, one after another.
+//! Runs steps of a lane, in order.
 
 ghost use Rattle.std.specs.Prelude.{◌≡◌, ◌<◌, IfErr, IsSomeAnd, OnOk, length, slice_get, take};
 ghost use Rattle.exch_lane.specs.Lanes.{lane_step_of, lane_steps_of};
@@ -9,11 +9,13 @@ use crate::lane::Lane;
 use crate::laws::lane_is_a_cell;
 use crate::step::{LaneFault, LaneStep};
 
-/// Takes steps in order, up to the first that the lane refuses. Wherever steps led a new lane, its cell goes on with it
-/// through the steps that are taken here: it is never stuck, and its history is the lane's.
+/// Takes steps in order, up to the first that the lane refuses. If steps from a new lane gave this
+/// lane, its cell continues with it through the steps taken here: it is never stuck, and its
+/// history is the lane's.
 ///
 /// # Errors
-/// The number of steps that were taken, and why the next one wasn't. The lane is that after those steps.
+/// Returns the number of steps that were taken, and the fault of the next one. The lane is that
+/// after those steps.
 pub fn lane_replay(lane: &mut Lane, steps: &[LaneStep]) -> Result<(), (usize, LaneFault)>
     ensures ok { OnOk result (MayRun lane.old (lane_steps_of steps.now) × (lane.new ≡ lane_run lane.old (lane_steps_of steps.now))) }
     ensures stopped { IfErr result (λ e. (e.0 < length steps.now) × MayRun lane.old (lane_steps_of (take e.0 steps.now))

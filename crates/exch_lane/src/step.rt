@@ -1,4 +1,4 @@
-//! What can happen in a lane.
+//! The steps of a lane.
 
 use pldm_base::Reply;
 use thiserror::Error;
@@ -6,43 +6,48 @@ use thiserror::Error;
 /// An end of a lane.
 #[derive(Clone, Copy, PartialEq, Eq)]
 pub enum End {
-    /// The node that sends requests and hears their replies.
+    /// The node that sends requests and receives their replies.
     Asker,
-    /// The node that hears requests and sends their replies.
+    /// The node that receives requests and sends their replies.
     Taker,
 }
 
 /// A step of a lane.
 #[derive(PartialEq, Eq, Drop)]
 pub enum LaneStep {
-    /// The asker begins a request of PLDM type 5 (firmware update) with this command and request data.
+    /// The asker begins a request of PLDM type 5 (firmware update) with this command and request
+    /// data.
     Begin(u8, Reply),
-    /// The asker gives its open request up.
+    /// The asker abandons its open request.
     Abandon,
-    /// The packet with this number, counted from 1 in the order of sending, comes to an end. Where it makes a new request
-    /// whole, the taker answers that with this completion code and what follows it.
+    /// The packet with this number, counted from 1 in the order of sending, is delivered to an end.
+    /// If it completes a new request, the taker answers with these bytes: a completion code and the
+    /// fields after it.
     Deliver(usize, End, Reply),
-    /// A unit of time passes: whether the asker counts it, and whether the taker does. An end that doesn't misses it.
+    /// A unit of time passes: whether the asker counts it, and whether the taker does. An end that
+    /// doesn't count it misses it.
     Tick(bool, bool),
-    /// An end starts anew, and is deaf and silent for 40 ticks.
+    /// An end restarts, and is deaf and silent for 40 ticks.
     Restart(End),
 }
 
 /// Why a step isn't taken.
 #[derive(Clone, Copy, Debug, PartialEq, Eq, Error)]
 pub enum LaneFault {
-    /// Begin at a deaf asker, while no request may begin, or with more data than a message of the transmission unit holds
-    /// after its header; Deliver with such a reply; Abandon while no request is open; Tick at the end of time, or missed by
-    /// an end that counted fewer than 8 since the last that it missed.
+    /// The step isn't allowed now. Begin: the asker is deaf, no request may begin, or the request
+    /// data are longer than a message of the transmission unit holds after its header. Deliver: the
+    /// reply is as long. Abandon: no request is open. Tick: time has reached its end, or an end
+    /// misses the tick that counted fewer than 8 since its last missed one.
     #[error("NotNow")]
     NotNow,
-    /// No packet of this number was sent.
+    /// No packet with this number was sent.
     #[error("NoSuchPacket")]
     NoSuchPacket,
     /// The packet was sent more than 8 units of time ago.
     #[error("Dead")]
     Dead,
-    /// There is no memory for what the step adds. Abandon and Restart add nothing, and never fail so.
+    /// There is no memory for the step's additions. Abandon and Restart add nothing, and never fail
+    /// with this.
     #[error("Memory")]
     Memory,
 }

@@ -1,4 +1,4 @@
--- Each command is answered by an answer to it.
+-- The reply to each command is an answer to it.
 use Rattle.std.proofs.Common.{◌≡◌, Bool, true, refl}
 use Rattle.fwup_wire.specs.Answers.{answers_command}
 use Rattle.fwup_wire.specs.Commands.{command_code}

@@ -1,4 +1,5 @@
--- What a device does depends on whether its bank works exactly where it calls the bank.
+-- The effect of a call on a device depends on whether its bank works exactly if the device calls
+-- the bank.
 use Rattle.std.proofs.Common.{◌≡◌, ◌≢◌, ◌==◌, ◌∙◌, ap, refl, sym, nat_lt, not, Bool, true, false, ℕ, List, length, Option, Some, is_some, if◌then◌else◌}
 use Rattle.pldm_base.specs.Codes.{error, invalid_data}
 use Rattle.fwup_wire.specs.Answers.{answer_bytes}
@@ -42,7 +43,7 @@ differ_through part f read false failing working x y h = ap f h
 
 -- COMMANDS
 
--- a row with a bank that fails, and with one that works
+-- a case with a bank that fails, and with one that works
 abbrev OffersDiffer : DeviceState → OfferOf → OfferRow → OfferRow → Type 0
 OffersDiffer v o failing working = DifferInIf (λ t. t.answer) (begins_stage working) (offer_by v o failing) (offer_by v o working)
 
@@ -95,7 +96,7 @@ pieces v u w n (Some (AnswerOf.RequestFirmwareData bytes)) =
     both (PiecesDiffer v u w) (length bytes == n) DeviceLearnRow.PutFails DeviceLearnRow.Stay (DeviceLearnRow.PutPiece bytes) DeviceLearnRow.Stay (piece_differs v u w bytes) refl
 pieces v u w n a = refl
 
--- the row of a report never puts
+-- the case of a report never puts
 report_differs : (v : DeviceState) (u : UpdateOf) (w : WorkOf) (p : Progress) (a : Option AnswerOf) (n : ℕ)
     → PiecesDiffer v u w (download_row p n a false) (download_row p n a true)
 report_differs v u w progress.InProgress a n = pieces v u w n a
@@ -134,7 +135,7 @@ verdicts_differ v verdict = verdicts_in v v.phase verdict
 pub verdicts_depend : VerdictsDependOnCalls
 verdicts_depend v verdict = differ_if effect_failed (verdict_calls_bank v verdict) (device_verdict v verdict false) (device_verdict v verdict true) (verdicts_differ v verdict)
 
--- WHERE THE BANK ISN'T CALLED
+-- THE BANK ISN'T CALLED
 
 same_if : {R : Type 0} (f : Bool → R) (called works : Bool) → called ≡ false → DifferIf called (f false) (f true) → f works ≡ f true
 same_if f false true e h = refl
@@ -150,9 +151,9 @@ learns_alike v a works e = ap (λ l. l.after) (same_if (learn_at v v.phase a) (a
 pub judges_alike : (v : DeviceState) (verdict : Verdict) (works : Bool) → verdict_calls_bank v verdict ≡ false → device_verdict v verdict works ≡ device_verdict v verdict true
 judges_alike v verdict works e = same_if (device_verdict v verdict) (verdict_calls_bank v verdict) works e (verdicts_depend v verdict)
 
--- WHERE A CALL FAILED
+-- A CALL FAILED
 
--- whether a reply says that the bank worked
+-- whether a reply shows that the bank worked
 abbrev reply_works : AnswerOf → Bool
 reply_works a = bytes_work (answer_bytes a)
 
@@ -180,7 +181,7 @@ cancels_work v Phase.Idle = refl
 cancels_work v Phase.Activated = refl
 cancels_work v p = refl
 
--- an offer is answered so only where its row begins a stage
+-- an offer has this answer only if its case begins a stage
 abbrev OfferFails : DeviceState → OfferOf → OfferRow → OfferRow → Type 0
 OfferFails v o row working = reply_works (offer_by v o row).answer ≡ false → begins_stage working ≡ true
 
@@ -211,7 +212,7 @@ switch_fails v cs rows p works = λ e. absurd (cc)
 no_failure : (b : Bool) → b ≡ true → b ≡ false → ⊥
 no_failure b e f = absurd (cc)
 
--- A reply says that the bank failed only where the command calls it.
+-- A reply shows that the bank failed only if the command calls the bank.
 pub take_called : (v : DeviceState) (c : CommandOf) (quiet works : Bool) → bytes_work (answer_bytes (device_answer v c quiet works)) ≡ false → command_calls_bank v c quiet ≡ true
 take_called v (CommandOf.RequestUpdate r) quiet works e = absurd (no_failure _ (requests_work v r v.phase quiet) e)
 take_called v (CommandOf.PassComponentTable t) quiet works e = absurd (no_failure _ (entries_work v t v.rows v.phase) e)
@@ -221,7 +222,7 @@ take_called v (CommandOf.ActivateFirmware s) quiet works e = switch_fails v v.co
 take_called v CommandOf.CancelUpdate quiet works e = absurd (no_failure _ (cancels_work v v.phase) e)
 take_called v c quiet works e = absurd (cc)
 
--- The work fails at an answer only where the answer calls the bank.
+-- The work fails at an answer only if the answer calls the bank.
 pieces_fail : (v : DeviceState) (u : UpdateOf) (w : WorkOf) (n : ℕ) (a : Option AnswerOf) (works : Bool)
     → has_failed (download_by v u w (piece_row n a works)).after.phase ≡ true → has_failed v.phase ≡ false → puts_piece (piece_row n a true) ≡ true
 pieces_fail v u w n (Some (AnswerOf.RequestFirmwareData bytes)) works =
@@ -261,7 +262,7 @@ learn_fails v p a works k f e = absurd (cc)
 pub learn_called : (v : DeviceState) (a : Option AnswerOf) (works : Bool) → has_failed v.phase ≡ false → has_failed (device_learn v a works).phase ≡ true → answer_calls_bank v a ≡ true
 learn_called v a works f e = learn_fails v v.phase a works f f e
 
--- ApplyOk calls the bank where it counts.
+-- ApplyOk calls the bank if it counts.
 judges_in : (v : DeviceState) (p : Phase) (works : Bool) → is_some (verdict_at v p verdicts.ApplyOk works) ≡ true → verdict_calls_bank_in p verdicts.ApplyOk ≡ true
 judges_in v (Phase.Verify u w progress.InProgress) works e = absurd (cc)
 judges_in v (Phase.Apply u w progress.InProgress) works e = refl
@@ -270,7 +271,7 @@ judges_in v p works e = absurd (cc)
 pub judge_called : (v : DeviceState) (verdict : Verdict) (works : Bool) → verdict ≡ verdicts.ApplyOk → is_some (device_verdict v verdict works) ≡ true → verdict_calls_bank v verdict ≡ true
 judge_called v verdict works ok e = rw ok (judges_in v v.phase works (rw ok at e))
 
--- a reply that says that the bank failed
+-- a reply that shows that the bank failed
 pub take_calls : (v : DeviceState) (c : CommandOf) (quiet : Bool) (bytes : List ℕ) → bytes ≡ answer_bytes (device_answer v c quiet (bytes_work bytes))
     → bytes_work bytes ≡ false → command_calls_bank v c quiet ≡ true
 take_calls v c quiet bytes e f = take_called v c quiet (bytes_work bytes) (ap bytes_work (sym e) ∙ f)

@@ -1,4 +1,4 @@
--- Nothing that happens to a device changes which components it and its bank have.
+-- No event changes the components of a device and its bank.
 use Rattle.std.proofs.Common.{◌≡◌, ◌==◌, is_some, nat_lt, List, Bool, true, false, Option, Some, None, map, length, if◌then◌else◌, ap, refl, ◌∙◌}
 use Rattle.fd_core.specs.Banks.{has_key}
 use Rattle.pldm_base.specs.Codes.{invalid_data}
@@ -22,7 +22,7 @@ with_keys v w keys components known h = record { keys = rw (keys, components) h.
 reset_components : (v w : DeviceState) → w.rows ≡ rows_after_drop v.rows → w.components ≡ v.components → IsOneOf (map key_of v.rows) w.phase → HasComponents v → HasComponents w
 reset_components v w rows components known h = with_keys v w (ap (map key_of) rows ∙ keys_dropped v.rows) components known h
 
--- an offer that is taken up is of a component that is there
+-- an accepted offer is of a component that the device has
 ruled : (row : Option RowOf) (o : OfferOf) (u v : UpdateOf) (works : Bool) → offer_under u (offer_rule row o) works ≡ OfferRow.BeginWork v → is_some row ≡ true
 ruled None o u v works e = absurd (cc)
 ruled (Some row) o u v works e = refl

@@ -1,4 +1,4 @@
--- What the calls of a bank in memory do to what it stands for.
+-- The effect of the calls of a bank in memory on its images.
 use Rattle.std.proofs.Common.{[], ◌++◌, ◌≡◌, ◌≤◌, ◌∙◌, ◌∷◌, Bool, IsSome, List, None, Option, Some, ap, append-nil, arith, drop, false, if◌then◌else◌, is_some, length, map, option_map, refl, subst, sym, take, true, ℕ}
 use Rattle.std.proofs.lemmas.List.{drop_all, length-map, take_all}
 use Rattle.fd_core.proofs.Places.{has_place, keys_by, numbers_activated, numbers_after_seal, numbers_forgotten, numbers_rewritten, row_for, rows_activated, rows_forgotten, rows_rewritten, rows_sealed, shaped_more, shapes_activated, shapes_applied, shapes_forgotten, shapes_rewritten, stage_rewritten}
@@ -7,7 +7,7 @@ use Rattle.fd_core.specs.Banks.{has_key}
 use Rattle.fd_core.specs.Images.{LabelOf, rows_after_drop, key_of, row_of, same_key, sealed_by, staged_with, rows_after_switch}
 use Rattle.fwup_wire.specs.declared.values.Key.{Key}
 
--- what is written over all places stands in place of all
+-- all places are replaced by the places written
 items_over : (n : ℕ) (places now ys : List ComponentAreasOf) → now ≡ places → map shape_of ys ≡ map shape_of now → length places ≤ n
     → take n (ys ++ drop (length ys) places) ≡ ys
 items_over n places now ys same shapes whole =

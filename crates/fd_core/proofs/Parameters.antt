@@ -1,4 +1,4 @@
--- How many bytes the parameters of components have.
+-- The number of bytes of the parameters of components.
 use Rattle.std.proofs.Common.{[], ◌+◌, ◌++◌, ◌∙◌, ◌∷◌, ◌≡◌, List, ap, append-nil, arith, length, ℕ}
 use Rattle.std.proofs.lemmas.List.{length-append}
 use Rattle.fwup_wire.specs.Items.{items_bytes}

@@ -1,4 +1,4 @@
--- What the calls of a bank in memory do to its components.
+-- The effect of the calls of a bank in memory on its components.
 use Rattle.std.proofs.Common.{[], ◌++◌, ◌<◌, ◌≡◌, ◌≢◌, ◌∙◌, ◌∷◌, Bool, IsSome, List, None, Option, Some, ap, arith, false, get_or, if◌then◌else◌, is_some, length, map, option_map, refl, set, suc, subst, sym, true, zero, ℕ}
 use Rattle.std.proofs.lemmas.Bool.{ne_eqb, or_parts}
 use Rattle.std.proofs.lemmas.List.{get_or-set_other, get_or-set_same, get_or_default, length-set, map-append}
@@ -30,7 +30,7 @@ spare_if false false = omega arith
 pub spare_within : (a : ℕ) (b : Option ℕ) → spare a b < 3
 spare_within a b = spare_if _ _
 
--- so what is written changes no image
+-- so writing changes no image
 image_kept : (areas : List AreaOf) (n i : ℕ) (a : AreaOf) → n ≢ i → image_at (set areas i a) n ≡ image_at areas n
 image_kept areas n i a other = ap image_by (get_or-set_other areas i n a no_area other)
 
@@ -43,7 +43,7 @@ row_kept_at key areas active (Some b) a =
 row_kept : (p : ComponentAreasOf) (a : AreaOf) → row_by (with_written p a) ≡ row_by p
 row_kept p a = row_kept_at p.key p.areas p.active p.applied a
 
--- what a change of a component leaves as it is
+-- the parts of a component that a change keeps
 left_if : {A : Type 0} (g : ComponentAreasOf → A) (f : ComponentAreasOf → ComponentAreasOf) (b : Bool) (p : ComponentAreasOf) → g (f p) ≡ g p → g (changed_if b f p) ≡ g p
 left_if g f true p e = e
 left_if g f false p e = refl
@@ -84,7 +84,7 @@ stage_rewritten change key [] shaped = refl
 stage_rewritten change key (p ∷ places) shaped =
     stage_if change key (same_key p.key key) p (place_for (places_with (place_after_write change) key places) key) (place_for places key) refl shaped.1.0 (stage_rewritten change key places shaped.1.1)
 
--- what is found under a key
+-- the component found for a key
 pub keys_by : (places : List ComponentAreasOf) → map key_of (map row_by places) ≡ map (λ s. s.key) (map shape_of places)
 keys_by [] = refl
 keys_by (p ∷ places) = ap (λ ks. p.key ∷ ks) (keys_by places)
@@ -198,7 +198,7 @@ pub shapes_forgotten : (places : List ComponentAreasOf) → map shape_of (map pl
 shapes_forgotten [] = refl
 shapes_forgotten (p ∷ places) = ap (λ ss. shape_of p ∷ ss) (shapes_forgotten places)
 
--- a change of the one component that is found under a key
+-- a change of the one component found for a key
 pub changed_at : (f : ComponentAreasOf → ComponentAreasOf) (key : Key) (places : List ComponentAreasOf) (i : ℕ) (d : ComponentAreasOf) → AreShaped (map shape_of places) → i < length places
     → same_key (get_or places i d).key key ≡ true → set places i (f (get_or places i d)) ≡ places_with f key places
 changed_at f key [] i d shaped lt e = absurd (omega arith)

@@ -1,11 +1,11 @@
--- A command that is answered by a refusal is taken as one, row by row.
+-- A command that is answered by a refusal is refused, case by case.
 use Rattle.std.proofs.Common.{◌≡◌, Bool, ap, refl, true}
 use Rattle.fwup_wire.specs.Values.{CommandOf, TableEntryOf, OfferOf, UpdateRequestOf}
 use Rattle.fd_core.specs.Commands.{CancelRow, OfferRow, RequestRow, ReturnRow, SwitchRow, TableRow, CommandEffect, cancel_by, cancel_row, device_take, offer_by, offer_row, request_by, request_row, return_by, return_row, switch_by, switch_row, table_by, table_row, effect_of_answer}
 use Rattle.fd_core.specs.Laws.{RefusalsActivateNothing, RefusalsKeepTheDevice, RefusalsKeepDeviceIdle, is_refusal}
 use Rattle.fd_core.specs.States.{DeviceState, idle_count_if}
 
--- what refuses does nothing else
+-- a refusal has no other effect
 abbrev IsRefusal : DeviceState → CommandEffect → Type 0
 IsRefusal v t = is_refusal t.answer ≡ true → t ≡ effect_of_answer v t.answer
 

@@ -28,7 +28,7 @@ pub keys_sealed : (rows : List RowOf) (key : Key) (image : ImageOf) → map key_
 keys_sealed [] key image = refl
 keys_sealed (row ∷ rows) key image = rw (key_sealed (same_key row.key key) row image, keys_sealed rows key image) refl
 
--- a key is there where its component is
+-- a key is found where its component is
 here_or : (b : Bool) (row : RowOf) (rest : Option RowOf) (has : Bool) → has ≡ is_some rest → (b || has) ≡ is_some (if b then Some row else rest)
 here_or true row rest has e = refl
 here_or false row rest has e = e
@@ -37,7 +37,7 @@ pub has_row : (rows : List RowOf) (key : Key) → has_key (map key_of rows) key 
 has_row [] key = refl
 has_row (row ∷ rows) key = here_or (same_key row.key key) row (row_of rows key) (has_key (map key_of rows) key) (has_row rows key)
 
--- keys are the same both ways
+-- equality of keys is symmetric
 equal_both : (a b : ℕ) → (a == b) ≡ (b == a)
 equal_both a b =
     elim (eqb_tells a b) [

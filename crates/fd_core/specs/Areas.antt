@@ -1,24 +1,24 @@
--- The areas in which a bank in memory keeps images: three for each component, of which one runs, one may be applied, and one
--- is written.
+-- The areas in which a bank in memory keeps images: three for each component, of which one is
+-- active, one may be applied, and one is written.
 use Rattle.std.specs.Prelude.{[], ◌++◌, ◌==◌, ◌||◌, ◌∷◌, ◌≡◌, Bool, List, None, Option, Some, false, get_or, if◌then◌else◌, length, map, not, option_map, set, true, ℕ}
 use Rattle.fd_core.specs.Banks.{has_key}
 use Rattle.fd_core.specs.Images.{ImageOf, LabelOf, RowOf, StageOf, same_key}
 use Rattle.fwup_wire.specs.declared.values.Key.{Key}
 
--- an area: the image's label, the bytes that the image was begun for, and those that are written
+-- an area: the image's label, the size that the image was begun for, and the bytes written so far
 pub record AreaOf : Type 0 where
   pub label : LabelOf
   pub size : ℕ
   pub bytes : List ℕ
 
--- a component: its areas, the number of the one that runs, and that of the one that was applied
+-- a component: its areas, the number of the active one, and that of the applied one
 pub record ComponentAreasOf : Type 0 where
   pub key : Key
   pub areas : List AreaOf
   pub active : ℕ
   pub applied : Option ℕ
 
--- the same without what stands in the areas
+-- the same without the content of the areas
 pub record NumbersOf : Type 0 where
   pub key : Key
   pub active : ℕ
@@ -48,7 +48,7 @@ image_by a = record { label = a.label; bytes = a.bytes }
 abbrev pub image_at : List AreaOf → ℕ → ImageOf
 image_at areas n = image_by (area_at areas n)
 
--- what a component stands for, and which areas it uses
+-- the images of a component, and the numbers of its areas
 abbrev pub row_by : ComponentAreasOf → RowOf
 row_by p = record { key = p.key; active = image_at p.areas p.active; applied = option_map (image_at p.areas) p.applied }
 
@@ -65,7 +65,7 @@ written_area p = area_at p.areas (spare_of p)
 abbrev pub with_written : ComponentAreasOf → AreaOf → ComponentAreasOf
 with_written p a = record p { areas = set p.areas (spare_of p) a }
 
--- what the calls of a bank make of a component
+-- a component after the calls of a bank
 abbrev pub place_after_write : (AreaOf → AreaOf) → ComponentAreasOf → ComponentAreasOf
 place_after_write change p = with_written p (change (written_area p))
 
@@ -102,7 +102,7 @@ changed_if false f p = p
 abbrev pub places_with : (ComponentAreasOf → ComponentAreasOf) → Key → List ComponentAreasOf → List ComponentAreasOf
 places_with f key places = map (λ p. changed_if (same_key p.key key) f p) places
 
--- the component of a key, if it is there
+-- the component with a key, if there is one
 abbrev pub place_for : List ComponentAreasOf → Key → Option ComponentAreasOf
 place_for [] key = None
 place_for (p ∷ places) key = if same_key p.key key then Some p else place_for places key
@@ -148,7 +148,8 @@ active_alone n = record n { applied = None }
 abbrev pub numbers_dropped : List NumbersOf → List NumbersOf
 numbers_dropped ns = map active_alone ns
 
--- A bank in memory: its components, its stage, how often it failed, and which areas it uses.
+-- A bank in memory: its components, its stage, the number of its failures, and the areas that it
+-- uses.
 pub record BankOf : Type 0 where
   pub rows : List RowOf
   pub stage : Option StageOf
@@ -159,11 +160,11 @@ abbrev pub bank_by : List ComponentAreasOf → Option Key → ℕ → BankOf
 bank_by places staged faults =
     record { rows = map row_by places; stage = stage_in places staged; faults = faults; areas = map numbers_by places }
 
--- a place that stands where there is none
+-- the place used if there is none
 abbrev pub no_place : ComponentAreasOf
 no_place = record { key = record { classification = 0; identifier = 0 }; areas = []; active = 0; applied = None }
 
--- what never changes: the component, and how many areas it has
+-- the parts that never change: the component, and the number of its areas
 pub record ShapeOf : Type 0 where
   pub key : Key
   pub areas : ℕ
@@ -171,12 +172,12 @@ pub record ShapeOf : Type 0 where
 abbrev pub shape_of : ComponentAreasOf → ShapeOf
 shape_of p = record { key = p.key; areas = length p.areas }
 
--- no key stands twice, and each component has three areas
+-- each key occurs once, and each component has three areas
 abbrev pub AreShaped : List ShapeOf → Type 0
 AreShaped [] = Unit {0}
 AreShaped (s ∷ ss) = (has_key (map (λ t. t.key) ss) s.key ≡ false) × ((s.areas ≡ 3) × AreShaped ss)
 
--- the component that is being written is one of these
+-- the component that is being written is in the list
 abbrev pub IsStagedIn : List ShapeOf → Option Key → Type 0
 IsStagedIn ss None = Unit {0}
 IsStagedIn ss (Some key) = has_key (map (λ s. s.key) ss) key ≡ true

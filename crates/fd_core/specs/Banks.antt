@@ -1,4 +1,4 @@
--- Which components a bank has, and how it counts its failures.
+-- The components of a bank, and the count of its failures.
 use Rattle.std.specs.Prelude.{[], ◌||◌, ◌∷◌, ◌≡◌, ◌+◌, ◌-◌, ◌^◌, ◌⊎◌, Bool, List, false, ℕ}
 use Rattle.fd_core.specs.Images.{same_key}
 use Rattle.fwup_wire.specs.declared.values.Key.{Key}
@@ -7,7 +7,7 @@ abbrev pub has_key : List Key → Key → Bool
 has_key [] key = false
 has_key (k ∷ ks) key = same_key k key || has_key ks key
 
--- no key stands twice
+-- each key occurs once
 abbrev pub HaveKeysOnce : List Key → Type 0
 HaveKeysOnce [] = Unit {0}
 HaveKeysOnce (k ∷ ks) = (has_key ks k ≡ false) × HaveKeysOnce ks

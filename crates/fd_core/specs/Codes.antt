@@ -1,4 +1,4 @@
--- The numbers of DSP0267 1.0 that a device answers and reports by, in the standard's words.
+-- The numbers of DSP0267 1.0 in a device's answers and reports, with the standard's names.
 use Rattle.std.specs.Prelude.{ℕ}
 
 -- completion codes
@@ -70,6 +70,6 @@ patience = 240
 abbrev pub kept_text : ℕ
 kept_text = 12
 
--- the progress of a device that doesn't tell it
+-- the progress of a device that doesn't report it
 abbrev pub progress_unsupported : ℕ
 progress_unsupported = 0x65

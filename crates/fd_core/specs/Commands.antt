@@ -1,6 +1,7 @@
--- How a device takes commands (DSP0267 1.0): for each command a row says what is refused and what is done, and what the
--- row does. In a row the tests stand in their order. `quiet` says that the device has no request of its own under way,
--- `works` that the one call of the bank that a row makes succeeds.
+-- A device's handling of commands (DSP0267 1.0): for each command, the cases of refusal and
+-- acceptance, and the effect of each case. The tests of a case are in their order. `quiet` is true
+-- if no request of the device is in progress. `works` is true if the case's one call of the bank
+-- succeeds.
 use Rattle.std.specs.Prelude.{[], ◌&&◌, ◌≡◌, ◌+◌, ◌++◌, ◌==◌, ◌||◌, ◌∷◌, ◌≤◌, Bool, List, None, Option, Some, false, if◌then◌else◌, is_some, length, map, nat_lt, not, true, ℕ}
 use Rattle.mctp_wire.specs.declared.unit.Unit.TheVariants.{U64}
 use Rattle.pldm_base.specs.Limits.{reply_limit}
@@ -27,15 +28,15 @@ use Rattle.fwup_wire.specs.declared.values.TransferFlag.TheVariants as flags
 use Rattle.fwup_wire.specs.declared.transfers.TheConstants.{MIN_TRANSFER}
 use Rattle.pldm_base.specs.Codes.{error, invalid_data, not_ready, unsupported_command}
 
--- What a command does: the device after it, the answer, the images that it activates, and whether the count of ticks
--- without a change begins anew.
+-- The effect of a command: the device after it, the answer, the images that it activates, and
+-- whether the count of ticks without a change restarts.
 pub record CommandEffect : Type 0 where
   pub after : DeviceState
   pub answer : AnswerOf
   pub activated : List KeyedImage
   pub stirs : Bool
 
--- the device stays as it is, and refuses or tells something
+-- the device is unchanged, and refuses or reports
 abbrev pub effect_of_answer : DeviceState → AnswerOf → CommandEffect
 effect_of_answer v a = record { after = v; answer = a; activated = []; stirs = false }
 
@@ -52,7 +53,7 @@ pub data RequestRow : Type 0 where
   RefuseRequest : (code : ℕ) → RequestRow
   BeginUpdate : RequestRow
 
--- whether no update is like this: too few bytes at once, no component or too many
+-- whether the request is invalid for any update: too few bytes at once, no component or too many
 abbrev pub is_odd_request : UpdateRequestOf → Bool
 is_odd_request r = nat_lt r.transfer_size MIN_TRANSFER || ((r.components == 0) || nat_lt most_components r.components)
 
@@ -78,7 +79,7 @@ pub data TableRow : Type 0 where
   RefuseEntry : (code : ℕ) → TableRow
   AddEntry : (u : UpdateOf) (code : ℕ) → TableRow
 
--- the restriction that a comparison stamp stands under beside that of the image that runs
+-- the restriction of a comparison stamp, compared with that of the active image
 abbrev pub stamp_rule : ℕ → ℕ → ℕ
 stamp_rule stamp active =
     if (stamp == no_stamp) || (active == no_stamp) then no_restriction
@@ -98,7 +99,7 @@ abbrev pub in_table : List Listed → Key → Bool
 in_table [] key = false
 in_table (e ∷ es) key = same_key e.key key || in_table es key
 
--- the flag of an entry, by how many stand before it and how many there are
+-- the flag of an entry, by the number of entries before it and the number of all
 abbrev pub flag_at : ℕ → ℕ → TransferFlag
 flag_at before count =
     if count == 1 then flags.StartAndEnd
@@ -120,11 +121,11 @@ table_row rows p e = TableRow.RefuseEntry invalid_state_for_command
 abbrev pub with_entry : UpdateOf → Key → ℕ → UpdateOf
 with_entry u key code = record u { table = u.table ++ record { key = key; code = code } ∷ [] }
 
--- a device that knows of one more component, and is in READY XFER once it knows of all
+-- a device with one more component in its table, and in READY XFER once the table is complete
 abbrev pub device_with_table : DeviceState → UpdateOf → DeviceState
 device_with_table v u = if length u.table == u.components then device_in_phase v (Phase.Ready u) else record v { phase = Phase.Learn u }
 
--- whether something stands against a component, and what
+-- the response to a component of the table, by its restriction
 abbrev pub table_response : ℕ → TableResponse
 table_response code = record { response = if code == no_restriction then can_be_updated else cannot_be_updated; code = code }
 
@@ -143,7 +144,7 @@ pub data OfferRow : Type 0 where
   DeclineOffer : (code : ℕ) → OfferRow
   BeginWork : (u : UpdateOf) → OfferRow
 
--- the restriction of the component that is offered: a forced one's stamp isn't compared
+-- the restriction of the offered component: the stamp of a forced one isn't compared
 abbrev pub offer_rule : Option RowOf → OfferOf → ℕ
 offer_rule None o = not_supported
 offer_rule (Some row) o = if o.force then no_restriction else stamp_rule o.version.stamp row.active.label.stamp
@@ -168,7 +169,7 @@ offer_row rows p o quiet works = OfferRow.RefuseOffer invalid_state_for_command
 abbrev pub work_begun : OfferOf → WorkOf
 work_begun o = record { key = o.key; size = o.size; label = label_of o.version; force = o.force }
 
--- how far a download is with so many bytes
+-- the progress of a download with `received` bytes
 abbrev pub download_progress : ℕ → ℕ → Progress
 download_progress have size = if nat_lt have size then progress.InProgress else progress.Succeeded
 
@@ -218,12 +219,12 @@ pub data SwitchRow : Type 0 where
 abbrev pub is_applied : List RowOf → Key → Bool
 is_applied rows key = is_some (applied_of (row_of rows key))
 
--- whether a component of the table that nothing stands against isn't applied
+-- whether a component of the table without a restriction isn't applied
 abbrev pub lacks_listed : List RowOf → List Listed → Bool
 lacks_listed rows [] = false
 lacks_listed rows (e ∷ es) = ((e.code == no_restriction) && not (is_applied rows e.key)) || lacks_listed rows es
 
--- whether one of the device's components is applied
+-- whether at least one of the device's components is applied
 abbrev pub has_applied : List RowOf → List BankComponent → Bool
 has_applied rows [] = false
 has_applied rows (c ∷ cs) = is_applied rows c.key || has_applied rows cs
@@ -250,7 +251,7 @@ switch_by v SwitchRow.Switch =
 abbrev pub switch_take : DeviceState → Bool → CommandEffect
 switch_take v works = switch_by v (switch_row v.components v.rows v.phase works)
 
--- whether ActivateFirmware activates now, where the bank's call works
+-- whether ActivateFirmware activates now, if the bank's call works
 abbrev pub is_switch : SwitchRow → Bool
 is_switch (SwitchRow.RefuseSwitch code) = false
 is_switch SwitchRow.Switch = true
@@ -276,7 +277,8 @@ cancel_by v CancelRow.Reset = effect_of_success (device_after_reset v reasons.Ca
 abbrev pub cancel_take : DeviceState → CommandEffect
 cancel_take v = cancel_by v (cancel_row v.phase)
 
--- GetFirmwareParameters: the device's components in configured order, and what runs and is applied of each
+-- GetFirmwareParameters: the device's components in configured order, and the active and applied
+-- image of each
 
 abbrev pub parameters_by : List RowOf → BankComponent → ParametersOf
 parameters_by rows c =
@@ -316,14 +318,14 @@ progress_number progress.InProgress = 0
 progress_number progress.Succeeded = 1
 progress_number (progress.Failed _) = 2
 
--- the state's progress, 3 where the state has none
+-- the state's progress, 3 if the state has none
 abbrev pub aux_of : Phase → ℕ
 aux_of (Phase.Download u w p) = progress_number p
 aux_of (Phase.Verify u w p) = progress_number p
 aux_of (Phase.Apply u w p) = progress_number p
 aux_of p = 3
 
--- the result of a failure, 0 where there is none
+-- the result of a failure, 0 if there is none
 abbrev pub failure_or_none : Progress → ℕ → ℕ
 failure_or_none (progress.Failed _) failure = failure
 failure_or_none p failure = 0
@@ -352,7 +354,7 @@ status_of v =
       force = force_of v.phase;
     }
 
--- The device takes a command. Those that a device asks itself it doesn't know.
+-- The device takes a command. It doesn't support the commands that a device sends.
 abbrev pub device_take : DeviceState → CommandOf → Bool → Bool → CommandEffect
 device_take v CommandOf.QueryDeviceIdentifiers quiet works = effect_of_answer v (AnswerOf.QueryDeviceIdentifiers v.descriptors)
 device_take v CommandOf.GetFirmwareParameters quiet works =
@@ -380,15 +382,15 @@ activated_by v c quiet works = (device_take v c quiet works).activated
 abbrev pub idle_after : ℕ → DeviceState → CommandOf → Bool → Bool → ℕ
 idle_after idle v c quiet works = idle_count_if idle (device_take v c quiet works).stirs
 
--- an answer that fits a message at the smallest unit, and so at each
+-- an answer that fits a message at the smallest unit, and therefore at each
 abbrev pub IsShort : AnswerOf → Type 0
 IsShort a = length (answer_bytes a) ≤ reply_limit U64
 
--- a device after what was done, and its answer
+-- a device after the effect of a command, and its answer
 abbrev pub IsTaken : DeviceOf → DeviceOf → AnswerOf → CommandEffect → Type 0
 IsTaken old new answer t = (answer ≡ t.answer) × (new.device ≡ t.after) × (new.idle ≡ idle_count_if old.idle t.stirs)
 
--- whether the bank's call worked, read off an answer: only a failing one gives this code
+-- whether the bank's call worked, by the answer: only a failing call gives this code
 abbrev pub answer_works : AnswerOf → Bool
 answer_works (AnswerOf.Refused code) = not (code == error)
 answer_works a = true

@@ -1,4 +1,4 @@
--- Which components a device and its bank have: nothing that happens to a device changes them.
+-- The components of a device and its bank: no event changes them.
 use Rattle.std.specs.Prelude.{◌≡◌, Bool, List, Option, map, true}
 use Rattle.fd_core.specs.Banks.{HaveKeysOnce, has_key}
 use Rattle.fd_core.specs.Commands.{device_after}
@@ -10,14 +10,15 @@ use Rattle.fd_core.specs.declared.states.Verdict.{Verdict}
 use Rattle.fwup_wire.specs.Values.{AnswerOf, CommandOf}
 use Rattle.fwup_wire.specs.declared.values.Key.{Key}
 
--- the component that is being updated is one of these
+-- the component that is being updated has one of these keys
 abbrev pub IsOneOf : List Key → Phase → Type 0
 IsOneOf keys (Phase.Download u w p) = has_key keys w.key ≡ true
 IsOneOf keys (Phase.Verify u w p) = has_key keys w.key ≡ true
 IsOneOf keys (Phase.Apply u w p) = has_key keys w.key ≡ true
 IsOneOf keys p = Unit {0}
 
--- The bank has the device's components, in the same order; no key stands twice; and what is being updated is one of them.
+-- The bank has the device's components, in the same order; each key occurs once; and the component
+-- that is being updated is one of them.
 pub record HasComponents (v : DeviceState) : Type 0 where
   pub keys : map key_of v.rows ≡ map (λ c. c.key) v.components
   pub apart : HaveKeysOnce (map key_of v.rows)

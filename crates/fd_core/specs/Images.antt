@@ -1,10 +1,10 @@
--- Images, and what a bank of them stands for.
+-- Images, and the images of a bank.
 use Rattle.std.specs.Prelude.{[], ◌&&◌, ◌++◌, ◌==◌, ◌∷◌, nat_lt, Bool, List, None, Option, Some, false, if◌then◌else◌, map, take, true, ℕ}
 use Rattle.fd_core.specs.Codes.{kept_text}
 use Rattle.fwup_wire.specs.Values.{VersionOf}
 use Rattle.fwup_wire.specs.declared.values.Key.{Key}
 
--- what is kept of an image's version: its comparison stamp, and its text with its type
+-- the kept parts of an image's version: its comparison stamp, and its text with its type
 pub record LabelOf : Type 0 where
   pub stamp : ℕ
   pub text_type : ℕ
@@ -14,7 +14,7 @@ pub record ImageOf : Type 0 where
   pub label : LabelOf
   pub bytes : List ℕ
 
--- a component of a bank: the image that runs, and the one that was applied and is to run next
+-- a component of a bank: the active image, and the applied one, which becomes active next
 pub record RowOf : Type 0 where
   pub key : Key
   pub active : ImageOf
@@ -27,7 +27,7 @@ pub record StageOf : Type 0 where
   pub label : LabelOf
   pub bytes : List ℕ
 
--- an image that was applied or activated, by the component that it is of
+-- an image that was applied or activated, with the key of its component
 pub record KeyedImage : Type 0 where
   pub key : Key
   pub bytes : List ℕ
@@ -38,12 +38,12 @@ same_key a b = (a.classification == b.classification) && (a.identifier == b.iden
 abbrev pub key_of : RowOf → Key
 key_of row = row.key
 
--- the component of a key, if it is there
+-- the component with a key, if there is one
 abbrev pub row_of : List RowOf → Key → Option RowOf
 row_of [] key = None
 row_of (row ∷ rows) key = if same_key row.key key then Some row else row_of rows key
 
--- the two images of a component that may be there
+-- the two images of a component, if there is one
 abbrev pub active_of : Option RowOf → Option ImageOf
 active_of None = None
 active_of (Some row) = Some row.active
@@ -67,7 +67,7 @@ sealed_if false row image = row
 abbrev pub rows_after_seal : List RowOf → Key → ImageOf → List RowOf
 rows_after_seal rows key image = map (λ row. sealed_if (same_key row.key key) row image) rows
 
--- what is applied runs, and nothing is applied
+-- the applied image becomes active, and no image is applied
 abbrev pub row_after_switch_to : RowOf → Option ImageOf → RowOf
 row_after_switch_to row None = row
 row_after_switch_to row (Some image) = record { key = row.key; active = image; applied = None }
@@ -78,12 +78,12 @@ row_after_switch row = row_after_switch_to row row.applied
 abbrev pub rows_after_switch : List RowOf → List RowOf
 rows_after_switch rows = map row_after_switch rows
 
--- the bytes of a stage, none where there is no stage
+-- the bytes of a stage, none if there is no stage
 abbrev pub staged_bytes : Option StageOf → List ℕ
 staged_bytes None = []
 staged_bytes (Some s) = s.bytes
 
--- a stage that has these bytes too
+-- a stage with these bytes appended
 abbrev pub staged_with : Option StageOf → List ℕ → Option StageOf
 staged_with None piece = None
 staged_with (Some s) piece = Some (record s { bytes = s.bytes ++ piece })
@@ -97,7 +97,7 @@ abbrev pub sealed_by : List RowOf → Option StageOf → List RowOf
 sealed_by rows None = rows
 sealed_by rows (Some s) = rows_after_seal rows s.key (image_in s)
 
--- what is kept of a version: the text's first bytes
+-- the label of a version: the text's first bytes are kept
 abbrev pub label_of : VersionOf → LabelOf
 label_of v = record { stamp = v.stamp; text_type = v.text.text_type; text = take kept_text v.text.bytes }
 
@@ -110,11 +110,11 @@ abbrev pub version_at : Option ImageOf → VersionOf
 version_at None = record { stamp = 0; text = record { text_type = 0; bytes = [] } }
 version_at (Some image) = version_by image.label
 
--- whether one key stands before another
+-- whether one key comes before another
 abbrev pub is_key_before : Key → Key → Bool
 is_key_before a b = if a.classification == b.classification then nat_lt a.identifier b.identifier else nat_lt a.classification b.classification
 
--- an image among others, by rising key
+-- an image inserted among others, by rising key
 abbrev pub images_with : KeyedImage → List KeyedImage → List KeyedImage
 images_with p [] = p ∷ []
 images_with p (q ∷ ps) = if is_key_before q.key p.key then q ∷ images_with p ps else p ∷ q ∷ ps

@@ -1,4 +1,4 @@
--- What holds of every device, whatever command it takes.
+-- Laws of every device, for each command.
 use Rattle.std.specs.Prelude.{[], ◌==◌, ◌≡◌, Bool, false, true, ℕ}
 use Rattle.fd_core.specs.Codes.{cannot_be_updated}
 use Rattle.fd_core.specs.Commands.{activated_by, device_after, device_answer, idle_after}
@@ -25,7 +25,7 @@ abbrev pub RefusalsActivateNothing : Type 0
 RefusalsActivateNothing = (v : DeviceState) (c : CommandOf) (quiet works : Bool) → IsRefusedByDevice v c quiet works
     → activated_by v c quiet works ≡ []
 
--- and the ticks without a change go on
+-- and the count of ticks without a change continues
 abbrev pub RefusalsKeepDeviceIdle : Type 0
 RefusalsKeepDeviceIdle = (idle : ℕ) (v : DeviceState) (c : CommandOf) (quiet works : Bool)
     → IsRefusedByDevice v c quiet works → idle_after idle v c quiet works ≡ idle

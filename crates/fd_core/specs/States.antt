@@ -1,4 +1,4 @@
--- What a device stands for (DSP0267 1.0, "Firmware device state machine").
+-- The state of a device (DSP0267 1.0, "Firmware device state machine").
 use Rattle.std.specs.Prelude.{[], ◌≡◌, Bool, List, Option, None, Some, if◌then◌else◌, ℕ}
 use Rattle.mctp_wire.specs.declared.unit.Unit.{«Unit»}
 use Rattle.fd_core.specs.Images.{LabelOf, RowOf, rows_after_drop}
@@ -13,20 +13,20 @@ use Rattle.fd_core.specs.declared.states.State.TheVariants as states
 use Rattle.fwup_wire.specs.Values.{DeviceDescriptorOf}
 use Rattle.fwup_wire.specs.declared.values.Key.{Key}
 
--- what stands from LEARN COMPONENTS to APPLY: what RequestUpdate said, and the components passed so far
+-- the data from LEARN COMPONENTS to APPLY: those of RequestUpdate, and the components passed so far
 pub record UpdateOf : Type 0 where
   pub transfer_size : ℕ
   pub components : ℕ
   pub table : List Listed
 
--- what stands from DOWNLOAD to APPLY: what UpdateComponent said
+-- the data from DOWNLOAD to APPLY: those of UpdateComponent
 pub record WorkOf : Type 0 where
   pub key : Key
   pub size : ℕ
   pub label : LabelOf
   pub force : Bool
 
--- where a device is in an update
+-- the state of a device in an update, with its data
 pub data Phase : Type 0 where
   Idle : Phase
   Learn : (u : UpdateOf) → Phase
@@ -36,7 +36,8 @@ pub data Phase : Type 0 where
   Apply : (u : UpdateOf) (w : WorkOf) (p : Progress) → Phase
   Activated : Phase
 
--- A device: its network's transmission unit, what it is configured with, its images, the bytes of the image that is being written, and where it is.
+-- A device: its network's transmission unit, its configuration, its images, the bytes of the image
+-- that is being written, and its phase.
 pub record DeviceState : Type 0 where
   pub unit : «Unit»
   pub descriptors : List DeviceDescriptorOf
@@ -47,7 +48,8 @@ pub record DeviceState : Type 0 where
   pub previous : State
   pub reason : Reason
 
--- The same with what stands apart: the ticks without a change, and how often the bank failed.
+-- The same with the parts kept separately: the ticks without a change, and the number of the bank's
+-- failures.
 pub record DeviceOf : Type 0 where
   pub device : DeviceState
   pub idle : ℕ
@@ -63,7 +65,7 @@ state_of (Phase.Verify u w p) = states.Verify
 state_of (Phase.Apply u w p) = states.Apply
 state_of Phase.Activated = states.Activate
 
--- how far the state is, in those that have work to do
+-- the progress of the phase, if it has work to do
 abbrev pub progress_of : Phase → Option Progress
 progress_of (Phase.Download u w p) = Some p
 progress_of (Phase.Verify u w p) = Some p
@@ -87,11 +89,11 @@ IsWhole p have = Prim.Unit {0}
 abbrev pub device_in_phase : DeviceState → Phase → DeviceState
 device_in_phase v p = record v { phase = p; previous = state_of v.phase }
 
--- a device that is idle again: what was applied is dropped
+-- a device that is idle again: applied images are dropped
 abbrev pub device_after_reset : DeviceState → Reason → DeviceState
 device_after_reset v why = record (device_in_phase v Phase.Idle) { reason = why; rows = rows_after_drop v.rows; stage = [] }
 
--- the count of ticks after something that sets it to 0, or doesn't
+-- the count of ticks after an event that sets it to 0, or doesn't
 abbrev pub idle_count_if : ℕ → Bool → ℕ
 idle_count_if idle stirs = if stirs then 0 else idle
 

@@ -1,4 +1,4 @@
--- What else happens to a device: verdicts on an image, ticks and restarts.
+-- The other events of a device: verdicts on an image, ticks and restarts.
 use Rattle.std.specs.Prelude.{[], ◌+◌, ◌∷◌, Bool, List, None, Option, Some, false, if◌then◌else◌, nat_lt, true, ℕ}
 use Rattle.fd_core.specs.Codes.{patience}
 use Rattle.fd_core.specs.Images.{ImageOf, KeyedImage, rows_after_seal}
@@ -10,7 +10,7 @@ use Rattle.fd_core.specs.declared.states.State.TheVariants as states
 use Rattle.fd_core.specs.declared.states.Verdict.{Verdict}
 use Rattle.fd_core.specs.declared.states.Verdict.TheVariants as verdicts
 
--- What a verdict does: the device after it, and the image that it applies.
+-- The effect of a verdict: the device after it, and the image that it applies.
 pub record VerdictEffect : Type 0 where
   pub after : DeviceState
   pub applied : List KeyedImage
@@ -18,7 +18,7 @@ pub record VerdictEffect : Type 0 where
 abbrev pub verdict_effect : DeviceState → Phase → Option VerdictEffect
 verdict_effect v p = Some (record { after = record v { phase = p }; applied = [] })
 
--- the image that was written, under the label that it was offered with
+-- the image that was written, with the label of its offer
 abbrev pub written_image : DeviceState → WorkOf → ImageOf
 written_image v w = record { label = w.label; bytes = v.stage }
 
@@ -30,7 +30,7 @@ apply_judged v u w true =
     }
 apply_judged v u w false = record { after = record v { phase = Phase.Apply u w (progress.Failed false) }; applied = [] }
 
--- A verdict counts in its state while that is in progress, and nowhere else.
+-- A verdict counts in its state while the work is in progress, and in no other state.
 abbrev pub verdict_at : DeviceState → Phase → Verdict → Bool → Option VerdictEffect
 verdict_at v (Phase.Verify u w progress.InProgress) verdicts.VerifyOk works = verdict_effect v (Phase.Verify u w progress.Succeeded)
 verdict_at v (Phase.Verify u w progress.InProgress) verdicts.VerifyFail works =
@@ -43,7 +43,7 @@ verdict_at v p verdict works = None
 abbrev pub device_verdict : DeviceState → Verdict → Bool → Option VerdictEffect
 device_verdict v verdict works = verdict_at v v.phase verdict works
 
--- the device after it, which is the same where the verdict doesn't count, and what it applies
+-- the device after a verdict, unchanged if the verdict doesn't count, and the image that it applies
 abbrev pub judged_or : DeviceState → Option VerdictEffect → DeviceState
 judged_or v None = v
 judged_or v (Some j) = j.after
@@ -58,7 +58,7 @@ images_of_verdict (Some j) = j.applied
 abbrev pub applied_by : DeviceState → Verdict → Bool → List KeyedImage
 applied_by v verdict works = images_of_verdict (device_verdict v verdict works)
 
--- why a device that waited too long is idle again; after an activation the next tick leads there
+-- the reason of a time-out; after an activation the next tick makes the device idle
 abbrev pub timeout_reason : Phase → Reason
 timeout_reason Phase.Idle = reasons.Initialization
 timeout_reason (Phase.Learn u) = reasons.TimeOutInLearn
@@ -85,6 +85,6 @@ tick_at p v idle = if nat_lt (idle + 1) patience then (v, idle + 1) else (device
 abbrev pub device_tick : DeviceState → ℕ → DeviceState × ℕ
 device_tick v idle = tick_at v.phase v idle
 
--- what a restart leaves: the images that run
+-- a device after a restart: its active images stay
 abbrev pub device_restart : DeviceState → DeviceState
 device_restart v = record (device_after_reset v reasons.Initialization) { previous = states.Idle }

@@ -1,4 +1,4 @@
--- What a device asks of the agent, and what it learns from the answers (DSP0267 1.0).
+-- A device's pending commands to the agent, and its handling of the answers (DSP0267 1.0).
 use Rattle.std.specs.Prelude.{[], ◌++◌, ◌-◌, ◌==◌, Bool, List, None, Option, Some, false, if◌then◌else◌, length, max, min, take, true, ℕ}
 use Rattle.mctp_wire.specs.declared.unit.Unit.{«Unit»}
 use Rattle.fd_core.specs.Codes.{application_failed, result_success, transfer_failed, verification_failed}
@@ -10,12 +10,12 @@ use Rattle.fwup_wire.specs.Values.{AnswerOf, CommandOf}
 use Rattle.fwup_wire.specs.Transfers.{transfer_size}
 use Rattle.fwup_wire.specs.declared.transfers.TheConstants.{MIN_TRANSFER}
 
--- How many bytes it asks for at once: what is missing, at most as many as the agent gives and as fit a message, and never
--- fewer than the least length. What is then too much is padding.
+-- The number of bytes requested at once: the missing bytes, limited to the agent's transfer size
+-- and to a message, and never fewer than the least length. Bytes past the missing ones are padding.
 abbrev pub asked_length : «Unit» → UpdateOf → WorkOf → ℕ → ℕ
 asked_length unit u w have = max MIN_TRANSFER (min (transfer_size unit) (min u.transfer_size (w.size - have)))
 
--- the result that is to be reported: success, or the state's own failure until it is reported
+-- the result that has to be reported: success, or the state's own failure until it is reported
 abbrev pub report_of : Progress → ℕ → Option ℕ
 report_of progress.InProgress failure = None
 report_of progress.Succeeded failure = Some result_success
@@ -33,7 +33,7 @@ download_wish unit u w p have = report_if CommandOf.TransferComplete (report_of 
 abbrev pub apply_report : ℕ → CommandOf
 apply_report result = CommandOf.ApplyComplete result 0
 
--- what it wishes in a state, with so many bytes of the image
+-- the pending command in a phase, with the given number of the image's bytes
 abbrev pub wish_at : «Unit» → Phase → ℕ → Option CommandOf
 wish_at unit (Phase.Download u w p) have = download_wish unit u w p have
 wish_at unit (Phase.Verify u w p) have = report_if CommandOf.VerifyComplete (report_of p verification_failed)
@@ -43,7 +43,7 @@ wish_at unit p have = None
 abbrev pub device_wish : DeviceState → Option CommandOf
 device_wish v = wish_at v.unit v.phase (length v.stage)
 
--- Which row of learning it is. A malformed answer is None.
+-- The case of an answer. A malformed answer is None.
 pub data DeviceLearnRow : Type 0 where
   Stay : DeviceLearnRow
   PutPiece : (bytes : List ℕ) → DeviceLearnRow
@@ -51,13 +51,13 @@ pub data DeviceLearnRow : Type 0 where
   NextState : DeviceLearnRow
   Reported : DeviceLearnRow
 
--- a download that misses bytes: those of an answer of exactly the length that was asked for are put
+-- a download that misses bytes: those of an answer of exactly the requested length are put
 abbrev pub piece_row : ℕ → Option AnswerOf → Bool → DeviceLearnRow
 piece_row asked (Some (AnswerOf.RequestFirmwareData bytes)) works =
     if length bytes == asked then (if works then DeviceLearnRow.PutPiece bytes else DeviceLearnRow.PutFails) else DeviceLearnRow.Stay
 piece_row asked a works = DeviceLearnRow.Stay
 
--- success that is to be reported: the answer to the report leads on
+-- success that has to be reported: the answer to the report moves the device to the next state
 abbrev pub transferred_row : Option AnswerOf → DeviceLearnRow
 transferred_row (Some AnswerOf.TransferComplete) = DeviceLearnRow.NextState
 transferred_row a = DeviceLearnRow.Stay
@@ -70,7 +70,7 @@ abbrev pub applied_row : Option AnswerOf → DeviceLearnRow
 applied_row (Some AnswerOf.ApplyComplete) = DeviceLearnRow.NextState
 applied_row a = DeviceLearnRow.Stay
 
--- a report of a failure: any answer will do
+-- a report of a failure: any answer counts
 abbrev pub report_row : Progress → DeviceLearnRow → DeviceLearnRow
 report_row progress.InProgress row = DeviceLearnRow.Stay
 report_row progress.Succeeded row = row
@@ -80,7 +80,8 @@ abbrev pub download_row : Progress → ℕ → Option AnswerOf → Bool → Devi
 download_row progress.InProgress asked a works = piece_row asked a works
 download_row p asked a works = report_row p (transferred_row a)
 
--- What an answer does: the device after it, and whether the count of ticks without a change begins anew.
+-- The effect of an answer: the device after it, and whether the count of ticks without a change
+-- restarts.
 pub record AnswerEffect : Type 0 where
   pub after : DeviceState
   pub stirs : Bool

@@ -1,4 +1,4 @@
-//! Where a device keeps its images.
+//! The place where a device keeps its images.
 
 ghost use Rattle.std.specs.Prelude.{◌≡◌, ◌+◌, ◌≤◌, [], List, None, ℕ, length, Option, Some, IsSome, IsSomeAnd, OnOk, OnErr, is_some, option_map};
 ghost use Rattle.fd_core.specs.Banks.{CountsFailure};
@@ -15,17 +15,17 @@ pub enum BankFault {
     /// The memory device failed.
     #[error("Device")]
     Device,
-    /// Memory was refused.
+    /// Memory could not be allocated.
     #[error("Memory")]
     Memory,
 }
 
-/// A bank of images. For each component, in the order in which the device is configured, it has the image that runs
-/// and at most one that was applied and runs next; and at most one stage, an image that is being written. Its
-/// components never change.
+/// A bank of images. For each component, in configured order, it has the active image and at most
+/// one applied image, which becomes active next. It also has at most one stage, an image that is
+/// being written. Its components never change.
 ///
-/// A call that fails changes neither images nor stage, and `failures` rises by one, or stays at its last value, 2^64 - 1.
-/// In any other call it stays.
+/// A call that fails changes neither images nor stage, and adds one to `failures`, which stops at
+/// its last value, 2^64 - 1. No other call changes `failures`.
 pub trait Bank {
     ghost rows: { Self → List RowOf };
 
@@ -33,17 +33,17 @@ pub trait Bank {
 
     ghost faults: { Self → ℕ };
 
-    /// The image that runs, if the component is there.
+    /// Returns the active image, if the bank has the component.
     fn active(&self, key: Key) -> Option<(&Label, &[u8])>
         ensures found { is_some result ≡ is_some (active_of (row_of (rows self.now) key)) }
         ensures image { option_map (λ r. record { label = r.0.now; bytes = r.1.now }) result ≡ active_of (row_of (rows self.now) key) };
 
-    /// The image that was applied, if there is one.
+    /// Returns the applied image, if there is one.
     fn applied(&self, key: Key) -> Option<(&Label, &[u8])>
         ensures found { is_some result ≡ is_some (applied_of (row_of (rows self.now) key)) }
         ensures image { option_map (λ r. record { label = r.0.now; bytes = r.1.now }) result ≡ applied_of (row_of (rows self.now) key) };
 
-    /// A new stage, which is empty, for an image of `size` bytes, at most `MAX_IMAGE`.
+    /// Begins a new, empty stage for an image of `size` bytes, at most `MAX_IMAGE`.
     fn begin(&mut self, key: Key, size: u32, label: &Label) -> Result<(), BankFault>
         requires known { IsSome (row_of (rows self.old) key) }
         requires size { size ≤ longest_image }
@@ -62,7 +62,7 @@ pub trait Bank {
         ensures worked { OnOk result (faults self.new ≡ faults self.old) }
         ensures failed { OnErr result (CountsFailure (faults self.old) (faults self.new)) };
 
-    /// The full stage becomes the image that is applied for its component.
+    /// Makes the full stage the applied image of its component.
     fn seal(&mut self) -> Result<(), BankFault>
         requires { IsSomeAnd (stage self.old) (λ s. length s.bytes ≡ s.size) }
         ensures ok { OnOk result ((rows self.new ≡ sealed_by (rows self.old) (stage self.old)) × (stage self.new ≡ None)) }
@@ -70,20 +70,20 @@ pub trait Bank {
         ensures worked { OnOk result (faults self.new ≡ faults self.old) }
         ensures failed { OnErr result (CountsFailure (faults self.old) (faults self.new)) };
 
-    /// All applied images run, and nothing is applied or staged: wholly or not at all.
+    /// Makes all applied images active, and drops the stage: entirely or not at all.
     fn switch(&mut self) -> Result<(), BankFault>
         ensures ok { OnOk result ((rows self.new ≡ rows_after_switch (rows self.old)) × (stage self.new ≡ None)) }
         ensures kept { OnErr result ((rows self.new ≡ rows self.old) × (stage self.new ≡ stage self.old)) }
         ensures worked { OnOk result (faults self.new ≡ faults self.old) }
         ensures failed { OnErr result (CountsFailure (faults self.old) (faults self.new)) };
 
-    /// Nothing is applied or staged.
+    /// Drops all applied images and the stage.
     fn drop_pending(&mut self)
         ensures rows { rows self.new ≡ rows_after_drop (rows self.old) }
         ensures stage { stage self.new ≡ None }
         ensures faults { faults self.new ≡ faults self.old };
 
-    /// How many calls failed so far. The count stops at its last value.
+    /// Returns the number of calls that failed. The count stops at its last value.
     fn failures(&self) -> u64
         ensures { result ≡ faults self.now };
 }

@@ -43,17 +43,18 @@ const PATIENCE: u8 = 240;
 pub struct Device<B: Bank> {
     /// The transmission unit of its network; it never changes.
     unit: Unit,
-    /// What identifies the device; it never changes.
+    /// The device's descriptors; they never change.
     descriptors: DescriptorList,
-    /// The components that it has; they never change.
+    /// The device's components; they never change.
     components: ArrayVec<BankComponent, MAX_COMPONENTS>,
-    /// Where their images are kept. Its stage counts in DOWNLOAD, VERIFY and APPLY.
+    /// The bank with the components' images. Its stage is used in DOWNLOAD, VERIFY and APPLY.
     bank: B,
-    /// The state, how the device came there, and the ticks without a change.
+    /// The state, the history of its last changes, and the ticks without a change.
     course: Course,
-    /// What RequestUpdate and PassComponentTable said. It counts from LEARN COMPONENTS to APPLY.
+    /// The data of RequestUpdate and PassComponentTable. They are used from LEARN COMPONENTS to
+    /// APPLY.
     update: Update,
-    /// What UpdateComponent said. It counts in DOWNLOAD, VERIFY and APPLY.
+    /// The data of UpdateComponent. They are used in DOWNLOAD, VERIFY and APPLY.
     work: Work,
 }
 
@@ -84,7 +85,8 @@ impl<B: Bank> Model for Device<B> {
 }
 
 impl<B: Bank> Device<B> {
-    /// A device on a network of this transmission unit, which is idle. Its bank has its components, in the same order.
+    /// Returns an idle device on a network with this transmission unit. Its bank has its
+    /// components, in the same order.
     pub fn new(
         unit: Unit,
         descriptors: DescriptorList,
@@ -124,7 +126,7 @@ impl<B: Bank> Device<B> {
         self.unit
     }
 
-    /// What identifies the device.
+    /// The device's descriptors.
     pub fn descriptors(&self) -> &DescriptorList
         ensures { result.now ≡ self.now.device.descriptors }
     {
@@ -138,7 +140,7 @@ impl<B: Bank> Device<B> {
         self.course.state
     }
 
-    /// How far the work of DOWNLOAD, VERIFY or APPLY is.
+    /// Returns the progress of DOWNLOAD, VERIFY or APPLY.
     pub fn progress(&self) -> Option<Progress>
         ensures { result ≡ progress_of self.now.device.phase }
     {
@@ -148,7 +150,8 @@ impl<B: Bank> Device<B> {
         }
     }
 
-    /// The component that is being updated and its image's bytes, from DOWNLOAD to APPLY.
+    /// Returns the component that is being updated and its image's size in bytes, from DOWNLOAD to
+    /// APPLY.
     pub fn staged(&self) -> Option<(Key, u32)>
         ensures staged { result ≡ staged_of self.now.device.phase }
         ensures whole { IsWhole self.now.device.phase (length self.now.device.stage) }
@@ -159,7 +162,7 @@ impl<B: Bank> Device<B> {
         }
     }
 
-    /// The keys of the device's components, in configured order, each with its index.
+    /// Returns the keys of the device's components, in configured order, each with its index.
     pub fn keys(&self) -> &[BankComponent]
         ensures keys { result.now ≡ self.now.device.components }
         ensures few { length result.now ≤ 3 }
@@ -167,11 +170,11 @@ impl<B: Bank> Device<B> {
         self.components.as_slice()
     }
 
-    /// Takes a command of the agent, and gives the reply: a completion code, and the fields after code 0. `quiet` says
-    /// that the device has no request of its own under way. A refused command changes nothing. The reply fits a message of
-    /// either transmission unit.
+    /// Takes a command of the agent, and returns the reply: a completion code, and the fields after
+    /// code 0. `quiet` is set if no request of the device is in progress. A refused command changes
+    /// nothing. The reply fits a message of either transmission unit.
     ///
-    /// Code 1 answers UpdateComponent and ActivateFirmware where the bank failed, and only there.
+    /// Code 1 answers UpdateComponent and ActivateFirmware exactly if the bank failed.
     #[tactic(auto, using(crate::proofs::Answering::answers_its_command))]
     pub fn take(&mut self, command: &Command<'_>, quiet: bool) -> Reply
         ensures answer { result.items ≡ answer_bytes (device_answer self.old.device (command_of command.now) quiet (bytes_work result.items)) }
@@ -204,11 +207,12 @@ impl<B: Bank> Device<B> {
         }
     }
 
-    /// A verdict on the image that was written: VERIFY and APPLY wait for one each while they are in progress. ApplyOk
-    /// is the moment of application: the image is applied for its component, unless the bank fails.
+    /// Takes a verdict on the image that was written: VERIFY and APPLY wait for one each while they
+    /// are in progress. ApplyOk is the moment of application: the image is applied for its
+    /// component, unless the bank fails.
     ///
     /// # Errors
-    /// `NotNow` where no such verdict is waited for. Then nothing changes.
+    /// `NotNow` if the device doesn't wait for such a verdict. Then nothing changes.
     pub fn verdict(&mut self, verdict: Verdict) -> Result<(), NotNow>
         ensures counts { is_ok result ≡ is_some (device_verdict self.old.device verdict (not (has_failed self.new.device.phase))) }
         ensures after { self.new.device ≡ verdict_after self.old.device verdict (not (has_failed self.new.device.phase)) }
@@ -238,8 +242,8 @@ impl<B: Bank> Device<B> {
         Ok(())
     }
 
-    /// One tick passes. After an activation the device is idle again; elsewhere an update ends in the 240th tick without
-    /// a change.
+    /// Counts a tick. After an activation the device becomes idle; in other states an update ends
+    /// in the 240th tick without a change.
     pub fn idle_tick(&mut self)
         ensures device { self.new.device ≡ (device_tick self.old.device self.old.idle).0 }
         ensures idle { self.new.idle ≡ (device_tick self.old.device self.old.idle).1 }
@@ -262,7 +266,7 @@ impl<B: Bank> Device<B> {
         }
     }
 
-    /// The device starts anew: what was applied is dropped, and the images that run stay.
+    /// Restarts the device: applied images are dropped, and active images stay.
     pub fn restart(&mut self)
         ensures device { self.new.device ≡ device_restart self.old.device }
         ensures idle { self.new.idle ≡ 0 }
@@ -272,7 +276,7 @@ impl<B: Bank> Device<B> {
         self.course.previous = State::Idle;
     }
 
-    /// Ends the update: what is applied is dropped, and the device is idle.
+    /// Ends the update: applied images are dropped, and the device becomes idle.
     fn end(&mut self, reason: Reason)
         ensures device { self.new.device ≡ device_after_reset self.old.device reason }
         ensures idle { self.new.idle ≡ 0 }
@@ -292,7 +296,7 @@ impl<B: Bank> Device<B> {
     }
 }
 
-/// What stands where no component is being updated.
+/// Returns the work of a device that updates no component.
 fn no_work() -> Work {
     Work {
         key: NO_KEY,

@@ -1,4 +1,4 @@
-//! A bank that fails once, for tests of what a failure leads to.
+//! A bank that fails once, for tests of failures.
 
 ghost use Rattle.std.specs.Prelude.{◌≡◌, ◌-◌, ◌==◌, Err, false, not, true};
 ghost use Rattle.fd_core.specs.Banks.{CountsFailure};
@@ -8,18 +8,19 @@ use crate::labels::Label;
 use crate::memory::MemBank;
 use fwup_wire::Key;
 
-/// A bank in memory of which one call fails, once, with `Device`. `begin`, `put`, `seal` and `switch` count.
+/// A bank in memory that fails one call, once, with `Device`. `begin`, `put`, `seal` and `switch`
+/// count.
 #[derive(Drop)]
 pub struct FailBank {
     bank: MemBank,
-    /// The calls up to the one that fails, which is counted too; 0 after it.
+    /// The calls up to and including the call that fails; 0 after it.
     left: u64,
     faults: u64,
 }
 
 impl FailBank {
-    /// A bank that answers as this one does, save that its `k`-th call that can fail does so, counted from 1. At 0 none
-    /// does.
+    /// Returns a bank that behaves as `bank`, except that its `k`-th call that can fail does so,
+    /// counted from 1. If `k` is 0, none does.
     pub fn new(bank: MemBank, k: u64) -> FailBank
         ensures bank { result.bank ≡ bank }
         ensures left { result.left ≡ k }
@@ -39,7 +40,7 @@ impl FailBank {
         &self.bank
     }
 
-    /// Whether the call that is made now works.
+    /// Returns whether the present call works.
     fn works(&mut self) -> bool
         ensures result { result ≡ not (self.old.left == 1) }
         ensures bank { self.new.bank ≡ self.old.bank }

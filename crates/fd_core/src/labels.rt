@@ -1,4 +1,4 @@
-//! What is kept of an image's version.
+//! Labels of images.
 
 ghost use Rattle.std.specs.Prelude.{◌≡◌, ◌≤◌, [], length};
 ghost use Rattle.fd_core.specs.Images.{label_of, version_by};
@@ -9,10 +9,11 @@ use fwup_wire::code::text_type;
 use fwup_wire::{TypedText, Version};
 use std::marker::Model;
 
-/// The most bytes of a version text that are kept, so that the parameters of all components fit one answer.
+/// The most bytes of a version text that a label keeps, so that the parameters of all components
+/// fit one answer.
 pub const MAX_TEXT: usize = 12;
 
-/// What an image calls itself, as a bank keeps it.
+/// The version of an image, as a bank keeps it.
 #[derive(PartialEq, Eq, Drop)]
 pub struct Label {
     /// The comparison stamp.
@@ -34,7 +35,7 @@ impl Model for Label {
 }
 
 impl Label {
-    /// The label of an image of this version: its text is cut to the bytes that are kept.
+    /// Returns the label of an image of this version: its text is cut to `MAX_TEXT` bytes.
     pub fn new(version: &Version<'_>) -> Label
         ensures { result ≡ label_of (version_of version.now) }
     {
@@ -48,7 +49,7 @@ impl Label {
         }
     }
 
-    /// The label of no image: stamp 0, text type 0 and no text.
+    /// Returns the label of no image: stamp 0, text type 0 and no text.
     pub(crate) fn empty() -> Label
         ensures { result ≡ record { stamp = 0; text_type = 0; text = [] } }
     {
@@ -59,7 +60,7 @@ impl Label {
         }
     }
 
-    /// The same label again.
+    /// Returns a copy of the label.
     pub fn copied(&self) -> Label
         ensures { result ≡ self.now }
     {
@@ -79,7 +80,7 @@ impl Label {
         self.stamp
     }
 
-    /// The version, its text lent.
+    /// Returns the version, its text borrowed.
     pub fn version(&self) -> Version<'_>
         ensures version { version_of result ≡ version_by self.now }
         ensures short { length self.now.text ≤ 12 }

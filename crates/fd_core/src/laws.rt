@@ -1,4 +1,4 @@
-//! What holds of every bank and every device, whatever is called.
+//! Laws of every bank and every device, over any calls.
 
 ghost use Rattle.std.specs.Prelude.{◌≡◌, List, map};
 ghost use Rattle.fd_core.specs.BankCalls.{AnswersDependOnCalls, CommandsDependOnCalls, VerdictsDependOnCalls};
@@ -7,7 +7,8 @@ ghost use Rattle.fd_core.specs.Components.{AnswersKeepComponents, CommandsKeepCo
 ghost use Rattle.fd_core.specs.Laws.{RefusalsActivateNothing, RefusalsKeepTheDevice, RefusalsKeepDeviceIdle};
 ghost use Rattle.fwup_wire.specs.declared.values.Key.{Key};
 
-/// The components of a bank never change: what drops, seals and switches images keeps their keys and their order.
+/// The components of a bank never change: dropping, sealing and switching images keeps their keys
+/// and their order.
 #[tactic(auto, using(crate::proofs::Rows::keys_dropped, crate::proofs::Rows::keys_sealed, crate::proofs::Rows::keys_switched))]
 pub fn components_stay()
     ensures dropped { (rows : List RowOf) → map key_of (rows_after_drop rows) ≡ map key_of rows }
@@ -15,7 +16,8 @@ pub fn components_stay()
     ensures switched { (rows : List RowOf) → map key_of (rows_after_switch rows) ≡ map key_of rows }
 {}
 
-/// Nothing that happens to a device changes which components it and its bank have. What it updates is one of them.
+/// No event changes the components of a device and its bank. The component that it updates is one
+/// of them.
 pub fn devices_keep_components()
     ensures commands { CommandsKeepComponents }
     ensures answers { AnswersKeepComponents }
@@ -24,16 +26,18 @@ pub fn devices_keep_components()
     ensures restarts { RestartsKeepComponents }
 {}
 
-/// A command that a device refuses, with a code other than 0 or by declining the component of an UpdateComponent, leaves
-/// it as it is: it activates nothing, and the ticks without a change go on.
+/// A command that a device refuses, with a code other than 0 or by declining the component of an
+/// UpdateComponent, leaves it as it is: it activates nothing, and the count of ticks without a
+/// change continues.
 pub fn refusals_change_nothing()
     ensures kept { RefusalsKeepTheDevice }
     ensures activated { RefusalsActivateNothing }
     ensures idle { RefusalsKeepDeviceIdle }
 {}
 
-/// What a device does depends on whether its bank works exactly where it calls the bank: at a command, at an answer, and
-/// at a verdict. Elsewhere it is the same for a bank that fails and for one that works.
+/// The effect of a call on a device depends on whether its bank works exactly if the device calls
+/// the bank: at a command, at an answer, and at a verdict. Otherwise it is the same for a bank that
+/// fails and for one that works.
 pub fn bank_calls_decide()
     ensures commands { CommandsDependOnCalls }
     ensures answers { AnswersDependOnCalls }

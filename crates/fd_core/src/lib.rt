@@ -1,4 +1,4 @@
-//! A firmware device under update (DSP0267 1.0): the banks that it keeps its images in, and its state machine.
+//! A firmware device under update (DSP0267 1.0): the banks with its images, and its state machine.
 #![tactic(auto)]
 
 mod bank;

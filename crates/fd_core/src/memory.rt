@@ -16,10 +16,12 @@ mod places;
 
 use places::Place;
 
-/// A bank in memory. Each component has three areas: one runs, one may be applied, and one is written. Nothing is copied
-/// when an image is applied or activated, and what is written can't harm what runs or is applied.
+/// A bank in memory. Each component has three areas: one is active, one may be applied, and one is
+/// written. No image is copied when it is applied or activated, and writing can't change an active
+/// or applied image.
 ///
-/// `begin` takes the memory of the whole image, where the area hasn't got it yet, and no other call of `Bank` takes any.
+/// `begin` allocates the memory of the whole image if the area hasn't got it yet; no other call of
+/// `Bank` allocates.
 #[derive(Drop)]
 pub struct MemBank {
     alloc: Global,
@@ -41,7 +43,7 @@ impl Model for MemBank {
 }
 
 impl MemBank {
-    /// A bank without components.
+    /// Returns a bank without components.
     pub fn new(alloc: Global) -> MemBank
         ensures rows { result.rows ≡ [] }
         ensures stage { result.stage ≡ None }
@@ -56,10 +58,11 @@ impl MemBank {
         }
     }
 
-    /// Adds a component that isn't there, with the image that runs, in area 0.
+    /// Adds a component that isn't in the bank, with its active image in area 0.
     ///
     /// # Errors
-    /// `Memory` where the memory of a component and its image is refused. Then nothing changes.
+    /// `Memory` if the memory of a component and its image can't be allocated. Then nothing
+    /// changes.
     #[tactic(auto, using(crate::proofs::MemBanks::bank_more, crate::proofs::MemBanks::stage_more))]
     pub fn add(&mut self, key: Key, label: &Label, image: &[u8]) -> Result<(), BankFault>
         requires { has_key (map key_of self.old.rows) key ≡ false }
@@ -79,7 +82,7 @@ impl MemBank {
         Ok(())
     }
 
-    /// Whether a component is there.
+    /// Returns whether the bank has a component.
     #[tactic(auto, using(crate::proofs::Places::found))]
     pub fn has(&self, key: Key) -> bool
         ensures { result ≡ has_key (map key_of self.now.rows) key }
@@ -87,8 +90,8 @@ impl MemBank {
         place_of(&self.places, key).is_some()
     }
 
-    /// Which of a component's areas, 0 to 2, is active, and which is applied if any. The image that the component was
-    /// added with is in area 0.
+    /// Returns the numbers of a component's active area and of its applied area, if any, 0 to 2.
+    /// The image that the component was added with is in area 0.
     #[tactic(auto, using(crate::proofs::Places::found))]
     pub fn areas(&self, key: Key) -> Option<(usize, Option<usize>)>
         ensures { result ≡ numbers_for self.now.areas key }
@@ -179,7 +182,7 @@ impl Bank for MemBank {
     }
 }
 
-/// The place of a component, if it is there.
+/// Returns the place of a component, if the bank has it.
 fn place_of(places: &[Place], key: Key) -> Option<&Place>
     ensures place { option_map (λ p. p.now) result ≡ place_for places.now key }
 {
@@ -191,7 +194,7 @@ fn place_of(places: &[Place], key: Key) -> Option<&Place>
     None
 }
 
-/// The number of a component's place, if it is there.
+/// Returns the number of a component's place, if the bank has it.
 fn position(places: &[Place], key: Key) -> Option<usize>
     ensures within { IfSome result (λ i. i < length places.now) }
     ensures found { IfSome result (λ i. same_key (get_or places.now i no_place).key key ≡ true) }
@@ -205,7 +208,7 @@ fn position(places: &[Place], key: Key) -> Option<usize>
     None
 }
 
-/// A new image is written for a component that is there.
+/// Begins an image of a component that the bank has.
 fn begin_at(places: &mut [Place], key: Key, size: u32, label: &Label) -> Result<(), AllocError>
     requires shaped { AreShaped (map shape_of places.old) }
     requires known { IsSome (place_for places.old key) }
@@ -236,7 +239,7 @@ fn append_at(places: &mut [Place], key: Key, piece: &[u8])
     place.append(piece);
 }
 
-/// What was written for a component runs next.
+/// Makes the image that was written for a component applied.
 fn apply_at(places: &mut [Place], key: Key)
     requires shaped { AreShaped (map shape_of places.old) }
     requires known { IsSome (place_for places.old key) }
@@ -249,7 +252,7 @@ fn apply_at(places: &mut [Place], key: Key)
     place.apply();
 }
 
-/// What runs next runs, of each component.
+/// Makes the applied image of each component active.
 fn activate_all(places: &mut [Place])
     ensures { places.new ≡ map place_after_switch places.old }
 {
@@ -258,7 +261,7 @@ fn activate_all(places: &mut [Place])
     }
 }
 
-/// Nothing runs next, of each component.
+/// Drops the applied image of each component.
 fn forget_all(places: &mut [Place])
     ensures { places.new ≡ map place_after_drop places.old }
 {

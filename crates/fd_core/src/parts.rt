@@ -1,4 +1,4 @@
-//! What a device keeps of its configuration and of an update.
+//! A device's configuration, and its data of an update.
 
 ghost use Rattle.std.specs.Prelude.{◌≡◌};
 ghost use Rattle.fd_core.specs.declared.states.Progress.TheVariants.{InProgress};
@@ -17,7 +17,7 @@ pub const MAX_TABLE: usize = 8;
 /// The most bytes of an image.
 pub const MAX_IMAGE: u32 = 1_048_576;
 
-/// The key that stands where there is none.
+/// The key used if there is no component.
 pub const NO_KEY: Key = Key {
     classification: 0,
     identifier: 0,
@@ -28,11 +28,11 @@ pub const NO_KEY: Key = Key {
 pub struct BankComponent {
     /// The component.
     pub key: Key,
-    /// Which of several components of its classification in the device.
+    /// The index among several components of its classification in the device.
     pub index: u8,
 }
 
-/// A component of the update, and what stands against it, as `fwup_wire::code::response`.
+/// A component of the update, and its restriction, as `fwup_wire::code::response`.
 #[derive(Clone, Copy, PartialEq, Eq)]
 pub struct Listed {
     pub key: Key,
@@ -40,7 +40,7 @@ pub struct Listed {
 }
 
 impl Default for BankComponent {
-    /// The component of key 0, 0: `ArrayVec` fills its unused places with it.
+    /// Returns the component of key 0, 0: `ArrayVec` fills its unused places with it.
     fn default() -> Self {
         BankComponent {
             key: NO_KEY,
@@ -50,7 +50,7 @@ impl Default for BankComponent {
 }
 
 impl Default for Listed {
-    /// The component of key 0, 0: `ArrayVec` fills its unused places with it.
+    /// Returns the component of key 0, 0: `ArrayVec` fills its unused places with it.
     fn default() -> Self {
         Listed {
             key: NO_KEY,
@@ -59,34 +59,34 @@ impl Default for Listed {
     }
 }
 
-/// What RequestUpdate said, and the components that were passed since.
+/// The data of RequestUpdate, and the components that were passed since.
 #[derive(Drop)]
 pub struct Update {
-    /// The most bytes that the agent gives at once.
+    /// The most bytes that the agent sends at once.
     pub transfer_size: u32,
-    /// How many components the update has.
+    /// The number of components of the update.
     pub components: u16,
-    /// Those that were passed so far.
+    /// The components that were passed so far.
     pub table: ArrayVec<Listed, MAX_TABLE>,
 }
 
-/// What UpdateComponent said, and how many bytes of the image are stored.
+/// The data of UpdateComponent, and the number of the image's bytes that are stored.
 #[derive(Drop)]
 pub struct Work {
     /// The component.
     pub key: Key,
-    /// The image's bytes.
+    /// The image's size in bytes.
     pub size: u32,
     /// The version that the image will have.
     pub label: Label,
     /// Whether the update is forced.
     pub force: bool,
-    /// How many of the image's bytes are stored.
+    /// The number of the image's bytes that are stored.
     pub received: u32,
 }
 
 impl Work {
-    /// The work that an UpdateComponent begins.
+    /// Returns the work that an UpdateComponent begins.
     pub fn new(offer: &ComponentOffer<'_>, label: Label) -> Work
         ensures { result ≡ record { key = offer.now.key; size = offer.now.size; label = label; force = offer.now.force; received = 0 } }
     {
@@ -100,23 +100,23 @@ impl Work {
     }
 }
 
-/// Where a device is, how it came there, and the ticks without a change.
+/// A device's state, the history of its last changes, and the ticks without a change.
 #[derive(Clone, Copy)]
 pub struct Course {
-    /// Where it is.
+    /// The device's state.
     pub state: State,
-    /// Of DOWNLOAD, VERIFY and APPLY; elsewhere it says nothing.
+    /// The progress in DOWNLOAD, VERIFY and APPLY; it has no meaning in other states.
     pub progress: Progress,
     /// The state before the last change of state.
     pub previous: State,
-    /// Why the device was last idle.
+    /// The reason why the device was last idle.
     pub reason: Reason,
     /// In ticks, below `PATIENCE`.
     pub idle: u8,
 }
 
 impl Course {
-    /// Goes to a state, whose work is in progress.
+    /// Goes to a state, whose work is then in progress.
     pub fn go(&mut self, state: State)
         ensures { self.new ≡ record self.old { state = state; progress = InProgress; previous = self.old.state; idle = 0 } }
     {

@@ -1,11 +1,11 @@
-//! The words for where a device is in an update (DSP0267 1.0, "GetStatus").
+//! The states of a device in an update (DSP0267 1.0, "GetStatus").
 
 use thiserror::Error;
 
 /// A device's state, with its number in GetStatus.
 #[derive(Clone, Copy, PartialEq, Eq)]
 pub enum State {
-    /// No update is under way.
+    /// No update is in progress.
     Idle = 0,
     /// LEARN COMPONENTS: the components of the update are being passed.
     Learn = 1,
@@ -21,12 +21,12 @@ pub enum State {
     Activate = 6,
 }
 
-/// How far the work of DOWNLOAD, VERIFY or APPLY is.
+/// The progress of DOWNLOAD, VERIFY or APPLY.
 #[derive(Clone, Copy, PartialEq, Eq)]
 pub enum Progress {
-    /// It goes on.
+    /// It is in progress.
     InProgress,
-    /// It succeeded, which is to be reported.
+    /// It succeeded, and the device has to report it.
     Succeeded,
     /// It failed.
     Failed {
@@ -35,7 +35,7 @@ pub enum Progress {
     },
 }
 
-/// Why a device is idle, with its number in GetStatus.
+/// The reason why a device is idle, with its number in GetStatus.
 #[derive(Clone, Copy, PartialEq, Eq)]
 pub enum Reason {
     /// It was started.
@@ -44,32 +44,32 @@ pub enum Reason {
     Activation = 1,
     /// The update was cancelled.
     Cancelled = 2,
-    /// It waited too long in LEARN COMPONENTS.
+    /// It timed out in LEARN COMPONENTS.
     TimeOutInLearn = 3,
-    /// In READY XFER.
+    /// It timed out in READY XFER.
     TimeOutInReady = 4,
-    /// In DOWNLOAD.
+    /// It timed out in DOWNLOAD.
     TimeOutInDownload = 5,
-    /// In VERIFY.
+    /// It timed out in VERIFY.
     TimeOutInVerify = 6,
-    /// In APPLY.
+    /// It timed out in APPLY.
     TimeOutInApply = 7,
 }
 
-/// What the device's own tests say of an image.
+/// The result of the device's own tests of an image.
 #[derive(Clone, Copy, PartialEq, Eq)]
 pub enum Verdict {
-    /// The image is sound.
+    /// The image is valid.
     VerifyOk,
-    /// The image isn't sound.
+    /// The image isn't valid.
     VerifyFail,
-    /// The image can be applied: it is to run next.
+    /// The image can be applied: it becomes active next.
     ApplyOk,
     /// The image can't be applied.
     ApplyFail,
 }
 
-/// The verdict isn't asked for: the device isn't in its state, or has had one.
+/// The device doesn't wait for the verdict: it isn't in its state, or has had one.
 #[derive(Clone, Copy, Debug, PartialEq, Eq, Error)]
 #[error("NotNow")]
 pub struct NotNow;

@@ -86,8 +86,8 @@ work_failed (Some t) = has_failed t.after.device.phase
 taken_depends : (m : PairOf) (h : CellContentOf) (quiet blocked : Bool)
     → is_some (if blocked then None else Some (down_taken m h (device_take m.device h.command quiet true))) ≡ true
     → DifferIf (command_calls_bank m.device h.command quiet)
-      (if blocked then None else Some (down_taken m h (device_take m.device h.command quiet false)))
-      (if blocked then None else Some (down_taken m h (device_take m.device h.command quiet true)))
+    (if blocked then None else Some (down_taken m h (device_take m.device h.command quiet false)))
+    (if blocked then None else Some (down_taken m h (device_take m.device h.command quiet true)))
 unfolding down_taken
 taken_depends m h quiet true e = absurd (cc)
 taken_depends m h quiet false e =

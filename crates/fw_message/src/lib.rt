@@ -18,7 +18,8 @@ pub use cell::CellContent;
 pub use entry::{Entry, HistoryEvent, Image};
 pub use images::applied_images;
 pub use laws::{
-    bank_calls_decide, histories_are_judged, message_worlds_are_judged, messages_are_safe, runs_stay_tied, worlds_are_safe,
+    bank_calls_decide, histories_are_judged, message_worlds_are_judged, messages_are_safe,
+    runs_stay_tied, worlds_are_safe,
 };
 pub use messages::MessageWorld;
 pub use replay::message_replay;

@@ -56,7 +56,7 @@ read_depends h quiet requests m head (Err code) = refl
 -- a new request, of this PLDM type or of another
 request_depends : (h : HalfOf TimedDevice) (is_update : Bool) (requests : List (Option Held)) (m : MessageOf) (head : PldmHead) (body : List ℕ)
     → DifferIf (is_update && read_calls_bank device_core (is_quiet h.asker.caller) h.core (read_by device_core head.command body))
-      (takes_if is_update device_core false h requests m head body) (takes_if is_update device_core true h requests m head body)
+    (takes_if is_update device_core false h requests m head body) (takes_if is_update device_core true h requests m head body)
 request_depends h true requests m head body = read_depends h (is_quiet h.asker.caller) requests m head (read_by device_core head.command body)
 request_depends h false requests m head body = refl
 

@@ -68,7 +68,7 @@ not_there uses k i below above =
     ] in
     rw same (ne_eqb (get_or uses j 0) k other))
 
--- a search among rising numbers finds those that are there
+-- a search among rising numbers finds those that are in the list
 pub used_found : (uses : List ℕ) (k : ℕ) (r : Result ℕ ℕ) → IsBinarySearchResult (λ y. nat_cmp y k) uses r → IsStrictlyIncreasing uses → is_ok r ≡ is_used uses k
 used_found uses k (Ok i) h rising =
     let found = searched uses k (Ok i) h (rising_pair uses rising) in

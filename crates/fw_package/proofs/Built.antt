@@ -1,4 +1,4 @@
--- What reads as a package is put together from its parts.
+-- Bytes that read as a package are composed of its parts.
 use Rattle.std.proofs.Common.{◌≡◌, ℕ, zero, suc, ◌+◌, ◌≤◌, ◌∙◌, ◌==◌, nat_lt, if◌then◌else◌, Bool, true, false, List, [], ◌∷◌, ◌++◌, Result, Ok, Err, Some, None, length, take, drop, slice_index, refl, sym, ap, subst, arith, append_assoc}
 use borrow.Author.Tests.{ltb-false}
 use Rattle.std.proofs.lemmas.Bool.{eqb-true}
@@ -13,7 +13,7 @@ use Rattle.fw_package.specs.Records.{◌>>=◌, descriptor_split, descriptors_sp
 use Rattle.fw_package.specs.declared.fault.PackageFault.{PackageFault}
 use Rattle.fw_package.specs.declared.fault.PackageFault.TheVariants as faults
 
--- a chain that gives a value went through one
+-- a chain that returns a value went through one
 pub record GoesThrough {A B : Type 0} (r : Result A PackageFault) (f : A → Result B PackageFault) (y : B) : Type 0 where
   pub value : A
   pub is : r ≡ Ok value
@@ -38,7 +38,7 @@ split_from false n bytes q e h =
 pub split_is : (n : ℕ) (bytes : List ℕ) (q : List ℕ × List ℕ) → split_after n bytes ≡ Ok q → IsSplit n bytes q.0 q.1
 split_is n bytes q h = split_from (nat_lt (length bytes) n) n bytes q refl h
 
--- lists of so many
+-- lists of a given length
 pub four : (P : List ℕ → Type 0) → ((a b c d : ℕ) → P (a ∷ b ∷ c ∷ d ∷ [])) → (xs : List ℕ) → length xs ≡ 4 → P xs
 four P holds (a ∷ b ∷ c ∷ d ∷ []) fits = holds a b c d
 four P holds xs fits = absurd (omega (arith, fits))
@@ -47,19 +47,19 @@ eleven : (P : List ℕ → Type 0) → ((a b c d e f g h i j k : ℕ) → P (a �
 eleven P holds (a ∷ b ∷ c ∷ d ∷ e ∷ f ∷ g ∷ h ∷ i ∷ j ∷ k ∷ []) fits = holds a b c d e f g h i j k
 eleven P holds xs fits = absurd (omega (arith, fits))
 
--- a part, and what stands after it
+-- a part, and the bytes after it
 pub record IsFirst {A : Type 0} (IsPart : List ℕ → A → Type 0) (bytes : List ℕ) (x : A) (rest : List ℕ) : Type 0 where
   pub part : List ℕ
   pub is : bytes ≡ part ++ rest
   pub holds : IsPart part x
 
--- parts, and what stands after them
+-- parts, and the bytes after them
 pub record AreFirst {A : Type 0} (IsPart : List ℕ → A → Type 0) (bytes : List ℕ) (xs : List A) (rest : List ℕ) : Type 0 where
   pub front : List ℕ
   pub is : bytes ≡ front ++ rest
   pub hold : AreInTurn IsPart front xs
 
--- one more part before these
+-- one more part before the others
 pub more_first : {A : Type 0} (IsPart : List ℕ → A → Type 0) (bytes between rest : List ℕ) (x : A) (xs : List A) → IsFirst IsPart bytes x between → AreFirst IsPart between xs rest → AreFirst IsPart bytes (x ∷ xs) rest
 more_first IsPart bytes between rest x xs one others =
     record {
@@ -104,12 +104,12 @@ descriptors_built (suc n) bytes q h =
       counted = ap suc built.counted;
     })
 
--- the one answer of a last test
+-- the only result of a last test
 if_ok : {A : Type 0} (b : Bool) (x y : A) (e : PackageFault) → (if b then Ok x else Err e) ≡ Ok y → (b ≡ true) × (x ≡ y)
 if_ok true x y e h = (refl, cc)
 if_ok false x y e h = absurd (cc)
 
--- the record of these parts
+-- the record with these parts
 abbrev record_from : (head text : List ℕ) (descriptors : List DescriptorOf) (uses : List ℕ) → RecordOf
 record_from head text descriptors uses =
     record {
@@ -156,7 +156,7 @@ record_built size count bytes r h long =
     head.value.0 fixed.fits (rw fixed.is at long) named_text.fits described.counted (eqb-true (length descriptors.value.1) (little_number 2 (drop 9 head.value.0)) last.0) in
     subst (IsRecord size count bytes) last.1 (subst (λ xs. IsRecord size count xs (record_from head.value.0 text.value.0 descriptors.value.0 (components_named bitmap.value.0 count))) (sym fixed.is) built)
 
--- the walk over one more record, and what is left
+-- the walk over one more record, and the bytes left
 record_walked_from : (short cut : Bool) (n : ℕ) (bytes rest : List ℕ) → nat_lt (length bytes) 2 ≡ short → nat_lt (length bytes) (little_number 2 bytes) ≡ cut
     → option_and_then (after_records n) (if short then None else (if cut then None else Some (drop (little_number 2 bytes) bytes))) ≡ Some rest
     → (2 ≤ length bytes) × (little_number 2 bytes ≤ length bytes) × (after_records n (drop (little_number 2 bytes) bytes) ≡ Some rest)
@@ -212,7 +212,7 @@ twenty_two : (P : List ℕ → Type 0) → ((a b c d e f g h i j k l m n o p q r
 twenty_two P holds (a ∷ b ∷ c ∷ d ∷ e ∷ f ∷ g ∷ h ∷ i ∷ j ∷ k ∷ l ∷ m ∷ n ∷ o ∷ p ∷ q ∷ r ∷ s ∷ t ∷ u ∷ v ∷ xs) fits = holds a b c d e f g h i j k l m n o p q r s t u v xs
 twenty_two P holds xs fits = absurd (omega (arith, fits))
 
--- the walk over one more component, and what is left
+-- the walk over one more component, and the bytes left
 component_walked_from : (cut : Bool) (n : ℕ) (bytes rest : List ℕ) → nat_lt (length bytes) (22 + slice_index bytes 21) ≡ cut
     → option_and_then (after_components n) (if cut then None else Some (drop (22 + slice_index bytes 21) bytes)) ≡ Some rest
     → (22 + slice_index bytes 21 ≤ length bytes) × (after_components n (drop (22 + slice_index bytes 21) bytes) ≡ Some rest)

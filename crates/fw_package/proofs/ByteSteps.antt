@@ -9,7 +9,7 @@ use lib.Bits.{xor_assoc, xor_zero_r}
 use Rattle.fw_package.specs.Crc.{after_bit, after_bits, after_byte}
 use Rattle.fw_package.specs.declared.crc_table.TheConstants.{BYTE_STEPS}
 
--- what is added above the bit that leaves is moved down beside it
+-- adding `high` commutes with a bit step
 bit_added : (b : Bool) (low high : ℕ) → (if b then bit_xor (bit_xor low high) 0xEDB88320 else bit_xor low high) ≡ bit_xor (if b then bit_xor low 0xEDB88320 else low) high
 bit_added true low high = xor_assoc low high 0xEDB88320 ∙ ap (bit_xor low) (xor_comm high 0xEDB88320) ∙ sym (xor_assoc low 0xEDB88320 high)
 bit_added false low high = refl

@@ -73,7 +73,7 @@ is_among_there : (device : List DescriptorOf) (d : DescriptorOf) → Contains de
 is_among_there [] d (k, lt, is) = absurd (omega arith)
 is_among_there (e ∷ es) d c = elim (contains_case e d es c) [ inl is ↦ rw (is, same_self d) refl | inr there ↦ rw (is_among_there es d there) (or_true (same_descriptor d e)) ]
 
--- all of these are the device's
+-- all descriptors are the device's
 all_among : (device ds : List DescriptorOf) → list_all (is_among device) ds ≡ true → All (Contains device) ds
 all_among device [] h = λ k d lt. absurd (omega arith)
 all_among device (d ∷ ds) h =
@@ -193,7 +193,7 @@ sole p (m ∷ ms) n h c =
           rw (key_swapped (has_key (component_at p n).classification (component_at p n).identifier (component_at p m)) (component_at p n) (component_at p m) refl apart) (sole p ms n t.1 there)
     ]
 
--- what is known of a plan
+-- facts about a plan
 else_ok : {A : Type 0} (b : Bool) (e : PlanFault) (r : Result A PlanFault) (y : A) → (if b then Err e else r) ≡ Ok y → (b ≡ false) × (r ≡ Ok y)
 else_ok false e r y h = (refl, h)
 else_ok true e r y h = absurd (cc)

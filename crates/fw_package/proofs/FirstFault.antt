@@ -1,4 +1,4 @@
--- What stops the reading of bytes is their first fault.
+-- The fault that stops the reading of bytes is their first fault.
 use Rattle.std.proofs.Common.{◌≡◌, ◌≢◌, ℕ, zero, suc, ◌+◌, ◌-◌, ◌/◌, ◌%◌, ◌≤◌, ◌∙◌, ◌==◌, ◌||◌, not, nat_eq, nat_lt, if◌then◌else◌, Bool, true, false, List, ◌++◌, Result, Ok, Err, Option, Some, None, IfErr, IsOk, length, take, drop, slice_index, refl, sym, ap, subst, arith}
 use borrow.Author.Tests.{ltb-false, ltb-true}
 use Rattle.std.proofs.lemmas.Bool.{eqb-true}
@@ -35,7 +35,7 @@ not_true : (b : Bool) → not b ≡ true → b ≡ false
 not_true false h = refl
 not_true true h = absurd (cc)
 
--- the identifier is found where the bytes begin with it, and there alone
+-- the identifier is found exactly if the bytes begin with it
 unnamed : (bytes : List ℕ) → starts_with nat_eq bytes package_identifier ≡ false → take 16 bytes ≢ package_identifier
 unnamed bytes h is =
     let named : starts_with nat_eq bytes package_identifier ≡ true =

@@ -5,7 +5,7 @@ use Rattle.fw_package.specs.Records.{◌>>=◌, descriptor_split, descriptors_sp
 use Rattle.fw_package.specs.Views.{front_of, named_from}
 use Rattle.fw_package.specs.declared.fault.PackageFault.{PackageFault}
 
--- what stands after a list that was read
+-- the bytes after a list that was read
 abbrev pub back_of : {A B : Type 0} → Result (A × B) PackageFault → Result B PackageFault
 back_of (Ok p) = Ok p.1
 back_of (Err e) = Err e
@@ -47,7 +47,7 @@ descriptors_whole count bytes rest h = whole_from (descriptors_split count bytes
 pub descriptors_refused : (count : ℕ) (bytes : List ℕ) (e : PackageFault) → back_of (descriptors_split count bytes) ≡ Err e → descriptors_split count bytes ≡ Err e
 descriptors_refused count bytes e h = refused_from (descriptors_split count bytes) e h
 
--- the first of those that are left, and the others
+-- the first of the descriptors left, and the others
 pub record AreLeft (first : DescriptorOf) (count : ℕ) (bytes rest : List ℕ) : Type 0 where
   pub list : front_of (descriptors_split count bytes) ≡ first ∷ front_of (descriptors_split (count - 1) rest)
   pub others : IsOk (descriptors_split (count - 1) rest)

@@ -43,7 +43,7 @@ named_here size k uses lt =
     let whole : 8 * (k / 8) + k % 8 ≡ k = omega arith in
     rw (byte, bit, whole) (bit_is (is_used uses k))
 
--- what the test of rising numbers says of the first
+-- facts about the first, from the test of rising numbers
 record IsNext (count from k : ℕ) (ks : List ℕ) : Type 0 where
   least : from ≤ k
   below : k < count
@@ -64,7 +64,7 @@ not_before count from k (n ∷ ns) h lt =
     let rest : is_used ns k ≡ false = not_before count (n + 1) k ns next.others (omega (arith, least, lt)) in
     rw (ne_eqb n k other, rest) refl
 
--- a test that tells the same from a number on keeps the same
+-- two tests that agree from a number on keep the same
 same_kept : (p q : ℕ → Bool) (from n : ℕ) → ((k : ℕ) → from ≤ k → p k ≡ q k) → filter p (range_with_len from n) ≡ filter q (range_with_len from n)
 same_kept p q from zero same = refl
 same_kept p q from (suc n) same =

@@ -1,4 +1,4 @@
--- A package's text reads as that package, so it is one package at most.
+-- A package's bytes read as that package, so they are at most one package.
 use Rattle.std.proofs.Common.{◌≡◌, ◌≢◌, ℕ, ◌+◌, ◌-◌, ◌/◌, ◌%◌, ◌≤◌, ◌∙◌, ne_eqb, nat_lt, if◌then◌else◌, false, List, [], ◌∷◌, ◌++◌, Ok, Err, Some, length, take, drop, slice_index, refl, sym, ap, subst, arith, append_assoc}
 use Rattle.std.proofs.lemmas.Bool.{le-ltb, eq-eqb}
 use Rattle.std.proofs.lemmas.List.{drop-drop, length-append, length-drop}
@@ -59,7 +59,7 @@ pub tail_more : (m n0 n1 : ℕ) (version records components more : List ℕ) →
 tail_more m n0 n1 version records components more =
     append_assoc version (m ∷ (records ++ n0 ∷ n1 ∷ components)) more ∙ ap (λ r. version ++ m ∷ r) (append_assoc records (n0 ∷ n1 ∷ components) more)
 
--- the header is as long as it says
+-- the header has the length in it
 header_reads : (h0 h1 b0 b1 kind t size : ℕ) (release tail sum after : List ℕ) → length release ≡ 13 → length sum ≡ 4 → two_bytes h0 h1 ≡ length (before_of h0 h1 release (b0 ∷ b1 ∷ kind ∷ t ∷ tail)) + 4
     → header_of (before_of h0 h1 release (b0 ∷ b1 ∷ kind ∷ t ∷ tail) ++ (sum ++ after)) ≡ Ok (before_of h0 h1 release (b0 ∷ b1 ∷ kind ∷ t ∷ tail) ++ sum)
 header_reads h0 h1 b0 b1 kind t size release tail sum after fits four whole =
@@ -74,7 +74,7 @@ header_reads h0 h1 b0 b1 kind t size release tail sum after fits four whole =
     let front : take (two_bytes h0 h1) bytes ≡ before ++ sum = ap (take (two_bytes h0 h1)) (sym (append_assoc before sum after)) ∙ take_front (before ++ sum) after (two_bytes h0 h1) (omega arith) in
     at.header ∙ (rw (there, front) refl)
 
--- its parts end where it does
+-- its parts end at its end
 layout_reads : (h0 h1 b0 b1 kind m n0 n1 size count : ℕ) (release version records components sum file : List ℕ) (rs : List RecordOf) (cs : List ComponentOf) → length release ≡ 13 → length sum ≡ 4
     → m ≡ length rs → two_bytes n0 n1 ≡ length cs → AreInTurn (IsRecord size count) records rs → AreInTurn (IsComponent file) components cs
     → layout_of (before_of h0 h1 release (b0 ∷ b1 ∷ kind ∷ length version ∷ tail_of m n0 n1 version records (components ++ sum)))

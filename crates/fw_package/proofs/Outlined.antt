@@ -28,7 +28,7 @@ take_take (suc n) zero xs le = absurd (omega (arith, le))
 take_take (suc n) (suc m) [] le = refl
 take_take (suc n) (suc m) (x ∷ xs) le = ap (λ ys. x ∷ ys) (take_take n m xs (omega (arith, le)))
 
--- a header stands within the first 65535 bytes
+-- a header is within the first 65535 bytes
 size_taken : (file : List ℕ) → little_number 2 (drop 17 (take 65535 file)) ≡ little_number 2 (drop 17 file)
 size_taken file = ap (little_number 2) (drop-take 17 65518 file) ∙ little_from-take 0 2 65518 (drop 17 file) (omega arith)
 
@@ -64,7 +64,7 @@ contents_taken : (file : List ℕ) → ((i : ℕ) → get_or (take 65535 file) i
 unfolding contents_of
 contents_taken file small = rw (header_taken file small) refl
 
--- an image ends within its file where its place does
+-- an image ends within its file if its place does
 place_is_if : (b : Bool) (file bytes : List ℕ) → nat_lt (length file) ((place_of bytes).offset + (place_of bytes).size) ≡ b
     → (if b then Err ImageRange else Ok (place_of bytes)) ≡ result_map_both its_place (λ e. e) (if b then Err ImageRange else Ok (component_at_place file (place_of bytes)))
 place_is_if true file bytes e = refl
@@ -147,7 +147,7 @@ package_out file c e h is = rw (package_composed file, ← h, ← is) refl
 pub package_without : (file : List ℕ) (e : PackageFault) → Err e ≡ contents_of file → Err e ≡ package_of file
 package_without file e h = rw (package_composed file, ← h) refl
 
--- and its outline is those and its components' places
+-- and its outline is the contents and its components' places
 abbrev placed_with : ℕ → ContentsOf → Result OutlineOf PackageFault
 placed_with file_length c = places_of file_length c.component_count c.components >>= (λ ps. Ok (record { header_size = c.header_size; records = c.records; places = ps }))
 

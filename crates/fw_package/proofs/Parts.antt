@@ -1,4 +1,4 @@
--- What is put together from its parts reads as these parts.
+-- Bytes composed of parts read as these parts.
 use Rattle.std.proofs.Common.{◌≡◌, ℕ, ◌+◌, ◌≤◌, ◌∙◌, nat_lt, false, List, [], ◌∷◌, ◌++◌, Ok, Some, length, take, drop, slice_index, refl, sym, ap, arith, append_assoc}
 use Rattle.std.proofs.lemmas.Bool.{le-ltb, eq-eqb}
 use Rattle.std.proofs.lemmas.List.{length-append, take-append-le, drop-append-le, take_all, drop_all}
@@ -9,7 +9,7 @@ use Rattle.fw_package.specs.Layout.{bytes_after, after_components, after_records
 use Rattle.fw_package.specs.Package.{ComponentOf, DescriptorOf, RecordOf}
 use Rattle.fw_package.specs.Records.{descriptor_split, descriptors_split, record_of, records_of, split_after}
 
--- the front of a list, and what stands after it
+-- the front of a list, and the bytes after it
 pub take_front : (xs ys : List ℕ) (n : ℕ) → length xs ≡ n → take n (xs ++ ys) ≡ xs
 take_front xs ys n e = take-append-le n xs ys (omega arith) ∙ take_all n xs (omega arith)
 

@@ -1,4 +1,4 @@
--- Components that stand in a row, in a file of which the length alone is known.
+-- Consecutive components in a file of which only the length is known.
 use Rattle.std.proofs.Common.{◌≡◌, ◌≢◌, ℕ, zero, suc, ◌+◌, ◌-◌, ◌<◌, ◌≤◌, List, [], ◌∷◌, Some, None, Ok, Err, IsOk, IsSome, length, drop, refl, arith, slice_index}
 use Rattle.fw_package.specs.Components.{PlaceOf}
 use Rattle.fw_package.specs.Layout.{after_component}
@@ -46,7 +46,7 @@ places_counted long (suc n) bytes ok =
 pub places_count : (long : ℕ) (count : ℕ) (bytes : List ℕ) → ArePlaces long count bytes → length (list_or_empty (places_of long count bytes)) ≡ count
 places_count long count bytes are = places_counted long count bytes are.read
 
--- the first of a row that is left, and the others
+-- the first component left, and the others
 pub record PlaceLeft (long : ℕ) (count : ℕ) (bytes : List ℕ) : Type 0 where
   pub there : IsSome (after_component bytes)
   pub read : IsOk (place_within long bytes)

@@ -10,7 +10,7 @@ use Rattle.fw_package.specs.Asked.{AskedComponentOf, asked_component_of, compone
 use Rattle.fw_package.specs.Writing.{HasAskedComponentWidths, component_bytes, components_bytes}
 use Rattle.fw_package.specs.declared.asked.AskedComponent.{AskedComponent}
 
--- so many of these parts are put behind what was there, and each of them fits its fields
+-- parts are appended to the content before, and each of them fits its fields
 pub record Putting {X : Type 0} (spelling : X → List ℕ) (Fits : X → Type 0) (old : List ℕ) (all : List X) (i : ℕ) (new : List ℕ) : Type 0 where
   pub put : new ≡ old ++ flat_map spelling (take i all)
   pub fit : All Fits (take i all)
@@ -63,7 +63,7 @@ put_room v spelling size Fits old all i d out room sized h lt fits =
     let last = ap size here in
     omega (arith, long, flat, next, most, last, fits)
 
--- what holds of all parts holds of each
+-- a fact of all parts is a fact of each
 pub put_fits : {A X : Type 0} (v : A → X) (Fits : X → Type 0) (all : List A) (i : ℕ) (d : A) → All Fits (map v all) → i < length all → Fits (v (get_or all i d))
 put_fits v Fits all i d h lt =
     let count = length-map all v in
@@ -82,7 +82,7 @@ components_long offset (c ∷ cs) =
     let all = sum_by-cons component_size c cs in
     omega (arith, both, here, rest, all)
 
--- so many components are put behind what was there, and the image of the next one stands at this offset
+-- components are appended to the content before, and the image of the next one is at this offset
 pub record Placing (old : List ℕ) (start : ℕ) (all : List AskedComponentOf) (i offset : ℕ) (new : List ℕ) : Type 0 where
   pub put : new ++ components_bytes offset (drop i all) ≡ old ++ components_bytes start all
   pub fit : All HasAskedComponentWidths (take i all)
@@ -91,7 +91,7 @@ pub record Placing (old : List ℕ) (start : ℕ) (all : List AskedComponentOf) 
 pub place_none : (old : List ℕ) (start : ℕ) (all : List AskedComponentOf) → Placing old start all 0 start old
 place_none old start all = record { put = refl; fit = λ k d lt. absurd (omega arith); place = refl }
 
--- those that are left
+-- the components left
 abbrev left_of : (all : List AskedComponent) (i : ℕ) → List AskedComponentOf
 left_of all i = drop i (map asked_component_of all)
 

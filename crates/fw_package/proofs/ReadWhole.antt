@@ -1,4 +1,4 @@
--- What the answer of reading says of the package grammar.
+-- The results of reading, by the package grammar.
 use Rattle.std.proofs.Common.{◌≡◌, List, ℕ, Result, Ok, Err, IfErr, IfOk, IsOk, ap, sym, ◌∙◌}
 use Rattle.std.specs.Result.{is_ok}
 use Rattle.fw_package.specs.Faults.{IsFirstPackageFault}

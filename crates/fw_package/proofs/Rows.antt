@@ -1,4 +1,4 @@
--- Records and components that stand in a row.
+-- Consecutive records and components.
 use Rattle.std.proofs.Common.{◌≡◌, ◌≢◌, ℕ, zero, suc, ◌+◌, ◌-◌, ◌<◌, ◌≤◌, ◌∙◌, List, [], ◌∷◌, Option, Some, None, Result, Ok, Err, IsOk, IsSome, Bool, true, false, nat_lt, if◌then◌else◌, length, drop, take, refl, sym, ap, subst, arith, slice_index}
 use Rattle.std.proofs.lemmas.List.{drop-drop}
 use borrow.Author.Tests.{ltb-true}
@@ -32,7 +32,7 @@ one_left : {A : Type 0} (x : A) (r : Result (List A) PackageFault) → IsOk (r >
 one_left x (Ok xs) h = (refl, h)
 one_left x (Err e) h = absurd (cc)
 
--- what was read wasn't refused
+-- a result that was read wasn't refused
 pub not_refused : {A : Type 0} (r : Result A PackageFault) (e : PackageFault) → IsOk r → Err e ≡ r → ⊥
 not_refused (Ok x) e ok h = cc
 not_refused (Err x) e ok h = cc
@@ -123,7 +123,7 @@ records_count size components count bytes are = records_counted size components 
 pub components_count : (file : List ℕ) (count : ℕ) (bytes : List ℕ) → AreComponents file count bytes → length (list_or_empty (components_of file count bytes)) ≡ count
 components_count file count bytes are = components_counted file count bytes are.read
 
--- the first of a row that is left, and the others
+-- the first record left, and the others
 pub record RecordLeft (size components count : ℕ) (bytes : List ℕ) : Type 0 where
   pub long : 2 ≤ length bytes
   pub whole : little_number 2 bytes ≤ length bytes
@@ -202,7 +202,7 @@ pub ruleset records_next = (record_left, records_none)
 
 pub ruleset components_next = (component_left, components_none)
 
--- what is left of a row from this number on
+-- the records from this number on
 pub record RecordsFrom (size components count number : ℕ) (bytes rest : List ℕ) : Type 0 where
   pub are : AreRecords size components (count - number) rest
   pub list : list_or_empty (records_of size components (count - number) rest) ≡ drop number (list_or_empty (records_of size components count bytes))

@@ -1,4 +1,4 @@
--- Keys as numbers: two are equal where, once all are sorted, not each is below the next.
+-- Keys as numbers: if all are sorted and not each is below the next, two are equal.
 use Rattle.std.proofs.Common.{◌≡◌, ℕ, suc, ◌+◌, ◌*◌, ◌<◌, ◌≤◌, ◌∙◌, ◌||◌, ◌&&◌, ◌==◌, ◌↔◌, not, Bool, true, false, List, [], ◌∷◌, ◌++◌, length, map, refl, sym, ap, arith, append_assoc, append-nil, length-append}
 use Rattle.std.specs.Bool.{IsTrue}
 use Rattle.std.specs.List.{AllByRecursion, IsDistinct, list_any}
@@ -19,7 +19,7 @@ use Rattle.fw_package.proofs.Chosen.{neither}
 abbrev pub IsSmall : ComponentOf → Type 0
 IsSmall c = (c.classification < 65536) × (c.identifier < 65536)
 
--- two keys are the same where their numbers are
+-- two keys are the same if their numbers are
 both_same : (p q r : Bool) (a b x y : ℕ) → (x == a) ≡ p → (y == b) ≡ q → (a * 65536 + b == x * 65536 + y) ≡ r → b < 65536 → y < 65536 → (p && q) ≡ r
 both_same true true true a b x y e f g lt short = refl
 both_same true true false a b x y e f g lt short =
@@ -45,7 +45,7 @@ twins_doubles [] small = refl
 twins_doubles (c ∷ cs) small =
     ap (λ b. b || has_doubles (map number_of cs)) (sym (any_same c cs small.0 small.1)) ∙ ap (λ b. list_any (has_key c.classification c.identifier) cs || b) (twins_doubles cs small.1)
 
--- those of a row that were passed, and their numbers
+-- the components that were passed, and their numbers
 pub record IsPacked (all left : List ComponentOf) (keys : List ℕ) : Type 0 where
   pub passed : List ComponentOf
   pub is : all ≡ passed ++ left
@@ -110,7 +110,7 @@ flipped false true x y e f = let i = eqb-false x y e in let j = eqb-true y x f i
 flips : (x y : ℕ) → eqb x y ≡ eqb y x
 flips x y = flipped (eqb x y) (eqb y x) x y refl refl
 
--- sorted, no two are equal where each is below the next
+-- two keys are equal exactly if the sorted keys don't all rise
 told : (b t : Bool) (keys sorted : List ℕ) → has_doubles keys ≡ t → IsPermutation keys sorted → IsNonDecreasing sorted → (IsTrue b ↔ IsStrictlyIncreasing sorted) → not b ≡ t
 told true false keys sorted e moved up rising = refl
 told false true keys sorted e moved up rising = refl

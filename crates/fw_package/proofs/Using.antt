@@ -33,7 +33,7 @@ unfolding components_named
 named_using bitmap count =
     (IsStrictlyIncreasing-filter (is_named bitmap) (range_with_len 0 count) (range_rises count), All-filter (is_named bitmap) (λ k. k < count) (range_with_len 0 count) (range_below count))
 
--- what holds of all that may follow holds of what follows
+-- a fact of all results of a chain's end is a fact of its result
 then_any : {A B : Type 0} (P : B → Type 0) (r : Result A PackageFault) (f : A → Result B PackageFault) → ((x : A) → IfOk (f x) P) → IfOk (r >>= f) P
 then_any P (Ok x) f h = h x
 then_any P (Err e) f h = tt
@@ -67,7 +67,7 @@ records_using size count (suc n) bytes =
 pub all_using : (size count n : ℕ) (bytes : List ℕ) (rs : List RecordOf) → Ok rs ≡ records_of size count n bytes → All (IsUsing count) rs
 all_using size count n bytes rs re = IfOk-at_ok (All (IsUsing count)) (sym re) (records_using size count n bytes)
 
--- a header has room for so many components
+-- a header has room for at most 2,978 components
 pub few_components : (count : ℕ) (below : List ℕ) (size : ℕ) → IsSome (after_components count below) → length below ≤ size → size < 65536 → count ≤ 2978
 few_components count below size walked inside small =
     let fit = components_fit count below walked in

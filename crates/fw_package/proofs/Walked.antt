@@ -1,4 +1,4 @@
--- The components of a record's numbers, found in one walk, and what a plan asks of them.
+-- The components with a record's numbers, found in one walk, and the tests of a plan on them.
 use Rattle.std.proofs.Common.{◌≡◌, ℕ, zero, suc, ◌+◌, ◌-◌, ◌<◌, ◌≤◌, ◌∙◌, ◌||◌, Bool, true, false, if◌then◌else◌, nat_lt, All, List, [], ◌∷◌, ◌++◌, Ok, Err, Some, None, length, map, drop, get_or, refl, sym, ap, subst, arith, length-drop, length-append, append-nil, lt-ltb, le-ltb, cond}
 use borrow.Author.Tests.{ltb-false, ltb-true}
 use Rattle.std.specs.List.{AllPairs, list_any, position, position_or_len}
@@ -12,11 +12,11 @@ use Rattle.fw_package.specs.Reading.{IsUsing}
 use Rattle.fw_package.specs.Views.{AreRisingUses, has_twins, used_from}
 use Rattle.fw_package.specs.declared.fault.PlanFault.TheVariants as faults
 
--- a list has fewer behind its first
+-- a list has fewer items after its first
 pub less_behind : {A : Type 0} (xs ys : List A) (x : A) → xs ≡ x ∷ ys → length ys < length xs
 less_behind xs ys x e = let n : length xs ≡ suc (length ys) = ap length e in omega (arith, n)
 
--- what stands at a place is the first of what is behind those before it
+-- the item at a place is the first of those after the items before it
 pub record IsFirstBehind {A : Type 0} (k : ℕ) (xs : List A) (y : A) (ys : List A) : Type 0 where
   pub first : (d : A) → get_or xs k d ≡ y
   pub others : drop (k + 1) xs ≡ ys
@@ -115,7 +115,7 @@ too_many xs ys left x le e =
       large true ys lt h = rw h refl
       large false ys lt h = absurd (let le = ltb-false 8 (length ys) h in omega (arith, lt, le))
 
--- the walk to the first of these numbers
+-- the walk to the first of the numbers
 pub record UsedNext (at m : ℕ) (row : List ComponentOf) (all : List ℕ) (c : ComponentOf) (others : List ComponentOf) (ns : List ℕ) : Type 0 where
   pub are : AreRisingUses (m + 1) others ns
   pub list : used_from at row all ≡ c ∷ used_from (m + 1) others ns

@@ -18,7 +18,7 @@ components_step count i bytes lt =
     let left : count - i ≡ suc (count - (i + 1)) = omega arith in
     rw left refl
 
--- nothing is passed where none is left
+-- no part is passed if none is left
 pub records_end : (count i : ℕ) (bytes : List ℕ) → count ≤ i → after_records (count - i) bytes ≡ Some bytes
 unfolding after_records
 records_end count i bytes le = let none : count - i ≡ 0 = omega arith in rw none refl
@@ -27,7 +27,7 @@ pub components_end : (count i : ℕ) (bytes : List ℕ) → count ≤ i → afte
 unfolding after_components
 components_end count i bytes le = let none : count - i ≡ 0 = omega arith in rw none refl
 
--- what is known of the first record, where the walk goes through all of them
+-- facts about the first record, if the walk goes through all of them
 pub record IsRecordThere (count i : ℕ) (bytes : List ℕ) : Type 0 where
   pub long : 2 ≤ length bytes
   pub whole : little_number 2 bytes ≤ length bytes
@@ -43,7 +43,7 @@ pub record_there : (count i : ℕ) (bytes : List ℕ) → IsSome (after_records 
 record_there count i bytes h lt =
     there_from (nat_lt (length bytes) 2) (nat_lt (length bytes) (little_number 2 bytes)) count i bytes refl refl (subst IsSome (records_step count i bytes lt) h)
 
--- what is known of the first component
+-- facts about the first component
 pub record IsComponentThere (bytes : List ℕ) : Type 0 where
   pub long : 22 ≤ length bytes
   pub whole : 22 + slice_index bytes 21 ≤ length bytes
@@ -72,7 +72,7 @@ components_there count i bytes h lt =
     let both = components_from (nat_lt (length bytes) (22 + slice_index bytes 21)) count i bytes (subst IsSome (components_step count i bytes lt) h) in
     record { first = both.0; others = both.1 }
 
--- what stands after some bytes is no longer than all
+-- the bytes after some bytes are no longer than all
 after_within : (cut : Bool) (n : ℕ) (bytes rest : List ℕ) → (if cut then None else Some (drop n bytes)) ≡ Some rest → length rest ≤ length bytes
 after_within true n bytes rest e = absurd (cc)
 after_within false n bytes rest e =

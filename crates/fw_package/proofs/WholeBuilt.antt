@@ -1,4 +1,4 @@
--- A header that is read is put together from its parts, and so is the package.
+-- A header that is read is composed of its parts, and so is the package.
 use Rattle.std.proofs.Common.{◌≡◌, ◌≢◌, ℕ, ◌+◌, ◌-◌, ◌/◌, ◌%◌, ◌≤◌, ◌∙◌, ◌==◌, ◌||◌, not, nat_eq, nat_lt, if◌then◌else◌, Bool, true, false, List, [], ◌∷◌, ◌++◌, Result, Ok, Err, Option, Some, None, length, take, drop, slice_index, refl, sym, ap, subst, arith, append_assoc}
 use borrow.Author.Tests.{ltb-false}
 use Rattle.std.proofs.lemmas.Bool.{eq-eqb, eqb-true}
@@ -35,7 +35,7 @@ fronts (i0 ∷ i1 ∷ i2 ∷ i3 ∷ i4 ∷ i5 ∷ i6 ∷ i7 ∷ i8 ∷ i9 ∷ i1
     record { spelled = refl; released = refl; identified = refl; revised = refl; sized = refl; bits = refl }
 fronts xs more long = absurd (omega (arith, long))
 
--- a chain of tests that gives a value passed each
+-- a chain of tests that returns a value passed each
 else_ok : {A : Type 0} (b : Bool) (e : PackageFault) (r : Result A PackageFault) (y : A) → (if b then Err e else r) ≡ Ok y → (b ≡ false) × (r ≡ Ok y)
 else_ok false e r y h = (refl, h)
 else_ok true e r y h = absurd (cc)
@@ -68,7 +68,7 @@ header_built bytes header h =
       is = let e = sized.1 in cc;
     }
 
--- an option that gives a value went through one
+-- an option with a value went through one
 record GoesOn {A B : Type 0} (o : Option A) (f : A → Option B) (y : B) : Type 0 where
   value : A
   is : o ≡ Some value

@@ -1,4 +1,4 @@
--- What is written is the package that is asked.
+-- A written header is that of the given package.
 use Rattle.std.proofs.Common.{◌≡◌, ◌≢◌, take, drop, Bool, true, false, not, if◌then◌else◌, Option, Some, None, nat_le, ◌&&◌, get_or, ℕ, suc, ◌+◌, ◌*◌, ◌/◌, ◌%◌, ◌<◌, ◌≤◌, ◌∙◌, All, List, [], ◌∷◌, ◌++◌, length, map, refl, sym, ap, arith, append_assoc, length-append}
 use Rattle.byteorder.specs.Endian.{little_bytes}
 use Rattle.byteorder.specs.Numbers.{little_number-reads_back}
@@ -81,7 +81,7 @@ body_put p old opened counted recorded numbered new bitmap header none opening o
     ∙ ap (λ b. (((opening_bytes (asked_package_of p) ++ length (asked_package_of p).records ∷ []) ++ flat_map (record_bytes b) (asked_package_of p).records) ++ little_bytes 2 (length (asked_package_of p).components)) ++ components_bytes (header_size (asked_package_of p)) (asked_package_of p).components) wide
     ∙ joined (opening_bytes (asked_package_of p)) (flat_map (record_bytes (bitmap_size_for (length (asked_package_of p).components))) (asked_package_of p).records) (little_bytes 2 (length (asked_package_of p).components)) (components_bytes (header_size (asked_package_of p)) (asked_package_of p).components) (length (asked_package_of p).records)
 
--- the records that are put are those that are asked
+-- the records that are put are the given ones
 pub records_put : (old new : List ℕ) (p : AskedPackage) (size : ℕ) → size ≡ bitmap_size_for (length p.components.now) → new ≡ old ++ flat_map (record_bytes size) (map asked_record_of p.records.now)
     → new ≡ old ++ flat_map (record_bytes (bitmap_size_for (length (asked_package_of p).components))) (asked_package_of p).records
 records_put old new p size is put = put ∙ ap (λ n. old ++ flat_map (record_bytes n) (map asked_record_of p.records.now)) (is ∙ ap bitmap_size_for (sym (length-map p.components.now asked_component_of)))
@@ -97,7 +97,7 @@ body_long a fits =
     let two = length-append records (little_bytes 2 (length a.components) ++ components) in
     omega (arith, opening, recorded, composed, one, two)
 
--- what can't be refused fits
+-- a package that isn't refused fits
 none_of : (b : Bool) (e : AskedFault) (o : Option AskedFault) → (if not b then Some e else o) ≡ None → (b ≡ true) × (o ≡ None)
 none_of true e o h = (refl, h)
 none_of false e o h = absurd (cc)
@@ -138,7 +138,7 @@ two_back x lt = little_number-reads_back 2 x [] lt
 four_back : (x : ℕ) → x < 4294967296 → four_bytes (x % 256) (x / 256 % 256) (x / 65536 % 256) (x / 16777216 % 256) ≡ x
 four_back x lt = little_number-reads_back 4 x [] lt
 
--- what holds of all holds of the first and of the others
+-- a fact of all items is a fact of the first and of the others
 first_of : {X : Type 0} (P : X → Type 0) (x : X) (xs : List X) → All P (x ∷ xs) → P x
 first_of P x xs h = h 0 x (omega arith)
 
@@ -192,7 +192,7 @@ records_written size count (r ∷ rs) widths fits enough used =
       records_written size count rs (others_of HasRecordWidths r rs widths) (omega (arith, fits, all)) enough (others_of (λ r. are_uses count 0 r.uses ≡ true) r rs used),
     )
 
--- the image of the first component stands behind what was there
+-- the image of the first component is after the content before
 image_there : (front image more : List ℕ) (offset size : ℕ) → offset ≡ length front → size ≡ length image → image ≡ take size (drop offset (front ++ (image ++ more)))
 image_there front image more offset size at is =
     sym (ap (take size) (drop_front front (image ++ more) offset (sym at)) ∙ take_front image more size (sym is))

@@ -1,4 +1,5 @@
--- What is asked of a package that is to be written, and the package that it is (DSP0267 1.0, firmware update package).
+-- The content of a package to write, and the package that results (DSP0267 1.0, firmware update
+-- package).
 use Rattle.std.specs.Prelude.{ℕ, ◌+◌, ◌/◌, ◌&&◌, not, Bool, true, nat_le, nat_lt, if◌then◌else◌, List, [], ◌∷◌, Option, Some, None, length, map, max}
 use Rattle.std.specs.List.{list_all, sum_by}
 use Rattle.fw_package.specs.Package.{ComponentOf, DescriptorOf, PackageText, RecordOf, TextOf, descriptor_of}
@@ -15,7 +16,7 @@ pub record AskedRecordOf : Type 0 where
   pub descriptors : List DescriptorOf
   pub uses : List ℕ
 
--- a component; of its image the size alone is asked
+-- a component; only the size of its image is given
 pub record AskedComponentOf : Type 0 where
   pub classification : ℕ
   pub identifier : ℕ
@@ -32,7 +33,7 @@ pub record AskedPackageOf : Type 0 where
   pub records : List AskedRecordOf
   pub components : List AskedComponentOf
 
--- the same of what a caller lends
+-- the same for borrowed values
 abbrev pub asked_record_of : AskedRecord → AskedRecordOf
 asked_record_of r =
     record { flags = r.flags; set_text = r.set_text.now; descriptors = map descriptor_of r.descriptors.now; uses = r.uses.now }
@@ -58,11 +59,12 @@ asked_package_of p =
       components = map asked_component_of p.components.now;
     }
 
--- The bytes of a bitmap for so many components: a bit each, rounded up to whole bytes, and a byte at least.
+-- The bytes of a bitmap for `count` components: one bit each, rounded up to whole bytes, and at
+-- least one byte.
 abbrev pub bitmap_size_for : ℕ → ℕ
 bitmap_size_for count = max 1 ((count + 7) / 8)
 
--- the bytes of a descriptor, of a record with a bitmap of so many bytes, and of a component
+-- the bytes of a descriptor, of a record with a bitmap of the given size, and of a component
 abbrev pub descriptor_size : DescriptorOf → ℕ
 descriptor_size d = 4 + length d.bytes
 
@@ -72,8 +74,8 @@ record_size bitmap_size r = 11 + (bitmap_size + (length r.set_text + sum_by desc
 abbrev pub component_size : AskedComponentOf → ℕ
 component_size c = 22 + length c.text
 
--- The bytes of the header: its fixed part and the version text, the records after their count, the components after
--- theirs, and the checksum.
+-- The bytes of the header: its fixed part and the version text, the records after their count, the
+-- components after theirs, and the checksum.
 abbrev pub records_size : AskedPackageOf → ℕ
 records_size a = sum_by (record_size (bitmap_size_for (length a.components))) a.records
 
@@ -84,7 +86,8 @@ header_size a = 36 + (length a.version + (1 + (records_size a + (2 + (sum_by com
 abbrev pub images_size : AskedPackageOf → ℕ
 images_size a = sum_by (λ c. c.size) a.components
 
--- The package. Each text has type 1. The first image stands where the header ends, each other where the one before it ends.
+-- The package. Each text has type 1. The first image is after the header, each other after the one
+-- before it.
 abbrev pub text_asked : List ℕ → TextOf
 text_asked bytes = record { kind = 1; bytes = bytes }
 
@@ -120,12 +123,12 @@ abbrev pub are_uses : ℕ → ℕ → List ℕ → Bool
 are_uses count from [] = true
 are_uses count from (k ∷ ks) = nat_le from k && (nat_lt k count && are_uses count (k + 1) ks)
 
--- each record uses components that are asked for
+-- each record uses components of the package
 abbrev pub uses_fit : AskedPackageOf → Bool
 uses_fit a = list_all (λ r. are_uses (length a.components) 0 r.uses) a.records
 
--- Each length and each number fits its field: a text's length, the number of a record's descriptors and of all records
--- one byte, the header's size two, and an image's offset and size four.
+-- Each length and each number fits its field: a text's length, the number of a record's descriptors
+-- and of all records one byte, the header's size two, and an image's offset and size four.
 abbrev pub text_fits : List ℕ → Bool
 text_fits text = nat_le (length text) 255
 
@@ -143,7 +146,7 @@ parts_fit a =
 abbrev pub all_fits : AskedPackageOf → Bool
 all_fits a = parts_fit a && (nat_le (header_size a) 65535 && nat_le (header_size a + images_size a) 4294967295)
 
--- why it can't be written: the first of these
+-- the first reason why the package can't be written
 unfoldable pub refusal_of : AskedPackageOf → Option AskedFault
 refusal_of a =
     if not (uses_fit a) then Some Uses

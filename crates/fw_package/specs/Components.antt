@@ -7,7 +7,7 @@ use Rattle.fw_package.specs.Records.{◌>>=◌}
 use Rattle.fw_package.specs.declared.fault.PackageFault.{PackageFault}
 use Rattle.fw_package.specs.declared.fault.PackageFault.TheVariants.{ImageRange}
 
--- a component whose image is named by its place in the file
+-- a component with its image's place in the file
 pub record PlaceOf : Type 0 where
   pub classification : ℕ
   pub identifier : ℕ
@@ -30,7 +30,8 @@ component_at_place file c =
       image = take c.size (drop c.offset file);
     }
 
--- the component with which these bytes begin; the activation method, two bytes from the tenth on, isn't looked at
+-- the component at the beginning of the bytes; the activation method, two bytes from the tenth on,
+-- is ignored
 abbrev pub place_of : List ℕ → PlaceOf
 place_of bytes =
     record {
@@ -48,7 +49,7 @@ unfoldable pub component_of : List ℕ → List ℕ → Result ComponentOf Packa
 component_of file bytes =
     if nat_lt (length file) ((place_of bytes).offset + (place_of bytes).size) then Err ImageRange else Ok (component_at_place file (place_of bytes))
 
--- so many components, one after the other
+-- `count` components, in order
 unfoldable pub components_of : List ℕ → ℕ → List ℕ → Result (List ComponentOf) PackageFault
 components_of file zero bytes = Ok []
 components_of file (suc n) bytes = do

@@ -1,4 +1,4 @@
--- Why bytes are no package: the first fault that they have (DSP0267 1.0, firmware update package header).
+-- The first fault of bytes that are no package (DSP0267 1.0, firmware update package header).
 use Rattle.std.specs.Prelude.{ℕ, zero, suc, ◌≡◌, ◌≢◌, ◌+◌, ◌-◌, ◌/◌, ◌%◌, ◌<◌, ◌≤◌, List, Some, None, IsOk, length, take, drop, slice_index}
 use Rattle.byteorder.specs.Endian.{little_number}
 use Rattle.fw_package.specs.Components.{place_of}
@@ -9,7 +9,7 @@ use Rattle.fw_package.specs.Records.{records_of}
 use Rattle.fw_package.specs.declared.fault.PackageFault.{PackageFault}
 use Rattle.fw_package.specs.declared.fault.PackageFault.TheVariants as faults
 
--- the size of the header, which stands in it, and the header
+-- the size of the header, read from it, and the header
 abbrev pub size_in : List ℕ → ℕ
 size_in bytes = little_number 2 (drop 17 bytes)
 
@@ -30,7 +30,7 @@ pub record IsRevised (bytes : List ℕ) : Type 0 where
   pub begins : IsIdentified bytes
   pub revised : slice_index bytes 16 ≡ 1
 
--- the file has the whole header, whose parts, walked by their lengths, end where it does
+-- the file has the whole header, whose parts, walked by their lengths, end at its end
 pub record IsLaidOut (bytes : List ℕ) (l : LayoutOf) : Type 0 where
   pub begins : IsRevised bytes
   pub fits : size_in bytes ≤ length bytes
@@ -50,7 +50,7 @@ HasRecords bytes l = IsOk (records_of (bits_in bytes / 8) l.component_count l.re
 abbrev pub IsSigned : List ℕ → Type 0
 IsSigned header = crc_of (take (length header - 4) header) ≡ little_number 4 (drop (length header - 4) header)
 
--- the image of each of so many components ends within the file
+-- the image of each of the given number of components ends within the file
 abbrev pub HasImages : List ℕ → ℕ → List ℕ → Type 0
 HasImages file zero bytes = Unit {0}
 HasImages file (suc n) bytes =

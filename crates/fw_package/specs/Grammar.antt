@@ -1,5 +1,5 @@
--- Which bytes are a package, put together from its parts (DSP0267 1.0, firmware update package header).
--- Numbers stand lowest byte first.
+-- The bytes of a package, composed of its parts (DSP0267 1.0, firmware update package header).
+-- Numbers are little-endian.
 use Rattle.std.specs.Prelude.{◌≡◌, ◌≢◌, ℕ, ◌+◌, ◌/◌, ◌%◌, ◌≤◌, List, [], ◌∷◌, ◌++◌, length, take, drop}
 use Rattle.byteorder.specs.Endian.{little_number}
 use Rattle.fw_package.specs.Crc.{crc_of}
@@ -14,7 +14,7 @@ two_bytes a b = little_number 2 (a ∷ b ∷ [])
 abbrev pub four_bytes : ℕ → ℕ → ℕ → ℕ → ℕ
 four_bytes a b c d = little_number 4 (a ∷ b ∷ c ∷ d ∷ [])
 
--- the bytes are these parts, one after the other
+-- the bytes are these parts, in order
 abbrev pub AreInTurn : {A : Type 0} → (List ℕ → A → Type 0) → List ℕ → List A → Type 0
 AreInTurn IsPart bytes [] = bytes ≡ []
 AreInTurn IsPart bytes (x ∷ xs) =
@@ -39,16 +39,17 @@ pub record IsRecordRest (bitmap_size component_count descriptor_count text_size 
   pub content_fits : length content ≡ data_size
   pub uses : r.uses ≡ components_named bitmap component_count
 
--- A record: length, descriptor count, option flags, set text type and length, package data length, and then
--- bitmap, set text, descriptors and package data. Its length is that of the whole.
+-- A record: length, descriptor count, option flags, set text type and length, package data length,
+-- and then bitmap, set text, descriptors and package data. Its length is that of the whole.
 abbrev pub IsRecord : ℕ → ℕ → List ℕ → RecordOf → Type 0
 IsRecord bitmap_size component_count (l0 ∷ l1 ∷ n ∷ f0 ∷ f1 ∷ f2 ∷ f3 ∷ kind ∷ t ∷ d0 ∷ d1 ∷ rest) r =
     (two_bytes l0 l1 ≡ 11 + length rest) × (four_bytes f0 f1 f2 f3 ≡ r.flags) × (kind ≡ r.set_text.kind)
     × IsRecordRest bitmap_size component_count n t (two_bytes d0 d1) rest r
 IsRecord bitmap_size component_count _ r = ⊥
 
--- A component: classification, identifier, stamp, options, activation method, offset and size of its image,
--- version text type, length and text. The image is the part of the file at that offset with that size.
+-- A component: classification, identifier, stamp, options, activation method, offset and size of
+-- its image, version text type, length and text. The image is the part of the file at that offset
+-- with that size.
 abbrev pub IsComponent : List ℕ → List ℕ → ComponentOf → Type 0
 IsComponent file (c0 ∷ c1 ∷ i0 ∷ i1 ∷ s0 ∷ s1 ∷ s2 ∷ s3 ∷ o0 ∷ o1 ∷ m0 ∷ m1 ∷ f0 ∷ f1 ∷ f2 ∷ f3 ∷ z0 ∷ z1 ∷ z2 ∷ z3 ∷ kind ∷ t ∷ text) c =
     (two_bytes c0 c1 ≡ c.classification) × (two_bytes i0 i1 ≡ c.identifier) × (four_bytes s0 s1 s2 s3 ≡ c.stamp)
@@ -56,9 +57,9 @@ IsComponent file (c0 ∷ c1 ∷ i0 ∷ i1 ∷ s0 ∷ s1 ∷ s2 ∷ s3 ∷ o0 ∷
     × (c.offset + four_bytes z0 z1 z2 z3 ≤ length file) × (c.image ≡ take (four_bytes z0 z1 z2 z3) (drop c.offset file))
 IsComponent file _ c = ⊥
 
--- The bytes are a package: a header, which is `before` and the checksum of `before`, and what stands after
--- it. The header is its identifier, revision 1, its size, the release time, the bitmap's bit length, the
--- version text, and records and components with their counts.
+-- The bytes are a package: a header, which is `before` and the checksum of `before`, and the bytes
+-- after it. The header is its identifier, revision 1, its size, the release time, the bitmap's bit
+-- length, the version text, and records and components with their counts.
 pub record IsPackage (bytes : List ℕ) (p : PackageText) : Type 0 where
   pub h0 : ℕ
   pub h1 : ℕ

@@ -1,19 +1,20 @@
--- What holds of all packages.
+-- Laws of all packages.
 use Rattle.std.specs.Prelude.{◌≡◌, ◌↔◌, ◌<◌, ◌≤◌, ℕ, List, Some, Ok, All, Contains, MatchOption, length}
 use Rattle.fw_package.specs.Choice.{component_at, image_for, plan_of, record_at, record_number}
 use Rattle.fw_package.specs.Grammar.{IsPackage}
 use Rattle.fw_package.specs.Package.{DescriptorOf, PackageText, RecordOf}
 use Rattle.fw_package.specs.Reading.{package_of}
 
--- what is read is the package that the bytes are, and each package is read
+-- reading returns the package that the bytes are, and each package is read
 abbrev pub ReadsPackages : Type 0
 ReadsPackages = (bytes : List ℕ) (p : PackageText) → (package_of bytes ≡ Ok p) ↔ IsPackage bytes p
 
--- bytes are one package at most
+-- bytes are at most one package
 abbrev pub AreOnePackage : Type 0
 AreOnePackage = (bytes : List ℕ) (p q : PackageText) → IsPackage bytes p → IsPackage bytes q → p ≡ q
 
--- the record is for the device: it has a descriptor, and each of its descriptors is one of the device's
+-- the record is for the device: it has a descriptor, and each of its descriptors is one of the
+-- device's
 pub record IsRecordFor (device : List DescriptorOf) (r : RecordOf) : Type 0 where
   pub some : 1 ≤ length r.descriptors
   pub among : All (Contains device) r.descriptors

@@ -1,4 +1,4 @@
--- A record, a component and what a header has, as they are lent, as values.
+-- The values of a borrowed record, a borrowed component and a header's contents.
 use Rattle.fw_package.specs.Components.{PlaceOf}
 use Rattle.fw_package.specs.Outlines.{ContentsOf}
 use Rattle.fw_package.specs.Package.{ComponentOf, RecordOf, text_of}

@@ -1,4 +1,5 @@
--- What a package's header says of it, its images by length and place alone (DSP0267 1.0, firmware update package header).
+-- The outline of a package, read from its header: its images by length and place only (DSP0267 1.0,
+-- firmware update package header).
 use Rattle.std.specs.Prelude.{ℕ, zero, suc, ◌≡◌, ◌+◌, nat_lt, if◌then◌else◌, List, [], ◌∷◌, Result, Ok, Err, length, map, take, drop}
 use Rattle.byteorder.specs.Endian.{little_number}
 use Rattle.fw_package.specs.Components.{PlaceOf, place_of}
@@ -15,7 +16,7 @@ pub record OutlineOf : Type 0 where
   pub records : List RecordOf
   pub places : List PlaceOf
 
--- a component with its image's length in place of the image
+-- a component with its image's place and length instead of the image
 abbrev pub its_place : ComponentOf → PlaceOf
 its_place c =
     record {
@@ -32,18 +33,18 @@ its_place c =
 abbrev pub outline_of_package : PackageText → OutlineOf
 outline_of_package p = record { header_size = p.header_size; records = p.records; places = map its_place p.components }
 
--- The bytes are those with which a file of this length begins: the first 65,535 of them, since a header's size
--- stands in two bytes, or all.
+-- The bytes are the beginning of a file of this length: the first 65,535 bytes, since a header's
+-- size is two bytes, or all.
 pub record IsBeginning (file beginning : List ℕ) (file_length : ℕ) : Type 0 where
   pub begins : beginning ≡ take 65535 file
   pub long : length file ≡ file_length
 
--- the component with which these bytes begin, whose image ends within a file of this length
+-- the component at the beginning of the bytes, whose image ends within a file of this length
 unfoldable pub place_within : ℕ → List ℕ → Result PlaceOf PackageFault
 place_within file_length bytes =
     if nat_lt file_length ((place_of bytes).offset + (place_of bytes).size) then Err ImageRange else Ok (place_of bytes)
 
--- so many components, one after the other
+-- `count` components, in order
 unfoldable pub places_of : ℕ → ℕ → List ℕ → Result (List PlaceOf) PackageFault
 places_of file_length zero bytes = Ok []
 places_of file_length (suc n) bytes = do
@@ -51,14 +52,15 @@ places_of file_length (suc n) bytes = do
   others ← places_of file_length n (drop (22 + text_size_of 21 bytes) bytes)
   Ok (first ∷ others)
 
--- what a header has: its size, its records, and the number of its components, with the header from the first of them on
+-- the contents of a header: its size, its records, and the number of its components, with the
+-- header from the first component on
 pub record ContentsOf : Type 0 where
   pub header_size : ℕ
   pub records : List RecordOf
   pub component_count : ℕ
   pub components : List ℕ
 
--- the contents of the header with which these bytes begin, or the first fault
+-- the contents of the header at the beginning of the bytes, or the first fault
 unfoldable pub contents_of : List ℕ → Result ContentsOf PackageFault
 contents_of bytes = do
   header ← header_of bytes
@@ -68,7 +70,7 @@ contents_of bytes = do
   before ← header_before_checksum header
   Ok (record { header_size = length header; records = records; component_count = layout.component_count; components = layout.components })
 
--- the outline of the package of this length that begins with these bytes, or the first fault
+-- the outline of the package of this length that begins with the bytes, or the first fault
 unfoldable pub outline_of : List ℕ → ℕ → Result OutlineOf PackageFault
 outline_of beginning file_length = do
   contents ← contents_of beginning

@@ -1,4 +1,4 @@
--- What a package is (DSP0267 1.0): records, which name devices, and components, which are images.
+-- A package (DSP0267 1.0): records, which name devices, and components, which are images.
 use Rattle.std.specs.Prelude.{ℕ, List}
 use Rattle.fw_package.specs.declared.texts.Text.{Text}
 use Rattle.fw_package.specs.declared.texts.Descriptor.{Descriptor}
@@ -20,7 +20,7 @@ pub record RecordOf : Type 0 where
   pub descriptors : List DescriptorOf
   pub uses : List ℕ
 
--- a component and its image, which stands at this offset from the package's start
+-- a component and its image, which is at this offset from the package's start
 pub record ComponentOf : Type 0 where
   pub classification : ℕ
   pub identifier : ℕ
@@ -36,7 +36,7 @@ pub record PackageText : Type 0 where
   pub records : List RecordOf
   pub components : List ComponentOf
 
--- the same of what a call lends or is lent
+-- the same for borrowed values
 abbrev pub text_of : Text → TextOf
 text_of t = record { kind = t.kind; bytes = t.bytes.now }
 

@@ -1,4 +1,5 @@
--- What the bytes of a file are as a package, or the first fault (DSP0267 1.0, firmware update package header).
+-- The package with the bytes of a file, or the first fault (DSP0267 1.0, firmware update package
+-- header).
 use Rattle.std.specs.Prelude.{ℕ, ◌-◌, ◌/◌, ◌%◌, ◌==◌, ◌<◌, ◌||◌, not, nat_eq, nat_lt, if◌then◌else◌, List, [], ◌∷◌, Option, Some, None, Result, Ok, Err, All, length, take, drop, slice_index}
 use Rattle.std.specs.List.{starts_with}
 use Rattle.std.specs.List.Sorted.{IsStrictlyIncreasing}
@@ -15,7 +16,7 @@ use Rattle.fw_package.specs.declared.fault.PackageFault.TheVariants.{BitmapLengt
 abbrev pub package_identifier : List ℕ
 package_identifier = 0xF0 ∷ 0x18 ∷ 0x87 ∷ 0x8C ∷ 0xCB ∷ 0x7D ∷ 0x49 ∷ 0x43 ∷ 0x98 ∷ 0x00 ∷ 0xA0 ∷ 0x2F ∷ 0x05 ∷ 0x9A ∷ 0xCA ∷ 0x02 ∷ []
 
--- the header: as many bytes as it says, which the file has
+-- the header, with the size in it, if the file has as many bytes
 unfoldable pub header_of : List ℕ → Result (List ℕ) PackageFault
 header_of bytes =
     if nat_lt (length bytes) 36 then Err Short
@@ -24,12 +25,13 @@ header_of bytes =
     else if nat_lt (length bytes) (little_number 2 (drop 17 bytes)) then Err HeaderSize
     else Ok (take (little_number 2 (drop 17 bytes)) bytes)
 
--- where its parts stand, if they end where the header does
+-- the places of its parts, if they end at the header's end
 abbrev pub parts_of : Option LayoutOf → Result LayoutOf PackageFault
 parts_of (Some layout) = Ok layout
 parts_of None = Err HeaderSize
 
--- The bytes of each record's bitmap. Its length in bits has a bit for each component and fills whole bytes.
+-- The bytes of each record's bitmap. Its length in bits has a bit for each component and fills
+-- whole bytes.
 unfoldable pub bitmap_size_of : ℕ → ℕ → Result ℕ PackageFault
 bitmap_size_of bits component_count =
     if (bits == 0) || (not (bits % 8 == 0) || nat_lt bits component_count) then Err BitmapLength else Ok (bits / 8)
@@ -39,7 +41,7 @@ unfoldable pub header_before_checksum : List ℕ → Result (List ℕ) PackageFa
 header_before_checksum header =
     if crc_of (take (length header - 4) header) == little_number 4 (drop (length header - 4) header) then Ok (take (length header - 4) header) else Err Checksum
 
--- the package that these bytes are, or the first fault
+-- the package with these bytes, or the first fault
 unfoldable pub package_of : List ℕ → Result PackageText PackageFault
 package_of bytes = do
   header ← header_of bytes

@@ -1,4 +1,5 @@
--- The bytes of a package's header (DSP0267 1.0, firmware update package header). Numbers stand lowest byte first.
+-- The bytes of a package's header (DSP0267 1.0, firmware update package header). Numbers are
+-- little-endian.
 use Rattle.std.specs.Prelude.{ℕ, zero, suc, ◌≡◌, ◌+◌, ◌*◌, ◌<◌, ◌==◌, Bool, if◌then◌else◌, List, [], ◌∷◌, ◌++◌, Ok, All, length, map}
 use Rattle.std.specs.List.{concat, flat_map, list_any, range_with_len}
 use Rattle.byteorder.specs.Endian.{little_bytes}
@@ -8,16 +9,17 @@ use Rattle.fw_package.specs.Grammar.{IsPackage}
 use Rattle.fw_package.specs.Package.{DescriptorOf}
 use Rattle.fw_package.specs.Reading.{package_identifier, package_of}
 
--- the component is one of these
+-- the component is in the list
 abbrev pub is_used : List ℕ → ℕ → Bool
 is_used uses k = list_any (λ n. n == k) uses
 
--- the number of so many bits, the lowest of which is 1 where the component `first` is used, the next for the component after it
+-- the number of the given count of bits: the lowest is 1 if the component `first` is used, the next
+-- is for the component after it
 abbrev pub bits_of : List ℕ → ℕ → ℕ → ℕ
 bits_of uses first zero = 0
 bits_of uses first (suc n) = (if is_used uses first then 1 else 0) + 2 * bits_of uses (first + 1) n
 
--- The bitmap: bit k modulo 8 of byte k / 8 is 1 where the component k is used.
+-- The bitmap: bit k modulo 8 of byte k / 8 is 1 if the component k is used.
 abbrev pub bitmap_byte : List ℕ → ℕ → ℕ
 bitmap_byte uses place = bits_of uses (8 * place) 8
 
@@ -28,8 +30,8 @@ bitmap_of size uses = map (bitmap_byte uses) (range_with_len 0 size)
 abbrev pub descriptor_bytes : DescriptorOf → List ℕ
 descriptor_bytes d = little_bytes 2 d.kind ++ (little_bytes 2 (length d.bytes) ++ d.bytes)
 
--- A record: length, descriptor count, option flags, set text type and length, no package data, and then bitmap, set
--- text and descriptors.
+-- A record: length, descriptor count, option flags, set text type and length, no package data, and
+-- then bitmap, set text and descriptors.
 abbrev pub record_head : ℕ → AskedRecordOf → List ℕ
 record_head bitmap_size r =
     little_bytes 2 (record_size bitmap_size r) ++ length r.descriptors ∷ (little_bytes 4 r.flags ++ 1 ∷ length r.set_text ∷ little_bytes 2 0)
@@ -38,26 +40,27 @@ abbrev pub record_bytes : ℕ → AskedRecordOf → List ℕ
 record_bytes bitmap_size r =
     record_head bitmap_size r ++ (bitmap_of bitmap_size r.uses ++ (r.set_text ++ flat_map descriptor_bytes r.descriptors))
 
--- a component: classification, identifier, stamp, options, activation method, offset and size of its image, version
--- text type, length and text
+-- a component: classification, identifier, stamp, options, activation method, offset and size of
+-- its image, version text type, length and text
 abbrev pub component_bytes : ℕ → AskedComponentOf → List ℕ
 component_bytes offset c =
     little_bytes 2 c.classification ++ (little_bytes 2 c.identifier ++ (little_bytes 4 c.stamp ++ (little_bytes 2 c.options
     ++ (little_bytes 2 c.method ++ (little_bytes 4 offset ++ (little_bytes 4 c.size ++ 1 ∷ length c.text ∷ c.text))))))
 
--- the components; the image of the first stands at this offset, each other where the one before it ends
+-- the components; the image of the first is at this offset, each other after the one before it
 abbrev pub components_bytes : ℕ → List AskedComponentOf → List ℕ
 components_bytes offset [] = []
 components_bytes offset (c ∷ cs) = component_bytes offset c ++ components_bytes (offset + c.size) cs
 
--- The fixed part and the version text: identifier, revision 1, the header's size, the release time, the bits of a
--- bitmap, the version text's type and length, and the text.
+-- The fixed part and the version text: identifier, revision 1, the header's size, the release time,
+-- the bits of a bitmap, the version text's type and length, and the text.
 abbrev pub opening_bytes : AskedPackageOf → List ℕ
 opening_bytes a =
     package_identifier ++ 1 ∷ (little_bytes 2 (header_size a) ++ (a.release
     ++ (little_bytes 2 (8 * bitmap_size_for (length a.components)) ++ 1 ∷ length a.version ∷ a.version)))
 
--- the header's bytes before its checksum: the opening, the records and the components, each after their count
+-- the header's bytes before its checksum: the opening, the records and the components, each after
+-- their count
 abbrev pub body_bytes : AskedPackageOf → List ℕ
 body_bytes a =
     opening_bytes a ++ length a.records ∷ (flat_map (record_bytes (bitmap_size_for (length a.components))) a.records
@@ -67,12 +70,12 @@ body_bytes a =
 abbrev pub header_bytes : AskedPackageOf → List ℕ
 header_bytes a = body_bytes a ++ little_bytes 4 (crc_of (body_bytes a))
 
--- The header and images of the sizes that are asked make up the package that is asked, and read as it.
+-- The header and images of the given sizes make up the package, and read as it.
 pub record IsHeaderOf (a : AskedPackageOf) (header : List ℕ) : Type 0 where
   pub is : (images : List (List ℕ)) → map length images ≡ map (λ c. c.size) a.components → IsPackage (header ++ concat images) (package_for a images)
   pub reads : (images : List (List ℕ)) → map length images ≡ map (λ c. c.size) a.components → package_of (header ++ concat images) ≡ Ok (package_for a images)
 
--- the numbers that are asked fit their fields
+-- the record's numbers fit their fields
 pub record HasRecordWidths (r : AskedRecordOf) : Type 0 where
   pub flags : r.flags < 4294967296
   pub kinds : All (λ d. d.kind < 65536) r.descriptors

@@ -1,12 +1,12 @@
-//! What is asked of a package that is to be written.
+//! The content of a package that is to be written.
 
 use crate::texts::Descriptor;
 use thiserror::Error;
 
-/// A package that is asked for.
+/// A package to write.
 #[derive(Clone, Copy)]
 pub struct AskedPackage<'a> {
-    /// The release time of the package (timestamp104 of DSP0240, as it is written).
+    /// The release time of the package (timestamp104 of DSP0240, in its encoded form).
     pub release: [u8; 13],
     /// The package's version text, ASCII.
     pub version: &'a [u8],
@@ -16,20 +16,20 @@ pub struct AskedPackage<'a> {
     pub components: &'a [AskedComponent<'a>],
 }
 
-/// A device identification record that is asked for, without package data.
+/// A device identification record to write, without package data.
 #[derive(Clone, Copy)]
 pub struct AskedRecord<'a> {
     /// The update option flags.
     pub flags: u32,
     /// The component image set version text, ASCII.
     pub set_text: &'a [u8],
-    /// The descriptors of the devices that it is for.
+    /// The descriptors of its devices.
     pub descriptors: &'a [Descriptor<'a>],
     /// The numbers of the components that it uses, counted from 0, rising.
     pub uses: &'a [u16],
 }
 
-/// A component that is asked for. Of its image the header tells the place and the size.
+/// A component to write. The header holds its image's place and size only.
 #[derive(Clone, Copy)]
 pub struct AskedComponent<'a> {
     /// The classification, the first part of the key.
@@ -40,22 +40,22 @@ pub struct AskedComponent<'a> {
     pub stamp: u32,
     /// The options: bit 0 forces the update, bit 1 uses the stamp.
     pub options: u16,
-    /// The activation methods that are requested.
+    /// The requested activation methods.
     pub method: u16,
     /// The version text, ASCII.
     pub text: &'a [u8],
-    /// The bytes of the image.
+    /// The image's size in bytes.
     pub size: usize,
 }
 
-/// Why a package that is asked for can't be written: the first of these, in this order, that holds.
+/// Why a package can't be written: the first fault in this order.
 #[derive(Clone, Copy, Debug, PartialEq, Eq, Error)]
 pub enum AskedFault {
-    /// A record's components don't rise, or one of them isn't asked for.
+    /// A record's component numbers don't rise, or name a component that the package doesn't have.
     #[error("Uses")]
     Uses,
-    /// A text has more than 255 bytes, a record more than 255 descriptors, the package more than 255 records, the
-    /// header more than 65,535 bytes, or the file more than 4,294,967,295.
+    /// A text has more than 255 bytes, a record more than 255 descriptors, the package more than
+    /// 255 records, the header more than 65,535 bytes, or the file more than 4,294,967,295.
     #[error("Limit")]
     Limit,
 }

@@ -1,4 +1,4 @@
-//! The bitmap of a record that is written.
+//! Writes the bitmap of a record.
 
 ghost use Rattle.std.specs.Prelude.{◌≡◌, ◌+◌, ◌++◌, ◌≤◌, ◌<◌};
 ghost use Rattle.std.specs.List.Sorted.{IsStrictlyIncreasing};
@@ -9,14 +9,14 @@ ghost use Rattle.fw_package.specs.Writing.{bitmap_byte, bitmap_of, is_used};
 use crate::uses::BYTE_BITS;
 use crate::writing::Header;
 
-/// The bytes of a bitmap for so many components: a bit each, and a byte at least.
+/// Returns the bytes of a bitmap for `count` components: one bit each, and at least one byte.
 pub fn bitmap_size(count: usize) -> usize
     ensures { result ≡ bitmap_size_for count }
 {
     count.div_ceil(BYTE_BITS).max(1)
 }
 
-/// Whether the numbers rise and each is below the count.
+/// Returns whether the numbers rise and each is below the count.
 pub fn are_uses(uses: &[u16], count: usize) -> bool
     ensures { result ≡ are_uses count 0 uses.now }
 {
@@ -31,7 +31,7 @@ pub fn are_uses(uses: &[u16], count: usize) -> bool
     true
 }
 
-/// Appends a bitmap of so many bytes, which names these components.
+/// Appends a bitmap of `size` bytes for the components `uses`.
 #[tactic(auto, using(crate::proofs::Bits::placing))]
 pub fn put_bitmap(header: &mut Header, size: usize, uses: &[u16])
     requires room { array_vec_len header.old + size ≤ 65535 }
@@ -44,7 +44,7 @@ pub fn put_bitmap(header: &mut Header, size: usize, uses: &[u16])
     }
 }
 
-/// The byte of a bitmap at this place.
+/// Returns the byte of a bitmap at this place.
 #[tactic(auto, using(crate::proofs::Bits::byte_bits))]
 fn bitmap_byte(uses: &[u16], place: usize) -> u8
     requires small { place < 8192 }
@@ -59,7 +59,7 @@ fn bitmap_byte(uses: &[u16], place: usize) -> u8
     byte
 }
 
-/// Whether a component is one of these.
+/// Returns whether a component is in the list.
 #[tactic(auto, using(crate::proofs::Bits::used_found))]
 fn is_used(uses: &[u16], number: u16) -> bool
     requires { IsStrictlyIncreasing uses.now }

@@ -1,4 +1,4 @@
-//! A component: what an image is, and where it stands.
+//! Components with their images.
 
 ghost use Rattle.std.specs.Iterator.{YieldsFirstBy, item_count};
 ghost use Rattle.std.specs.Prelude.{◌≡◌, ◌+◌, ◌≤◌, length, drop, IsSome};
@@ -13,7 +13,7 @@ use crate::places::{Place, others};
 use crate::texts::Text;
 use std::marker::Model;
 
-/// A component and its image, lent from its package's file.
+/// A component and its image, borrowed from its package's file.
 #[derive(Clone, Copy, PartialEq, Eq)]
 pub struct Component<'a> {
     /// The classification, the first part of the key.
@@ -24,7 +24,7 @@ pub struct Component<'a> {
     pub stamp: u32,
     /// The options: bit 0 forces the update, bit 1 uses the stamp.
     pub options: u16,
-    /// Where the image stands, in bytes from the file's start.
+    /// The image's offset in bytes from the file's start.
     pub offset: usize,
     /// The version text.
     pub text: Text<'a>,
@@ -33,10 +33,10 @@ pub struct Component<'a> {
 }
 
 impl<'a> Component<'a> {
-    /// Reads the component with which these bytes of a header begin.
+    /// Reads the component at the beginning of these bytes of a header.
     ///
     /// # Errors
-    /// `ImageRange` where its image goes past the file's end.
+    /// `ImageRange` if its image goes past the file's end.
     #[tactic(auto, using(crate::proofs::Outlined::component_unplaced))]
     fn read(file: &'a [u8], bytes: &'a [u8]) -> Result<Component<'a>, PackageFault>
         requires { IsSome (after_component bytes.now) }
@@ -48,7 +48,7 @@ impl<'a> Component<'a> {
         }
     }
 
-    /// The component whose image stands at this place of the file.
+    /// Returns the component whose image is at this place of the file.
     fn at(file: &'a [u8], place: Place<'a>) -> Component<'a>
         requires { place.offset + place.size ≤ length file.now }
         ensures { component_seen result ≡ component_at_place file.now (place_seen place.entry) }
@@ -65,7 +65,7 @@ impl<'a> Component<'a> {
     }
 }
 
-/// The components of a package, one after the other. It is also an iterator over them.
+/// The components of a package, in order. It is also an iterator over them.
 #[derive(Drop)]
 pub struct Components<'a> {
     file: &'a [u8],
@@ -87,10 +87,10 @@ impl<'a> Model for Components<'a> {
 }
 
 impl<'a> Components<'a> {
-    /// So many components, the first of which these bytes of the file's header begin with.
+    /// Reads `count` components, the first at the beginning of these bytes of the file's header.
     ///
     /// # Errors
-    /// `ImageRange` where an image goes past the file's end.
+    /// `ImageRange` if an image goes past the file's end.
     #[tactic(auto, using(crate::proofs::Rows::composing))]
     pub(crate) fn read(
         file: &'a [u8],
@@ -112,7 +112,7 @@ impl<'a> Components<'a> {
         })
     }
 
-    /// How many components are left.
+    /// Returns the number of components left.
     #[tactic(auto, using(crate::proofs::Rows::components_count))]
     pub fn len(&self) -> usize
         ensures { result ≡ length self.now }
@@ -120,7 +120,7 @@ impl<'a> Components<'a> {
         self.count
     }
 
-    /// The same again.
+    /// Returns an iterator over the components.
     pub fn iter(&self) -> Components<'a>
         ensures { result ≡ self.now }
     {
@@ -131,7 +131,8 @@ impl<'a> Components<'a> {
         }
     }
 
-    /// The components from this number on. Those before it are passed by their lengths, unread.
+    /// Returns the components from this number on. The components before it are skipped by their
+    /// lengths.
     #[tactic(auto, using(crate::proofs::Rows::components_starting))]
     pub(crate) fn from(&self, number: usize) -> Components<'a>
         requires { number ≤ length self.now }

@@ -1,4 +1,4 @@
-//! What a header has, apart from the components' images.
+//! The content of a header, without the components' images.
 
 ghost use Rattle.std.specs.Prelude.{◌≡◌, ◌≤◌, All, IfOk, IsSome};
 ghost use Rattle.std.specs.Result.{result_map_both};
@@ -13,10 +13,10 @@ use crate::numbers::u16_at;
 use crate::reading::{bitmap_size, check, header};
 use crate::records::Records;
 
-/// A header's size, its records, and where its components stand.
+/// A header's size, its records, and its components' bytes.
 #[derive(Drop)]
 pub(crate) struct Contents<'a> {
-    /// The bytes of the header.
+    /// The header's size in bytes.
     pub header_size: usize,
     /// The records.
     pub records: Records<'a>,
@@ -27,10 +27,11 @@ pub(crate) struct Contents<'a> {
 }
 
 impl<'a> Contents<'a> {
-    /// Reads header, layout, records and checksum, in the order of their faults. Nothing behind the header is looked at.
+    /// Reads header, layout, records and checksum, in the order of their faults. The bytes after
+    /// the header are ignored.
     ///
     /// # Errors
-    /// The first fault that holds, but for one of the images.
+    /// The first fault that holds, except those of the images.
     #[tactic(auto, unfolding(crate::specs::Outlines::contents_of))]
     pub(crate) fn read(bytes: &'a [u8]) -> Result<Contents<'a>, PackageFault>
         ensures value { result_map_both contents_seen (λ e. e) result ≡ contents_of bytes.now }

@@ -5,16 +5,16 @@ ghost use Rattle.fw_package.specs.Crc.{after_bits, after_byte, crc_of};
 
 use crate::crc_table::BYTE_STEPS;
 
-/// The register before the first byte, and what is added to it after the last: all ones.
+/// The register before the first byte, and the value added to it after the last: all ones.
 const ALL_ONES: u32 = 0xFFFF_FFFF;
 
-/// The bits of the register that a byte of the text meets: its lowest eight.
+/// The bits of the register that a byte of the text is added to: its lowest eight.
 const LOW_BYTE: u32 = 0xFF;
 
 /// The number of bits in a byte.
 const BYTE_BITS: u32 = 8;
 
-/// The reflected CRC-32 of these bytes.
+/// Returns the reflected CRC-32 of these bytes.
 pub fn crc32(bytes: &[u8]) -> u32
     ensures { result ≡ crc_of bytes.now }
 {
@@ -25,7 +25,7 @@ pub fn crc32(bytes: &[u8]) -> u32
     register ^ ALL_ONES
 }
 
-/// The register after one more byte.
+/// Returns the register after one more byte.
 #[tactic(auto, using(crate::proofs::ByteSteps::byte_step))]
 fn step(register: u32, byte: u8) -> u32
     ensures { result ≡ after_byte register byte }
@@ -33,7 +33,7 @@ fn step(register: u32, byte: u8) -> u32
     byte_steps((register ^ u32::from(byte)) & LOW_BYTE) ^ (register >> BYTE_BITS)
 }
 
-/// What eight bit steps make of a register that holds one byte.
+/// Returns the register after eight bit steps from a register that holds one byte.
 #[tactic(auto, using(crate::proofs::ByteSteps::byte_steps_at))]
 fn byte_steps(byte: u32) -> u32
     requires { byte < 256 }

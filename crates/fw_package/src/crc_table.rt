@@ -1,6 +1,7 @@
 //! The table of the checksum's byte step.
 
-/// What eight single bit steps make of each byte, so that a byte takes one step in place of eight.
+/// The result of eight single bit steps for each byte, so that a byte takes one step instead of
+/// eight.
 pub const BYTE_STEPS: [u32; 256] = [
     0x0000_0000,
     0x7707_3096,

@@ -1,4 +1,4 @@
-//! The descriptors of a record, lent from its package's header.
+//! The descriptors of a record, borrowed from its package's header.
 
 ghost use Rattle.std.specs.Iterator.{YieldsFirstBy, item_count};
 ghost use Rattle.std.specs.Prelude.{◌≡◌, ◌==◌, length, map, IfOk};
@@ -22,7 +22,7 @@ const DESCRIPTOR_TYPE: usize = 0;
 /// The place of a descriptor's size.
 const DESCRIPTOR_LENGTH: usize = 2;
 
-/// Descriptors that stand one after the other. It is also an iterator over them.
+/// Consecutive descriptors. It is also an iterator over them.
 #[derive(Drop)]
 pub struct Descriptors<'a> {
     count: u8,
@@ -43,10 +43,10 @@ impl<'a> Model for Descriptors<'a> {
 }
 
 impl<'a> Descriptors<'a> {
-    /// So many descriptors, and what stands after them.
+    /// Reads `count` descriptors, and returns them with the bytes after them.
     ///
     /// # Errors
-    /// `RecordLength` where the bytes end before them.
+    /// `RecordLength` if the bytes end before the descriptors do.
     #[tactic(auto, using(crate::proofs::Lists::describing))]
     pub(crate) fn read(bytes: &'a [u8], count: u8) -> Result<(Self, &'a [u8]), PackageFault>
         ensures { result_map_both (λ p. (p.0, p.1.now)) (λ e. e) result ≡ descriptors_split count bytes.now }
@@ -59,7 +59,7 @@ impl<'a> Descriptors<'a> {
         Ok((Descriptors { count, rest: bytes }, rest))
     }
 
-    /// Whether no descriptor is left.
+    /// Returns whether no descriptor is left.
     #[tactic(auto, using(crate::proofs::Lists::descriptors_count))]
     pub(crate) fn is_empty(&self) -> bool
         ensures { result ≡ (length self.now == 0) }
@@ -67,7 +67,7 @@ impl<'a> Descriptors<'a> {
         self.count == 0
     }
 
-    /// Whether all of these descriptors are the device's.
+    /// Returns whether all descriptors are the device's.
     pub(crate) fn are_among(self, device: &[Descriptor<'_>]) -> bool
         ensures { result ≡ list_all (is_among (map descriptor_of device.now)) self.entry }
     {
@@ -103,7 +103,7 @@ impl<'a> Iterator for Descriptors<'a> {
     }
 }
 
-/// Whether this is one of the device's descriptors.
+/// Returns whether a descriptor is one of the device's.
 fn is_among(descriptor: Descriptor<'_>, device: &[Descriptor<'_>]) -> bool
     ensures { result ≡ is_among (map descriptor_of device.now) (descriptor_of descriptor.entry) }
 {
@@ -115,7 +115,7 @@ fn is_among(descriptor: Descriptor<'_>, device: &[Descriptor<'_>]) -> bool
     false
 }
 
-/// The first descriptor, and what stands after it.
+/// Returns the first descriptor, and the bytes after it.
 #[tactic(auto, unfolding(crate::specs::Records::descriptor_split))]
 fn descriptor(bytes: &[u8]) -> Result<(Descriptor<'_>, &[u8]), PackageFault>
     ensures { result_map_both (λ p. (descriptor_of p.0, p.1.now)) (λ e. e) result ≡ descriptor_split bytes.now }
@@ -130,7 +130,7 @@ fn descriptor(bytes: &[u8]) -> Result<(Descriptor<'_>, &[u8]), PackageFault>
     Ok((descriptor, rest))
 }
 
-/// The first `size` bytes, and what stands after them.
+/// Returns the first `size` bytes, and the bytes after them.
 pub(crate) fn split(bytes: &[u8], size: usize) -> Result<(&[u8], &[u8]), PackageFault>
     ensures value { result_map_both (λ p. (p.0.now, p.1.now)) (λ e. e) result ≡ split_after size bytes.now }
     ensures front { IfOk result (λ p. length p.0.now ≡ size) }

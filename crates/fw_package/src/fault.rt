@@ -2,7 +2,7 @@
 
 use thiserror::Error;
 
-/// Why bytes are no package: the first of these, in this order, that holds.
+/// Why bytes are no package: the first fault in this order.
 #[derive(Clone, Copy, Debug, PartialEq, Eq, Error)]
 pub enum PackageFault {
     /// Fewer bytes than the fixed part of a header has.
@@ -14,7 +14,7 @@ pub enum PackageFault {
     /// The header revision isn't 1.
     #[error("Revision")]
     Revision,
-    /// The header is longer than the file, or its parts don't end where it does.
+    /// The header is longer than the file, or its parts have another length than the header.
     #[error("HeaderSize")]
     HeaderSize,
     /// The bitmap's bit length is 0, no multiple of 8, or less than the number of components.
@@ -31,7 +31,7 @@ pub enum PackageFault {
     ImageRange,
 }
 
-/// Why a record can't be planned: the first of these, in this order, that holds.
+/// Why a record can't be planned: the first fault in this order.
 #[derive(Clone, Copy, Debug, PartialEq, Eq, Error)]
 pub enum PlanFault {
     /// Two components of the record have the same key.
@@ -40,7 +40,7 @@ pub enum PlanFault {
     /// The record uses more components than a plan holds.
     #[error("TooManyComponents")]
     TooManyComponents,
-    /// A component's image is larger than a device takes.
+    /// A component's image is larger than a device accepts.
     #[error("ImageTooLarge")]
     ImageTooLarge,
     /// The set text or a component's version text is longer than a message carries.

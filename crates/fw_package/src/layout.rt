@@ -1,4 +1,4 @@
-//! Where the parts of a header stand (DSP0267 1.0, package header information).
+//! The places of a header's parts (DSP0267 1.0, package header information).
 
 ghost use Rattle.std.specs.Prelude.{◌≡◌, ◌+◌, ◌≤◌, ◌<◌, length, IfSome, IsSome};
 ghost use Rattle.std.specs.Option.{option_map};
@@ -6,8 +6,8 @@ ghost use Rattle.fw_package.specs.Layout.{bytes_after, after_component, after_co
 
 use byteorder::{ByteOrder, LittleEndian};
 
-/// The bytes before the version text: identifier, revision, header size, release time, bitmap bit length,
-/// version text type and length.
+/// The bytes before the version text: identifier, revision, header size, release time, bitmap bit
+/// length, version text type and length.
 pub const FIXED_SIZE: usize = 36;
 
 /// The place of the header revision, after the identifier of 16 bytes.
@@ -22,7 +22,7 @@ pub const BITMAP_BITS: usize = 32;
 /// The place of the version text's length, after its type.
 pub const VERSION_LENGTH: usize = 35;
 
-/// The bytes of a record's length, with which the record begins.
+/// The bytes of a record's length, at the beginning of the record.
 pub const RECORD_LENGTH_SIZE: usize = 2;
 
 /// The bytes of a component before its version text.
@@ -34,10 +34,10 @@ pub const COMPONENT_TEXT_LENGTH: usize = 21;
 /// The bytes of the component count.
 pub const COUNT_SIZE: usize = 2;
 
-/// The bytes of the checksum, with which the header ends.
+/// The bytes of the checksum, at the end of the header.
 pub const CHECKSUM_SIZE: usize = 4;
 
-/// Where records, components and checksum of a header stand.
+/// The places of a header's records, components and checksum.
 #[derive(Clone, Copy)]
 pub struct Layout<'a> {
     /// The number of records.
@@ -50,9 +50,9 @@ pub struct Layout<'a> {
     pub components: &'a [u8],
 }
 
-/// Walks over a header by the lengths that stand in it: the version text, the records, each by its record
-/// length, and the components. None where a part goes past the header's end, or something other than the
-/// checksum's four bytes is left.
+/// Walks over a header by the lengths in it: the version text, the records, each by its record
+/// length, and the components. Returns `None` if a part goes past the header's end, or if anything
+/// but the checksum's four bytes is left.
 #[tactic(auto, unfolding(crate::specs::Layout::layout_of))]
 pub fn walk(header: &[u8]) -> Option<Layout<'_>>
     ensures parts { option_map layout_seen result ≡ layout_of header.now }
@@ -81,7 +81,7 @@ pub fn walk(header: &[u8]) -> Option<Layout<'_>>
     })
 }
 
-/// What stands after the first `size` bytes, where there are so many.
+/// Returns the bytes after the first `size` bytes, if there are as many.
 fn skip(bytes: &[u8], size: usize) -> Option<&[u8]>
     ensures { option_map (λ rest. rest.now) result ≡ bytes_after size bytes.now }
 {
@@ -91,7 +91,7 @@ fn skip(bytes: &[u8], size: usize) -> Option<&[u8]>
     Some(&bytes[size..])
 }
 
-/// The length of a text, which stands at this place, or 0 past the end.
+/// Returns the length of a text, in the byte at this place, or 0 past the end.
 fn text_size(bytes: &[u8], place: usize) -> usize
     ensures value { result ≡ text_size_of place bytes.now }
     ensures small { result < 256 }
@@ -102,7 +102,7 @@ fn text_size(bytes: &[u8], place: usize) -> usize
     }
 }
 
-/// What stands after the first record.
+/// Returns the bytes after the first record.
 fn skip_record(bytes: &[u8]) -> Option<&[u8]>
     ensures { option_map (λ rest. rest.now) result ≡ after_record bytes.now }
 {
@@ -112,7 +112,7 @@ fn skip_record(bytes: &[u8]) -> Option<&[u8]>
     skip(bytes, usize::from(LittleEndian::read_u16(bytes)))
 }
 
-/// What stands after so many records.
+/// Returns the bytes after `count` records.
 #[tactic(auto, using(crate::proofs::Walks::record_walk))]
 pub fn skip_records(bytes: &[u8], count: usize) -> Option<&[u8]>
     ensures { option_map (λ rest. rest.now) result ≡ after_records count bytes.now }
@@ -124,7 +124,7 @@ pub fn skip_records(bytes: &[u8], count: usize) -> Option<&[u8]>
     Some(rest)
 }
 
-/// What stands after the first component.
+/// Returns the bytes after the first component.
 fn skip_component(bytes: &[u8]) -> Option<&[u8]>
     ensures { option_map (λ rest. rest.now) result ≡ after_component bytes.now }
 {
@@ -134,7 +134,7 @@ fn skip_component(bytes: &[u8]) -> Option<&[u8]>
     )
 }
 
-/// What stands after so many components.
+/// Returns the bytes after `count` components.
 #[tactic(auto, using(crate::proofs::Walks::component_walk))]
 pub fn skip_components(bytes: &[u8], count: usize) -> Option<&[u8]>
     ensures { option_map (λ rest. rest.now) result ≡ after_components count bytes.now }

@@ -1,4 +1,5 @@
-//! Firmware update packages (DSP0267 1.0): reading one, and what it names for a device.
+//! Firmware update packages (DSP0267 1.0): reads and writes them, and finds the components of a
+//! device.
 #![tactic(auto)]
 
 mod asked;

@@ -1,4 +1,4 @@
-//! How long the parts of a header are that is asked for, and whether all fits.
+//! The sizes of a header's parts, and the tests that they fit.
 
 ghost use Rattle.std.specs.Prelude.{◌≡◌, map};
 ghost use Rattle.std.specs.List.{list_all, sum_by};
@@ -16,16 +16,17 @@ use crate::texts::Descriptor;
 /// The bytes of the record count.
 const RECORD_COUNT_SIZE: usize = 1;
 
-/// The most bytes of a text, and the most records and descriptors of a record: their numbers have one byte.
+/// The most bytes of a text, and the most records and descriptors of a record: their numbers are
+/// one byte.
 const BYTE_LIMIT: usize = 255;
 
-/// The most bytes of a header: its size has two bytes.
+/// The most bytes of a header: its size is two bytes.
 pub const HEADER_LIMIT: usize = 65_535;
 
-/// The most bytes of a file, so that each offset and each size has four bytes.
+/// The most bytes of a file: each offset and each size is four bytes.
 const FILE_LIMIT: usize = 4_294_967_295;
 
-/// The first reason why a package can't be written, if there is one.
+/// Returns the first reason why a package can't be written, if there is one.
 #[tactic(auto, unfolding(crate::specs::Asked::refusal_of))]
 pub fn refusal(asked: &AskedPackage<'_>) -> Option<AskedFault>
     ensures { result ≡ refusal_of (asked_package_of asked.now) }
@@ -39,7 +40,7 @@ pub fn refusal(asked: &AskedPackage<'_>) -> Option<AskedFault>
     None
 }
 
-/// Whether each record uses components that are asked for.
+/// Returns whether each record uses components of the package.
 fn uses_fit(records: &[AskedRecord<'_>], count: usize) -> bool
     ensures { result ≡ list_all (λ r. rise_below count 0 r.uses) (map asked_record_of records.now) }
 {
@@ -51,7 +52,7 @@ fn uses_fit(records: &[AskedRecord<'_>], count: usize) -> bool
     true
 }
 
-/// Whether all lengths and numbers fit their fields.
+/// Returns whether all lengths and numbers fit their fields.
 fn all_fits(asked: &AskedPackage<'_>) -> bool
     ensures { result ≡ all_fits (asked_package_of asked.now) }
 {
@@ -61,7 +62,8 @@ fn all_fits(asked: &AskedPackage<'_>) -> bool
         && images_size(asked.components).saturating_add(header) <= FILE_LIMIT
 }
 
-/// Whether the texts' lengths, the descriptors' numbers and the records' number have one byte each.
+/// Returns whether the texts' lengths, the descriptors' numbers and the records' number each fit
+/// one byte.
 fn parts_fit(asked: &AskedPackage<'_>) -> bool
     ensures { result ≡ parts_fit (asked_package_of asked.now) }
 {
@@ -71,14 +73,14 @@ fn parts_fit(asked: &AskedPackage<'_>) -> bool
         && components_fit(asked.components)
 }
 
-/// Whether a text's length has one byte.
+/// Returns whether a text's length fits one byte.
 fn text_fits(text: &[u8]) -> bool
     ensures { result ≡ text_fits text.now }
 {
     text.len() <= BYTE_LIMIT
 }
 
-/// Whether each record's set text and descriptors can be counted in one byte.
+/// Returns whether each record's set text and descriptors can be counted in one byte.
 fn records_fit(records: &[AskedRecord<'_>]) -> bool
     ensures { result ≡ list_all record_fits (map asked_record_of records.now) }
 {
@@ -90,7 +92,7 @@ fn records_fit(records: &[AskedRecord<'_>]) -> bool
     true
 }
 
-/// Whether the length of each component's version text has one byte.
+/// Returns whether the length of each component's version text fits one byte.
 fn components_fit(components: &[AskedComponent<'_>]) -> bool
     ensures { result ≡ list_all component_fits (map asked_component_of components.now) }
 {
@@ -102,7 +104,7 @@ fn components_fit(components: &[AskedComponent<'_>]) -> bool
     true
 }
 
-/// The bytes of the header, or the largest number where there are more.
+/// Returns the bytes of the header, or `usize::MAX` if there are more.
 #[tactic(auto, using(crate::proofs::Measured::capped_header))]
 pub fn header_size(asked: &AskedPackage<'_>) -> usize
     ensures { result ≡ capped_number (header_size (asked_package_of asked.now)) }
@@ -116,7 +118,7 @@ pub fn header_size(asked: &AskedPackage<'_>) -> usize
         .saturating_add(lists)
 }
 
-/// The bytes of records with a bitmap of so many bytes, or the largest number.
+/// Returns the bytes of records with a bitmap of `bitmap_size` bytes, or the largest number.
 fn records_size(records: &[AskedRecord<'_>], bitmap_size: usize) -> usize
     ensures { result ≡ capped_number (sum_by (record_size bitmap_size) (map asked_record_of records.now)) }
 {
@@ -127,7 +129,7 @@ fn records_size(records: &[AskedRecord<'_>], bitmap_size: usize) -> usize
     size
 }
 
-/// The bytes of a record with a bitmap of so many bytes, or the largest number.
+/// Returns the bytes of a record with a bitmap of `bitmap_size` bytes, or the largest number.
 pub fn record_size(record: &AskedRecord<'_>, bitmap_size: usize) -> usize
     ensures { result ≡ capped_number (record_size bitmap_size (asked_record_of «record».now)) }
 {
@@ -137,7 +139,7 @@ pub fn record_size(record: &AskedRecord<'_>, bitmap_size: usize) -> usize
         .saturating_add(HEAD_SIZE)
 }
 
-/// The bytes of descriptors, or the largest number.
+/// Returns the bytes of descriptors, or the largest number.
 fn descriptors_size(descriptors: &[Descriptor<'_>]) -> usize
     ensures { result ≡ capped_number (sum_by descriptor_size (map descriptor_of descriptors.now)) }
 {
@@ -148,7 +150,7 @@ fn descriptors_size(descriptors: &[Descriptor<'_>]) -> usize
     size
 }
 
-/// The bytes of components, or the largest number.
+/// Returns the bytes of components, or the largest number.
 fn components_size(components: &[AskedComponent<'_>]) -> usize
     ensures { result ≡ capped_number (sum_by component_size (map asked_component_of components.now)) }
 {
@@ -159,7 +161,7 @@ fn components_size(components: &[AskedComponent<'_>]) -> usize
     size
 }
 
-/// The bytes of the images, or the largest number.
+/// Returns the bytes of the images, or the largest number.
 fn images_size(components: &[AskedComponent<'_>]) -> usize
     ensures { result ≡ capped_number (sum_by (λ c. c.size) (map asked_component_of components.now)) }
 {

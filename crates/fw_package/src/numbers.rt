@@ -5,7 +5,7 @@ ghost use Rattle.byteorder.specs.Endian.{little_number};
 
 use byteorder::{ByteOrder, LittleEndian};
 
-/// The number of two bytes at this place.
+/// Returns the number of two bytes at this place.
 pub(crate) fn u16_at(bytes: &[u8], place: usize) -> u16
     requires { place + 2 ≤ length bytes.now }
     ensures { result ≡ little_number 2 (drop place bytes.now) }
@@ -13,7 +13,7 @@ pub(crate) fn u16_at(bytes: &[u8], place: usize) -> u16
     LittleEndian::read_u16(&bytes[place..])
 }
 
-/// The number of four bytes at this place.
+/// Returns the number of four bytes at this place.
 pub(crate) fn u32_at(bytes: &[u8], place: usize) -> u32
     requires { place + 4 ≤ length bytes.now }
     ensures { result ≡ little_number 4 (drop place bytes.now) }

@@ -9,10 +9,12 @@ use crate::places::ComponentPlaces;
 use crate::records::Records;
 use std::marker::Model;
 
-/// The first bytes of a file among which a package's header stands: a header's size has two bytes.
+/// The most bytes at the beginning of a file that a package's header takes: a header's size is two
+/// bytes.
 pub const BEGINNING_SIZE: usize = 65_535;
 
-/// A firmware update package without its images: a view of its header, which lends all that is read from it.
+/// A firmware update package without its images: a view of its header, from which all values are
+/// borrowed.
 #[derive(Drop)]
 pub struct Outline<'a> {
     header_size: usize,
@@ -34,11 +36,11 @@ impl<'a> Outline<'a> {
     ghost use Rattle.fw_package.specs.Outlines.{IsBeginning, outline_of_package};
     ghost use Rattle.fw_package.specs.Reading.{package_of};
 
-    /// Reads the outline of the package with whose first 65,535 bytes this is called, or with all where it has no more,
-    /// and with its length. What stands behind the header isn't looked at.
+    /// Reads the outline of a package from its first 65,535 bytes, or all if it has fewer, and from
+    /// its length. The bytes after the header are ignored.
     ///
     /// # Errors
-    /// A file that is no package is refused by the first fault that holds.
+    /// A file that is no package is refused with the first fault that holds.
     pub fn read(beginning: &'a [u8], file_length: usize) -> Result<Outline<'a>, PackageFault>
         ensures value { result ≡ outline_of beginning.now file_length }
         ensures whole { (file : List ℕ) → IsBeginning file beginning.now file_length → result ≡ result_map_both outline_of_package (λ e. e) (package_of file) }
@@ -65,35 +67,35 @@ impl<'a> Outline<'a> {
         })
     }
 
-    /// The bytes of the header.
+    /// Returns the bytes of the header.
     pub fn header_size(&self) -> usize
         ensures { result ≡ self.now.header_size }
     {
         self.header_size
     }
 
-    /// The number of records.
+    /// Returns the number of records.
     pub fn record_count(&self) -> usize
         ensures { result ≡ length self.now.records }
     {
         self.records.len()
     }
 
-    /// The number of components.
+    /// Returns the number of components.
     pub fn place_count(&self) -> usize
         ensures { result ≡ length self.now.places }
     {
         self.places.len()
     }
 
-    /// The records, one after the other.
+    /// Returns the records, in order.
     pub fn records(&self) -> Records<'a>
         ensures { result ≡ self.now.records }
     {
         self.records.iter()
     }
 
-    /// The components, each by its image's place, one after the other.
+    /// Returns the components, each with its image's place, in order.
     pub fn places(&self) -> ComponentPlaces<'a>
         ensures { result ≡ self.now.places }
     {

@@ -18,14 +18,14 @@ use crate::used::{KEY_LIMIT, Used};
 use crate::uses::Uses;
 use std::marker::Model;
 
-/// The most bytes of an image that a device takes.
+/// The most bytes of an image that a device accepts.
 const IMAGE_LIMIT: usize = 1_048_576;
 
 /// The most bytes of a text that a message carries.
 const TEXT_LIMIT: usize = 200;
 
-/// A firmware update package: a view of the bytes of its file, which lend all that is read from it. It holds places and
-/// counts alone; each call walks over the header again.
+/// A firmware update package: a view of its file's bytes, from which all values are borrowed. It
+/// holds places and counts only; each call walks over the header again.
 #[derive(Drop)]
 pub struct Package<'a> {
     header_size: usize,
@@ -50,10 +50,10 @@ impl<'a> Package<'a> {
     ghost use Rattle.fw_package.specs.Grammar.{IsPackage};
     ghost use Rattle.fw_package.specs.Package.{PackageText};
 
-    /// Reads the package that these bytes are.
+    /// Reads the package with these bytes.
     ///
     /// # Errors
-    /// Bytes that are no package are refused by the first fault that holds.
+    /// Bytes that are no package are refused with the first fault that holds.
     pub fn read(bytes: &'a [u8]) -> Result<Package<'a>, PackageFault>
         ensures found { IfOk result (λ p. IsPackage bytes.now p) }
         ensures only { (p : PackageText) → IsPackage bytes.now p → IsOk result }
@@ -80,42 +80,42 @@ impl<'a> Package<'a> {
         }
     }
 
-    /// The bytes of the header.
+    /// Returns the bytes of the header.
     pub fn header_size(&self) -> usize
         ensures { result ≡ self.now.header_size }
     {
         self.header_size
     }
 
-    /// The number of records.
+    /// Returns the number of records.
     pub fn record_count(&self) -> usize
         ensures { result ≡ length self.now.records }
     {
         self.records.len()
     }
 
-    /// The number of components.
+    /// Returns the number of components.
     pub fn component_count(&self) -> usize
         ensures { result ≡ length self.now.components }
     {
         self.components.len()
     }
 
-    /// The records, one after the other.
+    /// Returns the records, in order.
     pub fn records(&self) -> Records<'a>
         ensures { result ≡ self.now.records }
     {
         self.records.iter()
     }
 
-    /// The components, one after the other.
+    /// Returns the components, in order.
     pub fn components(&self) -> Components<'a>
         ensures { result ≡ self.now.components }
     {
         self.components.iter()
     }
 
-    /// A record, by its number from 0.
+    /// Returns a record, by its number from 0.
     pub fn record_at(&self, number: usize) -> Record<'a>
         requires { number < length self.now.records }
         ensures value { record_seen result ≡ record_at self.now number }
@@ -128,7 +128,7 @@ impl<'a> Package<'a> {
         record
     }
 
-    /// A component, by its number from 0.
+    /// Returns a component, by its number from 0.
     pub fn component_at(&self, number: usize) -> Component<'a>
         requires { number < length self.now.components }
         ensures { component_seen result ≡ component_at self.now number }
@@ -139,7 +139,7 @@ impl<'a> Package<'a> {
         component
     }
 
-    /// The image of a component.
+    /// Returns the image of a component.
     pub fn image(&self, component: usize) -> &'a [u8]
         requires { component < length self.now.components }
         ensures { result.now ≡ (component_at self.now component).image }
@@ -147,8 +147,8 @@ impl<'a> Package<'a> {
         self.component_at(component).image
     }
 
-    /// The number of the first record that is for the device with these descriptors: it has a descriptor, and
-    /// each of its descriptors is, type and data, one of the device's.
+    /// Returns the number of the first record for the device with these descriptors: it has a
+    /// descriptor, and each of its descriptors is one of the device's, with the same type and data.
     pub fn record_for(&self, descriptors: &[Descriptor<'_>]) -> Option<usize>
         ensures number { result ≡ record_number self.now (map descriptor_of descriptors.now) }
         ensures there { IfSome result (λ n. n < length self.now.records) }
@@ -156,7 +156,7 @@ impl<'a> Package<'a> {
         self.records.iter().position_for(descriptors)
     }
 
-    /// The components that a device is offered for a record: those that the record uses.
+    /// Returns the components to offer to a device of a record: those that the record uses.
     ///
     /// # Errors
     /// The first fault that holds.
@@ -183,7 +183,7 @@ impl<'a> Package<'a> {
         Ok(plan)
     }
 
-    /// Whether two of these components have the same key.
+    /// Returns whether two of the components have the same key.
     fn has_twin(&self, uses: &Uses<'a>) -> bool
         requires rising { IsStrictlyIncreasing uses.now }
         requires there { All (λ n. n < length self.now.components) uses.now }
@@ -192,7 +192,7 @@ impl<'a> Package<'a> {
         self.used(uses).has_twin()
     }
 
-    /// Whether one of these components has an image that is larger than a device takes.
+    /// Returns whether a component's image is larger than a device accepts.
     fn has_large_image(&self, uses: &Uses<'a>) -> bool
         requires rising { IsStrictlyIncreasing uses.now }
         requires there { All (λ n. n < length self.now.components) uses.now }
@@ -201,7 +201,8 @@ impl<'a> Package<'a> {
         self.used(uses).has_image_over(IMAGE_LIMIT)
     }
 
-    /// Whether a record's set text, or the version text of one of its components, is longer than a message carries.
+    /// Returns whether a record's set text, or the version text of one of its components, is longer
+    /// than a message carries.
     fn has_long_text(&self, record: &Record<'a>) -> bool
         requires rising { IsStrictlyIncreasing «record».now.uses }
         requires there { All (λ n. n < length self.now.components) «record».now.uses }
@@ -211,7 +212,7 @@ impl<'a> Package<'a> {
             || self.used(&record.uses).has_text_over(TEXT_LIMIT)
     }
 
-    /// The components of these numbers, in one walk.
+    /// Returns the components with these numbers, in one walk.
     fn used(&self, uses: &Uses<'a>) -> Used<'a>
         requires rising { IsStrictlyIncreasing uses.now }
         requires there { All (λ n. n < length self.now.components) uses.now }

@@ -1,4 +1,4 @@
-//! A component without its image: what the image is, how long, and where it stands.
+//! Components without their images, with each image's place and size.
 
 ghost use Rattle.std.specs.Iterator.{YieldsFirstBy, item_count};
 ghost use Rattle.std.specs.Prelude.{◌≡◌, ◌+◌, ◌^◌, ◌<◌, ◌≤◌, length, drop, IsSome};
@@ -36,7 +36,7 @@ const IMAGE_SIZE: usize = 16;
 /// The place of the version text's type.
 const TEXT_TYPE: usize = 20;
 
-/// A component, lent from its package's header, which says where in the file its image stands.
+/// A component, borrowed from its package's header, with its image's place in the file.
 #[derive(Clone, Copy)]
 pub struct Place<'a> {
     /// The classification, the first part of the key.
@@ -47,7 +47,7 @@ pub struct Place<'a> {
     pub stamp: u32,
     /// The options: bit 0 forces the update, bit 1 uses the stamp.
     pub options: u16,
-    /// Where the image stands, in bytes from the file's start.
+    /// The image's offset in bytes from the file's start.
     pub offset: usize,
     /// The image's length in bytes.
     pub size: usize,
@@ -56,10 +56,10 @@ pub struct Place<'a> {
 }
 
 impl<'a> Place<'a> {
-    /// Reads the component with which these bytes of a header begin, in a file of this length.
+    /// Reads the component at the beginning of these bytes of a header, in a file of this length.
     ///
     /// # Errors
-    /// `ImageRange` where its image goes past the file's end.
+    /// `ImageRange` if its image goes past the file's end.
     #[tactic(auto, unfolding(crate::specs::Outlines::place_within))]
     pub(crate) fn read(file_length: usize, bytes: &'a [u8]) -> Result<Place<'a>, PackageFault>
         requires { IsSome (after_component bytes.now) }
@@ -72,7 +72,7 @@ impl<'a> Place<'a> {
         Ok(place)
     }
 
-    /// The component with which these bytes begin, wherever its image ends.
+    /// Returns the component at the beginning of these bytes, without checking its image's end.
     fn first(bytes: &'a [u8]) -> Place<'a>
         requires { IsSome (after_component bytes.now) }
         ensures seen { place_seen result ≡ place_of bytes.now }
@@ -91,7 +91,7 @@ impl<'a> Place<'a> {
     }
 }
 
-/// The version text of the component with which these bytes begin.
+/// Returns the version text of the component at the beginning of these bytes.
 fn version_text(bytes: &[u8]) -> Text<'_>
     requires { IsSome (after_component bytes.now) }
     ensures text { text_of result ≡ (place_of bytes.now).text }
@@ -103,7 +103,7 @@ fn version_text(bytes: &[u8]) -> Text<'_>
     }
 }
 
-/// The components of a package without their images, one after the other. It is also an iterator over them.
+/// The components of a package without their images, in order. It is also an iterator over them.
 #[derive(Drop)]
 pub struct ComponentPlaces<'a> {
     file_length: usize,
@@ -125,10 +125,11 @@ impl<'a> Model for ComponentPlaces<'a> {
 }
 
 impl<'a> ComponentPlaces<'a> {
-    /// So many components, the first of which these bytes of a header begin with, in a file of this length.
+    /// Reads `count` components, the first at the beginning of these bytes of a header, in a file
+    /// of this length.
     ///
     /// # Errors
-    /// `ImageRange` where an image goes past the file's end.
+    /// `ImageRange` if an image goes past the file's end.
     #[tactic(auto, using(crate::proofs::PlaceRows::placing))]
     pub(crate) fn read(
         file_length: usize,
@@ -152,7 +153,7 @@ impl<'a> ComponentPlaces<'a> {
         })
     }
 
-    /// How many components are left.
+    /// Returns the number of components left.
     #[tactic(auto, using(crate::proofs::PlaceRows::places_count))]
     pub fn len(&self) -> usize
         ensures { result ≡ length self.now }
@@ -160,7 +161,7 @@ impl<'a> ComponentPlaces<'a> {
         self.count
     }
 
-    /// The same again.
+    /// Returns an iterator over the components.
     pub fn iter(&self) -> ComponentPlaces<'a>
         ensures { result ≡ self.now }
     {
@@ -196,7 +197,7 @@ impl<'a> Iterator for ComponentPlaces<'a> {
     }
 }
 
-/// The bytes of the component with which these begin: its fixed part and its version text.
+/// Returns the bytes of the component at the beginning: its fixed part and its version text.
 fn component_size(bytes: &[u8]) -> usize
     requires { IsSome (after_component bytes.now) }
     ensures value { result ≡ COMPONENT_SIZE + text_size_of 21 bytes.now }
@@ -205,7 +206,7 @@ fn component_size(bytes: &[u8]) -> usize
     COMPONENT_SIZE + usize::from(bytes[COMPONENT_TEXT_LENGTH])
 }
 
-/// What stands after the component with which these bytes begin.
+/// Returns the bytes after the component at the beginning of these bytes.
 pub(crate) fn others(bytes: &[u8]) -> &[u8]
     requires { IsSome (after_component bytes.now) }
     ensures { result.now ≡ drop (COMPONENT_SIZE + text_size_of 21 bytes.now) bytes.now }

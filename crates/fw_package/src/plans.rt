@@ -1,4 +1,4 @@
-//! A plan: the components that a device is offered.
+//! Plans: the components to offer to a device.
 
 ghost use Rattle.std.specs.Prelude.{◌≡◌, ◌≤◌, ◌↔◌, length, nat_lt, if◌then◌else◌, None, Some, IsTrue};
 
@@ -9,7 +9,7 @@ use std::marker::Model;
 /// The most components of a plan.
 pub const PLAN_LIMIT: usize = 8;
 
-/// The numbers of the components that a device is offered, at most eight, rising.
+/// The numbers of the components to offer to a device, at most eight, rising.
 #[derive(PartialEq, Eq, Drop)]
 pub struct Plan {
     numbers: ArrayVec<usize, PLAN_LIMIT>,
@@ -28,7 +28,7 @@ impl Model for Plan {
 }
 
 impl Plan {
-    /// A plan of these components, if it has room for them.
+    /// Returns a plan of these components, if it has room for them.
     pub(crate) fn new(uses: Uses<'_>) -> Option<Plan>
         ensures { result ≡ (if nat_lt PLAN_LIMIT (length uses.entry) then None else Some uses.entry) }
     {
@@ -42,7 +42,7 @@ impl Plan {
         Some(Plan { numbers })
     }
 
-    /// The numbers, counted from 0.
+    /// Returns the numbers, counted from 0.
     pub fn as_slice(&self) -> &[usize]
         ensures numbers { result.now ≡ self.now }
         ensures few { length self.now ≤ 8 }
@@ -50,7 +50,7 @@ impl Plan {
         self.numbers.as_slice()
     }
 
-    /// The number of components.
+    /// Returns the number of components.
     pub fn len(&self) -> usize
         ensures count { result ≡ length self.now }
         ensures few { result ≤ 8 }
@@ -58,7 +58,7 @@ impl Plan {
         self.numbers.len()
     }
 
-    /// Whether there is nothing to offer.
+    /// Returns whether there is nothing to offer.
     pub fn is_empty(&self) -> bool
         ensures { IsTrue result ↔ (length self.now ≡ 0) }
     {

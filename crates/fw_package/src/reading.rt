@@ -1,4 +1,4 @@
-//! The tests that a header has to pass as a whole.
+//! The tests of a header as a whole.
 
 ghost use Rattle.std.specs.Prelude.{◌≡◌, ◌≤◌, ◌<◌, length, IfOk};
 ghost use Rattle.std.specs.Result.{result_map_both};
@@ -11,20 +11,20 @@ use crate::numbers::u16_at;
 use byteorder::{ByteOrder, LittleEndian};
 use uuid::Uuid;
 
-/// The package header identifier of revision 1 (DSP0267, "Package header information").
+/// Returns the package header identifier of revision 1 (DSP0267, "Package header information").
 pub fn package_identifier() -> Uuid
     ensures { result ≡ package_identifier }
 {
     Uuid::from_u128(0xF018878C_CB7D_4943_9800_A02F059ACA02)
 }
 
-/// The header revision that this is.
+/// The header revision that this crate reads and writes.
 pub const HEADER_REVISION: u8 = 1;
 
 /// The bits of a byte of a bitmap.
 const BYTE_BITS: usize = 8;
 
-/// The header of a package.
+/// Returns the header of a package.
 #[tactic(auto, unfolding(crate::specs::Reading::header_of))]
 pub fn header(bytes: &[u8]) -> Result<&[u8], PackageFault>
     ensures value { result_map_both (λ h. h.now) (λ e. e) result ≡ header_of bytes.now }
@@ -46,7 +46,7 @@ pub fn header(bytes: &[u8]) -> Result<&[u8], PackageFault>
     Ok(&bytes[..size])
 }
 
-/// The bytes of a bitmap of so many bits, for so many components.
+/// Returns the bytes of a bitmap of `bits` bits, for `component_count` components.
 #[tactic(auto, unfolding(crate::specs::Reading::bitmap_size_of))]
 pub fn bitmap_size(bits: usize, component_count: u16) -> Result<usize, PackageFault>
     ensures { result ≡ bitmap_size_of bits component_count }
@@ -57,7 +57,7 @@ pub fn bitmap_size(bits: usize, component_count: u16) -> Result<usize, PackageFa
     Ok(bits / BYTE_BITS)
 }
 
-/// Compares the checksum, with which a header ends, with that of the bytes before it.
+/// Returns the header's bytes before its checksum, if the checksum is theirs.
 #[tactic(auto, unfolding(crate::specs::Reading::header_before_checksum))]
 pub fn check(header: &[u8]) -> Result<&[u8], PackageFault>
     requires { FIXED_SIZE ≤ length header.now }

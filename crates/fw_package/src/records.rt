@@ -1,4 +1,4 @@
-//! A device identification record: which devices a package is for, and which components they take.
+//! Device identification records, with their devices' descriptors and their components.
 
 ghost use Rattle.std.specs.Iterator.{YieldsFirstBy, item_count};
 ghost use Rattle.std.specs.Prelude.{◌≡◌, ◌≤◌, length, map, take, drop, IfSome, IsSome, ◌<◌};
@@ -38,24 +38,24 @@ const TEXT_LENGTH: usize = 8;
 /// The place of the package data's length.
 const DATA_LENGTH: usize = 9;
 
-/// A device identification record, lent from its package's header.
+/// A device identification record, borrowed from its package's header.
 #[derive(Drop)]
 pub struct Record<'a> {
     /// The update option flags.
     pub flags: u32,
     /// The component image set version text.
     pub set_text: Text<'a>,
-    /// The descriptors of the devices that it is for.
+    /// The descriptors of its devices.
     pub descriptors: Descriptors<'a>,
     /// The numbers of the components that it uses, counted from 0.
     pub uses: Uses<'a>,
 }
 
 impl<'a> Record<'a> {
-    /// Reads the record that these bytes are.
+    /// Reads the record with exactly these bytes.
     ///
     /// # Errors
-    /// `RecordLength` where its parts don't make up the bytes.
+    /// `RecordLength` if its parts don't make up the bytes.
     #[tactic(auto, unfolding(crate::specs::Records::record_of))]
     pub(crate) fn read(
         bytes: &'a [u8],
@@ -82,8 +82,8 @@ impl<'a> Record<'a> {
         })
     }
 
-    /// Whether the record is for the device with these descriptors: it has a descriptor, and all of its
-    /// descriptors are the device's.
+    /// Returns whether the record is for the device with these descriptors: it has a descriptor,
+    /// and all of its descriptors are the device's.
     pub(crate) fn is_for(self, device: &[Descriptor<'_>]) -> bool
         ensures { result ≡ is_for (map descriptor_of device.now) (record_seen self.entry) }
     {
@@ -91,7 +91,7 @@ impl<'a> Record<'a> {
     }
 }
 
-/// The records of a package, one after the other. It is also an iterator over them.
+/// The records of a package, in order. It is also an iterator over them.
 #[derive(Drop)]
 pub struct Records<'a> {
     count: usize,
@@ -114,10 +114,10 @@ impl<'a> Model for Records<'a> {
 }
 
 impl<'a> Records<'a> {
-    /// So many records, the first of which these bytes begin with.
+    /// Reads `count` records, the first at the beginning of these bytes.
     ///
     /// # Errors
-    /// `RecordLength` where the parts of one don't make up its length.
+    /// `RecordLength` if the parts of one don't make up its length.
     #[tactic(auto, using(crate::proofs::Rows::recording))]
     pub(crate) fn read(
         bytes: &'a [u8],
@@ -142,7 +142,7 @@ impl<'a> Records<'a> {
         })
     }
 
-    /// How many records are left.
+    /// Returns the number of records left.
     #[tactic(auto, using(crate::proofs::Rows::records_count))]
     pub fn len(&self) -> usize
         ensures { result ≡ length self.now }
@@ -150,7 +150,7 @@ impl<'a> Records<'a> {
         self.count
     }
 
-    /// The same again.
+    /// Returns an iterator over the records.
     pub fn iter(&self) -> Records<'a>
         ensures { result ≡ self.now }
     {
@@ -162,7 +162,7 @@ impl<'a> Records<'a> {
         }
     }
 
-    /// The records from this number on. Those before it are passed by their lengths, unread.
+    /// Returns the records from this number on. The records before it are skipped by their lengths.
     #[tactic(auto, using(crate::proofs::Rows::records_starting))]
     pub(crate) fn from(&self, number: usize) -> Records<'a>
         requires { number ≤ length self.now }
@@ -179,7 +179,8 @@ impl<'a> Records<'a> {
         }
     }
 
-    /// The number, among these, of the first record that is for the device with these descriptors.
+    /// Returns the number, among the records left, of the first record for the device with these
+    /// descriptors.
     pub(crate) fn position_for(mut self, device: &[Descriptor<'_>]) -> Option<usize>
         ensures number { result ≡ position (is_for (map descriptor_of device.now)) self.entry }
         ensures there { IfSome result (λ n. n < length self.entry) }
@@ -222,7 +223,7 @@ impl<'a> Iterator for Records<'a> {
     }
 }
 
-/// The first record's bytes, by its length, and what stands after them.
+/// Returns the first record's bytes, by its length, and the bytes after them.
 fn first_record(bytes: &[u8]) -> (&[u8], &[u8])
     requires long { 2 ≤ length bytes.now }
     requires whole { little_number 2 bytes.now ≤ length bytes.now }

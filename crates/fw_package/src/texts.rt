@@ -1,6 +1,6 @@
-//! Texts and descriptors, as a package lends them.
+//! Texts and descriptors, borrowed from a package.
 
-/// A text that a package lends.
+/// A text, borrowed from a package.
 #[derive(Clone, Copy, PartialEq, Eq)]
 pub struct Text<'a> {
     /// The string type (1 is ASCII, 2 is UTF-8). It isn't checked.
@@ -9,7 +9,7 @@ pub struct Text<'a> {
     pub bytes: &'a [u8],
 }
 
-/// A descriptor of a device, or of those that a record is for.
+/// A descriptor of a device, or of a record's devices.
 #[derive(Clone, Copy, PartialEq, Eq)]
 pub struct Descriptor<'a> {
     /// The descriptor type.

@@ -12,13 +12,14 @@ use crate::uses::Uses;
 use arrayvec::ArrayVec;
 use std::marker::Model;
 
-/// The most components that a header has room for: it has at most 65,535 bytes, and each takes 22 of them.
+/// The most components of a header: it has at most 65,535 bytes, and each component takes 22 of
+/// them.
 pub const KEY_LIMIT: usize = 2_978;
 
-/// How many identifiers there are.
+/// The number of identifiers.
 const IDENTIFIERS: u32 = 65_536;
 
-/// Some of the components that stand in a row, by their rising numbers. It is also an iterator over them.
+/// Some of consecutive components, by their rising numbers. It is also an iterator over them.
 #[derive(Drop)]
 pub struct Used<'a> {
     /// The numbers.
@@ -41,7 +42,7 @@ impl<'a> Model for Used<'a> {
 }
 
 impl<'a> Used<'a> {
-    /// The components of these numbers.
+    /// Returns the components with these numbers.
     pub fn new(components: &Components<'a>, uses: &Uses<'a>) -> Self
         requires { AreRisingUses 0 components.now uses.now }
         ensures { result ≡ used_from 0 components.now uses.now }
@@ -53,7 +54,8 @@ impl<'a> Used<'a> {
         }
     }
 
-    /// Whether two of these have the same key. The keys are sorted, as two that are equal are neighbours then.
+    /// Returns whether two components have the same key. The keys are sorted, so that equal keys
+    /// are neighbours.
     pub fn has_twin(self) -> bool
         requires { length self ≤ KEY_LIMIT }
         ensures { result ≡ has_twins self.entry }
@@ -64,7 +66,7 @@ impl<'a> Used<'a> {
         !is_rising(sorted)
     }
 
-    /// The keys of these, each as one number.
+    /// Returns the keys of the components, each as one number.
     fn keys(self) -> ArrayVec<u32, KEY_LIMIT>
         requires { length self ≤ KEY_LIMIT }
         ensures { has_doubles result.items ≡ has_twins self.entry }
@@ -76,7 +78,7 @@ impl<'a> Used<'a> {
         keys
     }
 
-    /// Whether one of these has an image of more bytes than this.
+    /// Returns whether a component's image has more than `limit` bytes.
     pub fn has_image_over(self, limit: usize) -> bool
         ensures { result ≡ list_any (λ c. nat_lt limit (length c.image)) self.entry }
     {
@@ -88,7 +90,7 @@ impl<'a> Used<'a> {
         false
     }
 
-    /// Whether one of these has a version text of more bytes than this.
+    /// Returns whether a component's version text has more than `limit` bytes.
     pub fn has_text_over(self, limit: usize) -> bool
         ensures { result ≡ list_any (λ c. nat_lt limit (length c.text.bytes)) self.entry }
     {
@@ -124,7 +126,7 @@ impl<'a> Iterator for Used<'a> {
     }
 }
 
-/// A key as one number.
+/// Returns a key as one number.
 fn key(classification: u16, identifier: u16) -> u32
     ensures value { result ≡ classification * IDENTIFIERS + identifier }
     ensures high { classification < IDENTIFIERS }
@@ -133,7 +135,7 @@ fn key(classification: u16, identifier: u16) -> u32
     u32::from(classification) * IDENTIFIERS + u32::from(identifier)
 }
 
-/// Whether each of these is below the next.
+/// Returns whether each key is below the next.
 fn is_rising(keys: &[u32]) -> bool
     ensures { IsTrue result ↔ IsStrictlyIncreasing keys.now }
 {

@@ -1,4 +1,4 @@
-//! The components that a record uses, lent from its bitmap.
+//! The components that a record uses, borrowed from its bitmap.
 
 ghost use Rattle.std.specs.Iterator.{YieldsFirst, item_count};
 ghost use Rattle.std.specs.Prelude.{◌≡◌, ◌+◌, ◌-◌, ◌<◌, ◌∷◌, ◌↔◌, [], length, IsTrue, MatchOption};
@@ -7,7 +7,7 @@ ghost use Rattle.fw_package.specs.Views.{named_from};
 
 use std::marker::Model;
 
-/// The components that one byte of a bitmap names, one a bit.
+/// The components of one byte of a bitmap: one for each bit.
 pub(crate) const BYTE_BITS: usize = 8;
 
 /// The numbers of components, rising. It is also an iterator over them.
@@ -28,7 +28,7 @@ impl<'a> Model for Uses<'a> {
 }
 
 impl<'a> Uses<'a> {
-    /// The components that a bitmap names, of so many that there are.
+    /// Returns the components in a bitmap, with numbers below `count`.
     #[tactic(auto, unfolding(crate::specs::Records::components_named))]
     pub(crate) fn new(bitmap: &'a [u8], count: u16) -> Self
         ensures { result ≡ components_named bitmap.now count }
@@ -40,14 +40,14 @@ impl<'a> Uses<'a> {
         }
     }
 
-    /// Whether no component is left.
+    /// Returns whether no component is left.
     pub fn is_empty(&self) -> bool
         ensures { IsTrue result ↔ (length self.now ≡ 0) }
     {
         first_named(self.bitmap, self.number, self.count).is_none()
     }
 
-    /// The same again.
+    /// Returns an iterator over the numbers.
     pub fn iter(&self) -> Uses<'a>
         ensures { result ≡ self.now }
     {
@@ -73,7 +73,7 @@ impl<'a> Iterator for Uses<'a> {
     }
 }
 
-/// The first component that a bitmap names, from this one on.
+/// Returns the first component in a bitmap, from `from` on.
 #[tactic(auto, using(crate::proofs::Lists::naming))]
 fn first_named(bitmap: &[u8], from: u16, count: u16) -> Option<u16>
     ensures { MatchOption result (named_from bitmap.now from (count - from) ≡ [])
@@ -87,7 +87,7 @@ fn first_named(bitmap: &[u8], from: u16, count: u16) -> Option<u16>
     None
 }
 
-/// Whether a bitmap names a component.
+/// Returns whether a bitmap names a component.
 fn is_named(bitmap: &[u8], number: usize) -> bool
     ensures { result ≡ is_named bitmap.now number }
 {

@@ -1,4 +1,4 @@
-//! Writing the header of a package that is asked for.
+//! Writes the header of a package.
 
 ghost use Rattle.std.specs.Prelude.{◌≡◌, ◌+◌, ◌++◌, ◌∷◌, [], ◌<◌, ◌≤◌, All, None, length, map};
 ghost use Rattle.std.specs.List.{flat_map, sum_by};
@@ -22,7 +22,7 @@ use byteorder::{ByteOrder, LittleEndian};
 /// The bytes of a header.
 pub type Header = ArrayVec<u8, HEADER_LIMIT>;
 
-/// The type of each text that is written: ASCII.
+/// The type of each written text: ASCII.
 const ASCII: u8 = 1;
 
 /// The package data's length: there is none.
@@ -90,7 +90,7 @@ fn put_descriptors(header: &mut Header, descriptors: &[Descriptor<'_>])
     }
 }
 
-/// Appends a record with a bitmap of so many bytes.
+/// Appends a record with a bitmap of `bitmap_size` bytes.
 fn put_record(header: &mut Header, asked: &AskedRecord<'_>, bitmap_size: usize)
     requires room { array_vec_len header.old + record_size bitmap_size (asked_record_of asked.now) ≤ 65535 }
     requires small { bitmap_size ≤ 8192 }
@@ -119,7 +119,7 @@ fn put_record_head(header: &mut Header, asked: &AskedRecord<'_>, bitmap_size: us
     put_u16(header, NO_DATA);
 }
 
-/// Appends records with bitmaps of so many bytes.
+/// Appends records with bitmaps of `bitmap_size` bytes.
 fn put_records(header: &mut Header, records: &[AskedRecord<'_>], bitmap_size: usize)
     requires room { array_vec_len header.old + sum_by (record_size bitmap_size) (map asked_record_of records.now) ≤ 65535 }
     requires small { bitmap_size ≤ 8192 }
@@ -132,7 +132,7 @@ fn put_records(header: &mut Header, records: &[AskedRecord<'_>], bitmap_size: us
     }
 }
 
-/// Appends a component whose image stands at this offset.
+/// Appends a component whose image is at this offset.
 fn put_component(header: &mut Header, asked: &AskedComponent<'_>, offset: usize)
     requires room { array_vec_len header.old + component_size (asked_component_of asked.now) ≤ 65535 }
     requires short { length asked.now.text.now ≤ 255 }
@@ -151,7 +151,8 @@ fn put_component(header: &mut Header, asked: &AskedComponent<'_>, offset: usize)
     put(header, asked.text);
 }
 
-/// Appends components. The image of the first stands at this offset, each other where the one before it ends.
+/// Appends components. The image of the first is at this offset, each other after the one before
+/// it.
 fn put_components(header: &mut Header, components: &[AskedComponent<'_>], start: usize)
     requires room { array_vec_len header.old + sum_by component_size (map asked_component_of components.now) ≤ 65535 }
     requires short { All (λ c. length c.text ≤ 255) (map asked_component_of components.now) }
@@ -200,11 +201,11 @@ fn put_body(header: &mut Header, asked: &AskedPackage<'_>)
 impl<'a> AskedPackage<'a> {
     ghost use Rattle.std.specs.Prelude.{IfErr, IsOk, OnErr, OnOk, Some};
 
-    /// Writes the header of the package: with it and the images one after the other, in the order of their components, a
-    /// file is the package that is asked.
+    /// Writes the header of the package. The file is the header, and after it the images in the
+    /// order of their components.
     ///
     /// # Errors
-    /// The first fault that holds; the buffer is as it was then.
+    /// The first fault that holds. Then the buffer is unchanged.
     pub fn write_header(&self, header: &mut Header) -> Result<(), AskedFault>
         ensures written { refusal_of (asked_package_of self.now) ≡ None → IsOk result }
         ensures refused { IfErr result (λ fault. refusal_of (asked_package_of self.now) ≡ Some fault) }

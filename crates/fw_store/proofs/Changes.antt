@@ -25,7 +25,7 @@ differs xs ys other = elim (cases_Bool (bytes_eq xs ys)) [
   | inr not ↦ not
 ]
 
--- WHAT CALLS LEAVE
+-- THE EFFECTS OF CALLS
 
 abbrev putting : (name bytes : List ℕ) → ChangeOf
 putting name bytes = record { kind = kinds.Put; name = name; other = bytes }
@@ -79,7 +79,7 @@ pub ruleset calling = (put_wrote, put_only, moved_renamed, gone_only, same_files
 last_of : (cs : List ChangeOf) (n : ℕ) (d : ChangeOf) (name : List ℕ) → n < length cs → files_of (take (n + 1) cs) name ≡ files_after_change (get_or cs n d) (files_of (take n cs)) name
 last_of cs n d name below = rw (take_more cs n d below) (ap (λ (f : Files). f name) (files_push no_files (take n cs) (get_or cs n d)))
 
--- one change is seen, behind which so many were seen
+-- a change is seen, after `back` later ones
 pub seen_on : (cs : List ChangeOf) (back n : ℕ) (d c : ChangeOf) (name : List ℕ) (found all : Option (List ℕ)) → n + back + 1 ≡ length cs → get_or cs n d ≡ c → files_of (take (length cs - back) cs) name ≡ all
     → files_after_change c (files_of (take n cs)) name ≡ found → found ≡ all
 seen_on cs back n d c name found all place is known seen =
@@ -92,6 +92,6 @@ seen_before cs back n name all place h =
     let left : length cs - (back + 1) ≡ n = omega arith in
     ap (λ m. files_of (take m cs) name) left ∙ h
 
--- where the change stands behind which so many are seen
+-- the place of the change before which `back` later ones are seen
 pub at_back : (size length end back : ℕ) → length ≡ size → end ≡ size → back < end → length - 1 - back + back + 1 ≡ size
 at_back size length end back is same below = omega arith

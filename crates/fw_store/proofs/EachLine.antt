@@ -1,8 +1,8 @@
--- Lines that are read, one after another.
+-- Consecutive lines that are read.
 use Rattle.std.proofs.Common.{◌≡◌, ◌∙◌, ◌+◌, ◌-◌, ◌<◌, ◌++◌, ℕ, zero, suc, List, [], ◌∷◌, Option, Some, None, length, option_map, append_assoc, append-nil, ap, refl, sym, arith}
 use Rattle.fw_store.specs.Active.{ImageEntryOf, entries_after, entries_from, entry_at}
 
--- some images, and those behind them
+-- some images, and those after them
 abbrev pub with_front : List ImageEntryOf → Option (List ImageEntryOf) → Option (List ImageEntryOf)
 with_front front more = option_map (λ es. front ++ es) more
 
@@ -26,7 +26,7 @@ pub read_more : (most : ℕ) (front : List ImageEntryOf) (text : List ℕ) (e : 
 read_more most front [] e rest some is = absurd (omega arith)
 read_more most front (b ∷ text) e rest some is = rw is (sym (joined front e (entries_from most rest)))
 
--- no line is left, though some text
+-- no line is left, but some text
 pub read_none : (most : ℕ) (front : List ImageEntryOf) (text : List ℕ) → 0 < length text → entry_at text ≡ None → with_front front (entries_from most text) ≡ None
 read_none most front [] some is = absurd (omega arith)
 read_none zero front (b ∷ text) some is = refl

@@ -1,4 +1,4 @@
--- What a folder has after images came to it.
+-- The state of a folder after images were written to it.
 use Rattle.std.proofs.Common.{◌≡◌, ◌∙◌, ◌+◌, ◌<◌, ◌^◌, ◌++◌, ◌⊎◌, inl, inr, ℕ, Bool, true, false, List, [], ◌∷◌, Option, Some, None, is_some, map, option_map, ap, refl, sym, arith}
 use Rattle.std.specs.List.{AllByRecursion}
 use Rattle.fw_store.specs.Active.{ImageEntryOf, IsImageEntry}

@@ -1,4 +1,4 @@
--- Where a text's fields end.
+-- The ends of a text's fields.
 use Rattle.std.proofs.Common.{◌≡◌, ◌∙◌, ◌+◌, ◌-◌, ◌<◌, ◌≤◌, ◌++◌, ◌==◌, ℕ, zero, suc, true, false, List, [], ◌∷◌, Option, Some, None, length, length-append, option_map, take, drop, refl, ap, sym, arith}
 use Rattle.std.specs.List.{AllByRecursion, position, position_or_len}
 use Rattle.std.proofs.Math.Seq.{drop-append-add, take-append_seam}
@@ -15,7 +15,7 @@ pub field_nowhere : (stop : ℕ) (text : List ℕ) → position (λ b. b == stop
 unfolding field_at
 field_nowhere stop text nowhere = rw nowhere refl
 
--- bytes none of which is this one
+-- bytes that don't include this byte
 abbrev pub HasNone : ℕ → List ℕ → Type 0
 HasNone stop bytes = AllByRecursion (λ b. (b == stop) ≡ false) bytes
 
@@ -23,7 +23,7 @@ ends_at : (stop : ℕ) (word rest : List ℕ) → HasNone stop word → position
 ends_at stop [] rest none = rw (eq-eqb stop stop refl) refl
 ends_at stop (b ∷ word) rest none = rw (none.0, ends_at stop word rest none.1) (omega arith)
 
--- a word is read again
+-- a word is read back
 pub field_back : (stop : ℕ) (word rest : List ℕ) → HasNone stop word → field_at stop (word ++ stop ∷ rest) ≡ Some (word, rest)
 unfolding field_at
 field_back stop word rest none =

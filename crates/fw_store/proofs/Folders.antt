@@ -1,4 +1,4 @@
--- What is read from a folder after the calls that keep images in it.
+-- The images read from a folder after the calls that keep images in it.
 use Rattle.std.proofs.Common.{◌≡◌, ◌≢◌, ◌∙◌, ◌+◌, ◌<◌, ◌^◌, ◌==◌, ◌&&◌, ◌++◌, ◌⊎◌, inl, inr, ℕ, zero, suc, Bool, true, false, List, [], ◌∷◌, Option, Some, None, codes, if◌then◌else◌, is_some, length, map, option_map, option_and_then, append_assoc, append-nil, ap, refl, sym, subst, arith}
 use Rattle.std.specs.List.{AllByRecursion}
 use Rattle.std.proofs.lemmas.Bool.{and_parts, cases_Bool, eq-eqb, eqb-true}
@@ -37,7 +37,7 @@ no_new key n h small e = not_some ((key, n), codes "image") (sym new_unknown ∙
 pub active_not_new : active_name ≢ new_name
 active_not_new e = let bad : length active_name ≡ length new_name = ap (λ (xs : List ℕ). length xs) e in absurd (omega arith)
 
--- what a name says
+-- the number in a name
 abbrev number_said : Option ((Key × ℕ) × List ℕ) → ℕ
 number_said None = 0
 number_said (Some said) = said.0.1
@@ -57,7 +57,7 @@ names_apart key other n m h g small low e =
 pub keys_apart : (key other : Key) (n : ℕ) → IsKey key → IsKey other → n < 2 ^ 32 → other ≢ key → image_name other n ≢ image_name key n
 keys_apart key other n h g small differ e = differ (ap (λ o. key_said key o) (said_same key other n n h g small small e))
 
--- CALLS THAT LEAVE WHAT RUNS
+-- CALLS THAT KEEP THE ACTIVE IMAGES
 
 pub apart_self : (n : ℕ) (f : Files) → LeavesLowerFiles n f f
 apart_self n f = record { names = λ key m h low. refl; active = refl }
@@ -74,7 +74,7 @@ apart_new n e f g small before only = record {
   active = only.others active_name active_not_new ∙ before.active;
 }
 
--- WHAT IS READ
+-- READING
 
 by_file : (f g : Files) (e : ImageEntryOf) → g (image_name e.key e.number) ≡ f (image_name e.key e.number) → image_by e (g (image_name e.key e.number)) ≡ image_by e (f (image_name e.key e.number))
 by_file f g e same = ap (λ o. image_by e o) same

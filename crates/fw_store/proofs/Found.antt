@@ -1,4 +1,4 @@
--- What is kept is what is found where a folder is read over a configuration's images.
+-- The images found in a folder over a configuration's images are the kept ones.
 use Rattle.std.proofs.Common.{◌≡◌, ◌∙◌, ◌++◌, ◌==◌, ◌&&◌, Bool, true, false, List, [], ◌∷◌, Option, Some, None, if◌then◌else◌, is_some, map, ap, refl, sym}
 use Rattle.std.proofs.lemmas.Bool.{and_parts, cases_Bool, eqb-true}
 use Rattle.fd_core.specs.Images.{ImageOf, same_key}

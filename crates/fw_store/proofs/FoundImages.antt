@@ -1,4 +1,4 @@
--- Images that are read, one after another, and lines of other components.
+-- Consecutive images that are read, and lines of other components.
 use Rattle.std.proofs.Common.{◌≡◌, ◌∙◌, ◌+◌, ◌<◌, ◌++◌, ℕ, Bool, true, false, List, [], ◌∷◌, Option, Some, None, if◌then◌else◌, drop, get_or, is_some, length, option_map, append_assoc, append-nil, ap, refl, sym, arith}
 use Rattle.std.proofs.lemmas.List.{drop_all, drop_more}
 use Rattle.fw_store.specs.Active.{ImageEntryOf, image_name}
@@ -6,7 +6,7 @@ use Rattle.fw_store.specs.Folders.{Files, image_by, images_of, with_image}
 use Rattle.fw_store.specs.Kept.{KeptOf, image_for}
 use Rattle.fw_store.specs.Opening.{has_foreign}
 
--- some images, and those behind them
+-- some images, and those after them
 abbrev pub in_front : List KeptOf → Option (List KeptOf) → Option (List KeptOf)
 in_front front more = option_map (λ ks. front ++ ks) more
 

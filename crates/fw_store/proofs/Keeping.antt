@@ -1,4 +1,4 @@
--- Lemmas on what is kept and what runs.
+-- Lemmas on kept images and active images.
 use Rattle.std.proofs.Common.{zero, suc, arith, ◌+◌, ◌<◌, ◌++◌, get_or, drop, is_some, length, take, ◌≡◌, ◌∙◌, ◌==◌, ℕ, Bool, true, false, List, [], ◌∷◌, Option, None, Some, map, refl, sym, ap}
 use Rattle.std.proofs.lemmas.List.{drop_all, drop_more, length-map, map-append, take_more}
 use Rattle.std.proofs.lemmas.Bool.{eq-eqb, eqb-false, eqb-true, ne_eqb, or_parts}
@@ -7,7 +7,7 @@ use Rattle.fd_core.specs.Images.{ImageOf, LabelOf, RowOf, StageOf, active_of, ap
 use Rattle.fwup_wire.specs.declared.values.Key.{Key}
 use Rattle.fw_store.specs.Kept.{KeptOf, all_applied, all_running, applied_before, image_for, kept_after, one_applied, replaced_by, kept_of_row}
 
--- what isn't applied any more, or is now, doesn't change what runs
+-- a change of the applied images doesn't change the active ones
 pub running_dropped : (rows : List RowOf) → all_running (rows_after_drop rows) ≡ all_running rows
 running_dropped [] = refl
 running_dropped (row ∷ rows) = ap (λ ks. kept_of_row row ∷ ks) (running_dropped rows)
@@ -63,7 +63,7 @@ eqb_swap a b = swap_by a b (a == b) refl
 same_swap : (a b : Key) → same_key a b ≡ same_key b a
 same_swap a b = rw (eqb_swap a.classification b.classification, eqb_swap a.identifier b.identifier) refl
 
--- of a component that isn't there no image is applied
+-- no image of a component that isn't there is applied
 absent_one : (row : RowOf) (applied : Option ImageOf) (rest : List KeptOf) (key : Key) → same_key row.key key ≡ false → image_for rest key ≡ None → image_for (applied_before row applied rest) key ≡ None
 absent_one row None rest key other none = none
 absent_one row (Some image) rest key other none = rw other none
@@ -86,12 +86,12 @@ skipped row images (r ∷ rows) none =
     ap (λ i. replaced_by (kept_of_row r) i ∷ kept_after (all_running rows) (applied_before row row.applied images)) (skipped_one row row.applied images r.key (same_swap row.key r.key ∙ parts.0))
     ∙ ap (λ ks. replaced_by (kept_of_row r) (image_for images r.key) ∷ ks) (skipped row images rows parts.1)
 
--- what is applied for a component runs in its place
+-- the applied image of a component becomes active
 turned_one : (row : RowOf) (applied : Option ImageOf) (images : List KeptOf) → image_for images row.key ≡ None → replaced_by (kept_of_row row) (image_for (applied_before row applied images) row.key) ≡ kept_of_row (row_after_switch_to row applied)
 turned_one row None images none = rw none refl
 turned_one row (Some image) images none = rw (same_self row.key) refl
 
--- what is applied replaces what is kept, which then is what runs
+-- the applied images replace the kept ones, which then are the active ones
 pub running_switched : (rows : List RowOf) → HaveKeysOnce (map key_of rows) → kept_after (all_running rows) (all_applied rows) ≡ all_running (rows_after_switch rows)
 running_switched [] apart = refl
 running_switched (row ∷ rows) apart =
@@ -131,7 +131,7 @@ applied_alone : (row : RowOf) (applied : Option ImageOf) → applied_before row 
 applied_alone row None = refl
 applied_alone row (Some image) = refl
 
--- the image that is applied for one component more
+-- the applied image of one more component
 pub applied_more : (rows : List RowOf) (i : ℕ) (d : Key) → HaveKeysOnce (map key_of rows) → i < length (map key_of rows)
     → all_applied (take (i + 1) rows) ≡ all_applied (take i rows) ++ one_applied (get_or (map key_of rows) i d) (applied_of (row_of rows (get_or (map key_of rows) i d)))
 applied_more rows i d apart below =
@@ -143,7 +143,7 @@ applied_more rows i d apart below =
 the_same : (a b : ImageOf) → Some a ≡ Some b → a ≡ b
 the_same a b is = cc
 
--- a component more, with the image that runs
+-- one more component, with its active image
 pub running_more : (rows : List RowOf) (i : ℕ) (d : Key) → HaveKeysOnce (map key_of rows) → i < length (map key_of rows) → (label : LabelOf) (bytes : List ℕ)
     → Some (record { label = label; bytes = bytes }) ≡ active_of (row_of rows (get_or (map key_of rows) i d))
     → all_running (take (i + 1) rows) ≡ all_running (take i rows) ++ record { key = get_or (map key_of rows) i d; image = record { label = label; bytes = bytes } } ∷ []
@@ -160,7 +160,7 @@ is_there rows i d apart below = let within : i < length rows = omega (arith, bel
 pub not_both : (b : Bool) → false ≡ b → b ≡ true → ⊥
 not_both b one other = absurd (cc)
 
--- a component is found where its key stands first, and not before
+-- a component is found at the first place of its key
 pub image_here : (ks : List KeptOf) (i : ℕ) (d : KeptOf) (key : Key) → i < length ks → same_key (get_or ks i d).key key ≡ true → image_for (drop i ks) key ≡ Some (get_or ks i d).image
 image_here ks i d key below is = rw (drop_more ks i d below, is) refl
 

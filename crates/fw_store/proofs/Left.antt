@@ -1,4 +1,4 @@
--- Lines that stay, and components that stand once.
+-- Lines that stay, and components that occur once.
 use Rattle.std.proofs.Common.{◌≡◌, ◌∙◌, ◌+◌, ◌-◌, ◌<◌, ◌++◌, ◌||◌, ℕ, Bool, true, false, List, [], ◌∷◌, Option, Some, None, if◌then◌else◌, drop, take, get_or, is_some, length, map, option_map, ap, refl, sym, subst, arith}
 use Rattle.std.specs.List.{AllByRecursion}
 use Rattle.std.proofs.lemmas.List.{drop_more, take_all, take_more}
@@ -42,7 +42,7 @@ pub none_found : {A : Type 0} (f : A → ImageOf) (o : Option A) (found : Option
 none_found {A} f None found is none = sym is
 none_found {A} f (Some x) found is none = absurd (cc)
 
--- the first component isn't among the others, which stand once
+-- the first component isn't among the others, which occur once
 pub apart_whole : (ks : List KeptOf) (d : KeptOf) {key : Key} → 0 < length ks → key ≡ (get_or ks 0 d).key → image_for (take (length ks - 1) (drop 1 ks)) key ≡ None
     → HaveKeysOnce (map (λ (k : KeptOf). k.key) (take (length ks - 1) (drop 1 ks))) → HaveKeysOnce (map (λ (k : KeptOf). k.key) ks)
 apart_whole [] d {key} some is none apart = absurd (omega arith)

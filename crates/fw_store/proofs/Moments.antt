@@ -1,4 +1,4 @@
--- The states that a folder passes.
+-- The states of a folder.
 use Rattle.std.proofs.Common.{◌≡◌, ◌≢◌, ◌∙◌, ◌+◌, ◌<◌, ◌^◌, ◌==◌, ◌||◌, ◌++◌, ◌⊎◌, inl, inr, ℕ, Bool, true, false, List, [], ◌∷◌, Option, Some, None, drop, take, get_or, length, subst, map, ap, refl, sym, arith}
 use Rattle.std.specs.List.{AllByRecursion}
 use Rattle.std.proofs.lemmas.List.{drop_more, take-append-drop, take_more}
@@ -73,7 +73,7 @@ writing_more n e f g past before now front k rest small known apart h wrote is =
   written = written_more n f g front k rest small known apart h.keys wrote h.written;
 }
 
--- PUTTING THE TEXT IN ITS PLACE
+-- REPLACING ACTIVE
 
 pub but_new : (f g : Files) → ChangesOnlyFile f g new_name → ChangesOnlyNewFile f g
 but_new f g h = record { others = h.others }

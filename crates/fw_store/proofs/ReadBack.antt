@@ -1,4 +1,4 @@
--- What is written of images is read as them.
+-- An encoded list of images reads back.
 use Rattle.std.proofs.Common.{◌≡◌, ◌∙◌, ◌<◌, ◌≤◌, ◌^◌, ◌-◌, ◌/◌, ◌%◌, ◌==◌, ◌&&◌, ◌++◌, take, ℕ, zero, suc, Bool, true, false, List, [], ◌∷◌, Ok, Option, Some, None, codes, decimal, if◌then◌else◌, length, length-append, slice_index, append_assoc, append-nil, ap, refl, sym, subst, arith}
 use Rattle.std.specs.Char.{is_ascii_digit}
 use Rattle.std.specs.Int.{from_be_bytes, w32}
@@ -25,7 +25,7 @@ use Rattle.fw_store.proofs.EachLine.{mapped_id, read_more, with_front}
 
 -- DIGITS
 
--- bytes behind the stops
+-- bytes after the stops
 abbrev AreDigits : List ℕ → Type 0
 AreDigits bytes = AllByRecursion (λ b. 46 < b) bytes
 
@@ -141,7 +141,7 @@ checksum_back n rest small =
 
 -- A LINE
 
--- what stands behind a line's first word
+-- the text after a line's first word
 abbrev behind_name : ImageEntryOf → List ℕ → List ℕ
 behind_name e rest = codes "image" ++ 32 ∷ (decimal e.size ++ 32 ∷ (encode_upper (four e.checksum) ++ 10 ∷ rest))
 

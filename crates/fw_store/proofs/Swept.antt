@@ -1,4 +1,4 @@
--- What is left where files that no line names are removed.
+-- The state after files that no line names are removed.
 use Rattle.std.proofs.Common.{◌≡◌, ◌≢◌, ◌∙◌, ◌+◌, ◌<◌, ◌++◌, ℕ, Bool, true, false, List, [], ◌∷◌, Option, Some, None, drop, take, get_or, is_some, length, option_and_then, ap, refl, sym, subst, arith}
 use Rattle.std.specs.List.{AllByRecursion}
 use Rattle.std.specs.Str.{bytes_eq}
@@ -95,7 +95,7 @@ pub below_more : (es : List ImageEntryOf) (i : ℕ) (d : ImageEntryOf) (n m : �
     → AllByRecursion (λ e. e.number < m) (take (i + 1) es)
 below_more es i d n m below all more here = rw (take_more es i d below) (all_push (λ e. e.number < m) (take i es) (get_or es i d) (all_up n m (take i es) more all) here)
 
--- a store's folder stays settled where what no line names is removed
+-- a store's folder stays settled after a file that no line names is removed
 pub settled_cleaned : (known still sure : Bool) (next : ℕ) (f g : Files) (es : List ImageEntryOf) → still ≡ known → (known ≡ true → IsUntouched es f g) → IsSettledIfKnown known sure next f es
     → IsSettledIfKnown still sure next g es
 settled_cleaned known still sure next f g es same touched settled = record {

@@ -1,4 +1,4 @@
--- The text `active`: which image of each component runs, and in which file it lies.
+-- The text `active`: the active image of each component, and its file.
 use Rattle.std.specs.Prelude.{ℕ, zero, suc, [], ◌∷◌, ◌++◌, ◌+◌, ◌-◌, ◌/◌, ◌<◌, ◌≤◌, ◌≡◌, ◌^◌, ◌&&◌, ◌==◌, Bool, List, None, Option, Result, Ok, Err, Some, codes, decimal, drop, if◌then◌else◌, length, nat_le, option_map, option_and_then, take}
 use Rattle.std.specs.Char.{is_ascii_digit}
 use Rattle.std.specs.Int.{from_be_bytes, w32}
@@ -12,8 +12,8 @@ use Rattle.fw_text.specs.Printing.{data_text, in_eight, word_and_number}
 use Rattle.fd_core.specs.Images.{LabelOf}
 use Rattle.fwup_wire.specs.declared.values.Key.{Key}
 
--- an image that is kept in a file: its component, its label, the number in its file's name, and of its bytes how many they are and
--- their CRC-32
+-- an image that is kept in a file: its component, its label, the number in its file's name, and the
+-- size and the CRC-32 of its bytes
 pub record ImageEntryOf : Type 0 where
   pub key : Key
   pub label : LabelOf
@@ -31,7 +31,8 @@ image_name key number = word_and_number (codes "") key.classification ++ word_an
 unfoldable pub label_text : LabelOf → List ℕ
 label_text label = word_and_number (codes " ") label.stamp ++ word_and_number (codes " ") label.text_type ++ codes " " ++ data_text label.text
 
--- an image's line: class, ident, stamp, text type, text in digits, the name of its file, size, CRC-32
+-- an image's line: class, ident, stamp, text type, text in digits, the name of its file, size,
+-- CRC-32
 unfoldable pub line_of : ImageEntryOf → List ℕ
 line_of e =
     word_and_number (codes "") e.key.classification ++ word_and_number (codes " ") e.key.identifier ++ label_text e.label ++ codes " " ++ image_name e.key e.number
@@ -40,7 +41,7 @@ line_of e =
 abbrev pub lines_text : List ImageEntryOf → List ℕ
 lines_text es = flat_map line_of es
 
--- lines, and the line of their own CRC-32 behind them
+-- lines, and the line of their CRC-32 after them
 unfoldable pub lines_with_checksum : List ℕ → List ℕ
 lines_with_checksum lines = lines ++ in_eight (codes "") (crc_of lines) ++ codes "\n"
 
@@ -49,11 +50,11 @@ active_text es = lines_with_checksum (lines_text es)
 
 -- ITS READING
 
--- what stands before the first of these bytes, and what behind it
+-- the bytes before the first `stop` byte, and those after it
 unfoldable pub field_at : (stop : ℕ) → List ℕ → Option (List ℕ × List ℕ)
 field_at stop text = option_map (λ i. (take i text, drop (i + 1) text)) (position (λ b. b == stop) text)
 
--- a decimal number of at most so much
+-- a decimal number of at most `most`
 unfoldable pub number_in : (most : ℕ) → List ℕ → Option ℕ
 number_in most word = if list_all is_ascii_digit word && nat_le (digits_value 10 word) most then Some (digits_value 10 word) else None
 
@@ -120,26 +121,26 @@ abbrev pub entries_after : (List ℕ → Option (List ImageEntryOf)) → Option 
 entries_after more None = None
 entries_after more (Some first) = option_map (λ es. first.0 ∷ es) (more first.1)
 
--- the images of at most so many lines, and no more text
+-- the images of at most `most` lines, and no more text
 abbrev pub entries_from : (most : ℕ) → List ℕ → Option (List ImageEntryOf)
 entries_from most [] = Some []
 entries_from zero (b ∷ text) = None
 entries_from (suc most) (b ∷ text) = entries_after (λ rest. entries_from most rest) (entry_at (b ∷ text))
 
--- images whose text is this one
+-- the images whose text is the given one
 abbrev pub if_written : List ℕ → Option (List ImageEntryOf) → Option (List ImageEntryOf)
 if_written text None = None
 if_written text (Some es) = if bytes_eq (active_text es) text then Some es else None
 
--- what stands before the last line, which has nine bytes
+-- the text before the last line, which has nine bytes
 abbrev pub lines_in : List ℕ → List ℕ
 lines_in text = take (length text - 9) text
 
--- The images that a text says, if it says some: each text is that of one list of images, or of none.
+-- The images of a text, if there are such: each text is that of one list of images, or of none.
 abbrev pub entries_of : List ℕ → Option (List ImageEntryOf)
 entries_of text = if_written text (entries_from (length (lines_in text)) (lines_in text))
 
--- WHAT IS WRITTEN IS READ, AND NOTHING ELSE
+-- AN ENCODED TEXT IS READ, AND NO OTHER
 
 -- an image whose numbers have their widths
 pub record IsImageEntry (e : ImageEntryOf) : Type 0 where

@@ -1,4 +1,4 @@
--- What is found where a folder is opened over a configuration's images.
+-- The images found when a folder is opened over a configuration's images.
 use Rattle.std.specs.Prelude.{[], ◌∷◌, ◌≡◌, ◌≢◌, ◌||◌, Bool, Err, List, None, Ok, Option, Result, Some, false, if◌then◌else◌, is_some, true, ℕ}
 use Rattle.std.specs.List.{AllByRecursion}
 use Rattle.std.specs.Str.{bytes_eq}
@@ -22,9 +22,10 @@ abbrev pub found_by : (base : List KeptOf) → Files → Option (List ImageEntry
 found_by base files None = Err faults.Damaged
 found_by base files (Some es) = if has_foreign base es then Err faults.Foreign else found_over base (images_of files es)
 
--- The images that run where a folder is opened: the configuration's, and in the place of each the one that the folder keeps, if it
--- keeps one. `Damaged`: `active` isn't the text of some images, or one of them isn't there with its size and its checksum.
--- `Foreign`: it names one of a component that the configuration doesn't have.
+-- The active images when a folder is opened: the configuration's, each replaced by the one that the
+-- folder keeps, if it keeps one. `Damaged`: `active` isn't the text of a list of images, or one of
+-- them isn't there with its size and its checksum. `Foreign`: it names an image of a component that
+-- the configuration doesn't have.
 abbrev pub found_in : (base : List KeptOf) → Files → Result (List KeptOf) OpenFault
 found_in base files = found_by base files (lines_by (files active_name))
 
@@ -32,17 +33,18 @@ abbrev pub is_image_at : List ℕ → Option ((Key × ℕ) × List ℕ) → Bool
 is_image_at name None = false
 is_image_at name (Some found) = bytes_eq (image_name found.0.0 found.0.1) name
 
--- a name that a store gives its files, but for `active` itself
+-- a store's name for a file, other than `active`
 unfoldable pub is_ours : List ℕ → Bool
 is_ours name = bytes_eq name new_name || is_image_at name (name_at name)
 
--- `active` and the files that these lines name are as before, and so is each file of another name than a store gives
+-- `active` and the files that the lines name are as before, and so is each file whose name isn't a
+-- store's
 pub record IsUntouched (es : List ImageEntryOf) (before after : Files) : Type 0 where
   pub active : after active_name ≡ before active_name
   pub named : AllByRecursion (λ e. after (image_name e.key e.number) ≡ before (image_name e.key e.number)) es
   pub others : (name : List ℕ) → is_ours name ≡ false → name ≢ active_name → after name ≡ before name
 
--- a file of a name that a store gives, which no line names, nor is it `active`
+-- a file with a store's name that no line names and that isn't `active`
 pub record IsUnnamedFile (es : List ImageEntryOf) (name : List ℕ) : Type 0 where
   pub ours : is_ours name ≡ true
   pub other : active_name ≢ name

@@ -1,4 +1,4 @@
-//! A bank whose images last.
+//! A bank whose images persist.
 
 ghost use Rattle.std.specs.Prelude.{◌≡◌, ◌++◌, Err, IfOk, None, OnErr, OnOk, map, option_map};
 ghost use Rattle.fd_core.specs.Banks.{HaveKeysOnce, CountsFailure};
@@ -11,8 +11,9 @@ use fwup_wire::Key;
 use std::alloc::{AllocError, Global};
 use std::marker::Model;
 
-/// A bank in memory over a store. What runs is what the store keeps: the images that were applied are kept there first, and run
-/// then. Where they can't be kept, what ran goes on running.
+/// A bank in memory over a store. The active images are those that the store keeps: applied images
+/// are kept there first, and then become active. If they can't be kept, the images that were active
+/// stay active.
 #[derive(Drop)]
 pub struct KeptBank<S: Store + Drop> {
     alloc: Global,
@@ -36,7 +37,7 @@ impl<S: Store + Drop> Model for KeptBank<S> {
 }
 
 impl<S: Store + Drop> KeptBank<S> {
-    /// A bank of these components over a store that keeps what runs of them.
+    /// Returns a bank of these components over a store that keeps their active images.
     pub fn new(alloc: Global, bank: MemBank, keys: Vec<Key>, store: S) -> KeptBank<S>
         requires keys { keys.items ≡ map key_of bank.rows }
         requires apart { HaveKeysOnce keys.items }
@@ -59,7 +60,7 @@ impl<S: Store + Drop> KeptBank<S> {
         &self.store
     }
 
-    /// A call failed, for this cause.
+    /// Counts a failed call with this cause, and returns the cause.
     fn fail(&mut self, fault: BankFault) -> Result<(), BankFault>
         ensures result { result ≡ Err fault }
         ensures same { self.new ≡ record self.old { faults = self.new.faults } }
@@ -128,7 +129,7 @@ impl<S: Store + Drop> Bank for KeptBank<S> {
     }
 }
 
-/// Keeps the images that are applied for components of these keys, in a store that keeps what runs.
+/// Keeps the applied images of components with these keys, in a store that keeps the active ones.
 fn keep_applied<S: Store>(
     alloc: Global,
     bank: &MemBank,
@@ -149,7 +150,7 @@ fn keep_applied<S: Store>(
     }
 }
 
-/// Puts the image that is applied for a component behind the others, if there is one.
+/// Appends the applied image of a component, if there is one.
 fn push_applied<'a>(
     images: &mut Vec<Kept<'a>>,
     key: Key,
@@ -163,7 +164,7 @@ fn push_applied<'a>(
     Ok(())
 }
 
-/// The images that are applied for components of these keys.
+/// Returns the applied images of components with these keys.
 fn applied_images<'a>(
     alloc: Global,
     bank: &'a MemBank,

@@ -1,21 +1,21 @@
-//! An image that is kept in a file.
+//! Images that are kept in files.
 
 use fd_core::Label;
 use fwup_wire::Key;
 use std::marker::Model;
 
-/// An image that is kept in a file: what a line of `active` says of it.
+/// An image that is kept in a file: the content of a line of `active`.
 #[derive(Drop)]
 pub struct ImageEntry {
-    /// The component that it is of.
+    /// The image's component.
     pub key: Key,
-    /// What it calls itself.
+    /// The image's label.
     pub label: Label,
     /// The number in its file's name.
     pub number: u32,
-    /// How many bytes it has.
+    /// The image's size in bytes.
     pub size: u32,
-    /// Their CRC-32.
+    /// The CRC-32 of the image's bytes.
     pub checksum: u32,
 }
 

@@ -5,16 +5,17 @@ use thiserror::Error;
 /// Why a store can't be opened.
 #[derive(Clone, Copy, Debug, PartialEq, Eq, Error)]
 pub enum OpenFault {
-    /// Its `active` isn't the text of some images, or one of them isn't there with its size and its checksum.
+    /// The store's `active` isn't the text of a list of images, or one of the images isn't there
+    /// with its size and its checksum.
     #[error("damaged")]
     Damaged,
-    /// It keeps an image of a component that the configuration doesn't have.
+    /// The store keeps an image of a component that the configuration doesn't have.
     #[error("foreign")]
     Foreign,
     /// The folder can't be read.
     #[error("unreadable")]
     Unreadable,
-    /// Memory is refused.
+    /// Memory could not be allocated.
     #[error("memory")]
     Memory,
 }

@@ -11,21 +11,22 @@ use thiserror::Error;
 #[error("Folder")]
 pub struct FolderFault;
 
-/// A file couldn't be given another name.
+/// Why a file couldn't be renamed.
 #[derive(Clone, Copy, Debug, PartialEq, Eq, Error)]
 pub enum RenameFault {
     /// Nothing has changed.
     #[error("Unchanged")]
     Unchanged,
-    /// It may have been given that name, and may lose it again in a crash.
+    /// The file may have its new name, and may lose it again in a crash.
     #[error("Unsure")]
     Unsure,
 }
 
-/// The files of one folder. A crash in a call leaves what an error of that call may leave.
+/// The files of one folder. A crash during a call leaves a state that an error of that call may
+/// leave.
 ///
-/// Where it is known what they hold, `files` are the bytes of each name, and `moments` the states that they have been in, one
-/// after each call that changed any, the last one first.
+/// If the content is known, `files` are the bytes of each name, and `moments` are the states of the
+/// files, one after each call that changed any, the last one first.
 pub trait Folder {
     ghost is_known: { Self → Bool };
 
@@ -33,27 +34,28 @@ pub trait Folder {
 
     ghost moments: { Self → List (List ℕ → Option (List ℕ)) };
 
-    /// The bytes of a file, if it is there.
+    /// Returns the bytes of a file, if it exists.
     ///
     /// # Errors
-    /// It can't be read, or memory is refused.
+    /// The file can't be read, or memory can't be allocated.
     fn read(&self, alloc: Global, name: &[u8]) -> Result<Option<Vec<u8>>, FolderFault>
         ensures { IfOk result (λ r. is_known self.now ≡ true → option_map (λ b. b.items) r ≡ files self.now name.now) };
 
-    /// Writes a file, and puts its bytes on the disk. One that is there loses its bytes first.
+    /// Writes a file and syncs its bytes to the disk. An existing file loses its bytes first.
     ///
     /// # Errors
-    /// It can't be written whole. Of this file nothing is known then.
+    /// The file can't be written entirely. Then nothing is known of this file.
     fn write(&mut self, name: &[u8], bytes: &[u8]) -> Result<(), FolderFault>
         ensures known { is_known self.new ≡ is_known self.old }
         ensures ok { OnOk result (is_known self.old ≡ true → WritesFile (files self.old) (files self.new) name.now bytes.now) }
         ensures err { OnErr result (is_known self.old ≡ true → ChangesOnlyFile (files self.old) (files self.new) name.now) }
         ensures moment { is_known self.old ≡ true → IsMoment (files self.old) (files self.new) (moments self.old) (moments self.new) };
 
-    /// Gives a file another name, in the place of the file of that name, wholly or not at all, and puts that on the disk.
+    /// Renames a file, replacing the file with the new name, entirely or not at all, and syncs the
+    /// change to the disk.
     ///
     /// # Errors
-    /// Nothing has changed; or the file may have been given that name, and a crash may undo it.
+    /// Nothing has changed, or the file may have its new name and a crash may undo it.
     fn rename(&mut self, name: &[u8], place: &[u8]) -> Result<(), RenameFault>
         ensures known { is_known self.new ≡ is_known self.old }
         ensures ok { OnOk result (is_known self.old ≡ true → RenamesFile (files self.old) (files self.new) name.now place.now) }
@@ -64,15 +66,15 @@ pub trait Folder {
     /// Removes a file.
     ///
     /// # Errors
-    /// It can't be removed. Of this file nothing is known then.
+    /// The file can't be removed. Then nothing is known of this file.
     fn remove(&mut self, name: &[u8]) -> Result<(), FolderFault>
         ensures known { is_known self.new ≡ is_known self.old }
         ensures others { is_known self.old ≡ true → ChangesOnlyFile (files self.old) (files self.new) name.now }
         ensures moment { is_known self.old ≡ true → IsMoment (files self.old) (files self.new) (moments self.old) (moments self.new) };
 
-    /// The names of its files.
+    /// Returns the names of the files.
     ///
     /// # Errors
-    /// They can't be read, or memory is refused.
+    /// The names can't be read, or memory can't be allocated.
     fn names(&self, alloc: Global) -> Result<Vec<Vec<u8>>, FolderFault>;
 }

@@ -16,11 +16,12 @@ use crate::store::{Kept, Store, StoreFault};
 use crate::sweeping::sweep;
 use std::alloc::Global;
 
-/// A store over the files of a folder, and in memory what it keeps.
+/// A store over the files of a folder, with its images in memory too.
 ///
-/// It is settled where the folder's `active` has its lines and no file has a number as high as its next one. A number is used
-/// once, also where the call fails. It is sure until the folder can't say whether a text came to its place: then it keeps
-/// nothing more, and whoever opens the folder next finds what was kept or what was to be kept.
+/// The store is settled if the folder's `active` has its lines and the number of each file is below
+/// its next one. A number is used once, even if the call fails. The store is sure until the folder
+/// can't report whether a text replaced `active`. Then it keeps no more images, and the next
+/// opening of the folder finds the images that were kept or those that were to be kept.
 #[derive(Drop)]
 pub struct FolderStore<F: Folder + Drop> {
     alloc: Global,
@@ -32,7 +33,7 @@ pub struct FolderStore<F: Folder + Drop> {
 }
 
 impl<F: Folder + Drop> FolderStore<F> {
-    /// A store that is sure of what the folder keeps.
+    /// Returns a store that is sure of the folder's content.
     pub(crate) fn of(
         alloc: Global,
         folder: F,
@@ -56,7 +57,7 @@ impl<F: Folder + Drop> FolderStore<F> {
         }
     }
 
-    /// The folder, after the store.
+    /// Returns the folder, and drops the store.
     pub fn into_folder(self) -> F
         ensures { result ≡ self.folder }
     {
@@ -70,17 +71,19 @@ impl<F: Folder + Drop> FolderStore<F> {
         &self.folder
     }
 
-    /// The images that are kept.
+    /// The kept images.
     pub fn images(&self) -> &[Stored]
         ensures { result.now ≡ self.now.memory.images.items }
     {
         self.memory.images()
     }
 
-    /// Removes the files of a store that `active` doesn't name, as a crash leaves them. One that can't be removed stays.
+    /// Removes the files of a store that `active` doesn't name, which a crash may leave. A file
+    /// that can't be removed stays.
     ///
     /// # Errors
-    /// `Unreadable` where the folder doesn't say which files it has: all stay then. `Memory`: some may be removed.
+    /// `Unreadable` if the folder can't list its files; then all files stay. `Memory`: some files
+    /// may be removed.
     #[tactic(auto, using(crate::proofs::Swept::cleaning))]
     pub fn sweep(&mut self) -> Result<(), OpenFault>
         ensures kept { self.new.memory ≡ self.old.memory }
@@ -112,11 +115,11 @@ impl<F: Folder + Drop> FolderStore<F> {
         }
     }
 
-    /// Keeps images: their files first, and then the text that names them.
+    /// Keeps images: their files are written first, and then the text that names them.
     ///
     /// # Errors
-    /// The folder fails, memory is refused, a component stands twice among these images, or the store isn't sure any more.
-    /// What was kept is kept.
+    /// The folder fails, memory can't be allocated, two of the images are of one component, or the
+    /// store isn't sure any more. The images kept before are still kept.
     #[tactic(auto, using(crate::proofs::Ending::ending))]
     pub fn put(&mut self, images: &[Kept<'_>]) -> Result<(), StoreFault>
         ensures ok { OnOk result (self.new.memory.images.items ≡ kept_after self.old.memory.images.items images.now) }

@@ -1,4 +1,4 @@
-//! A folder in memory, of which it is known what it holds and held.
+//! A folder in memory whose content, present and past, is known.
 
 ghost use Rattle.std.specs.Prelude.{◌≡◌, ◌∷◌, ◌++◌, [], IfOk, List, OnErr, OnOk, Option, length, option_map, take, true, ℕ};
 ghost use Rattle.fw_store.specs.Folders.{IsMoment, ChangesOnlyFile, RenamesFile, LeavesFiles, WritesFile};
@@ -8,25 +8,25 @@ use crate::folder::{Folder, FolderFault, RenameFault};
 use std::alloc::{AllocError, Global};
 use std::marker::Model;
 
-/// What a call that fails has done.
+/// The effect of a call that fails.
 #[derive(Clone, Copy, PartialEq, Eq)]
 pub enum Failing {
-    /// Nothing.
+    /// No effect.
     Before,
-    /// A file has half of its bytes. A file that is renamed isn't.
+    /// A file has half of its bytes. A file to rename isn't renamed.
     Half,
-    /// All.
+    /// The whole effect.
     After,
 }
 
-/// What happened to a file.
+/// The kind of a change of a file.
 #[derive(Clone, Copy, PartialEq, Eq)]
 pub enum Kind {
-    /// It has some bytes.
+    /// The file has new bytes.
     Put,
-    /// It has another name.
+    /// The file has a new name.
     Moved,
-    /// It is gone.
+    /// The file is removed.
     Gone,
 }
 
@@ -35,7 +35,7 @@ pub enum Kind {
 struct Change {
     kind: Kind,
     name: Vec<u8>,
-    /// Its bytes, or its other name.
+    /// The file's bytes, or its new name.
     other: Vec<u8>,
 }
 
@@ -47,8 +47,8 @@ impl Model for Change {
     ghost view = { λ c. record { kind = c.kind; name = c.name.items; other = c.other.items } };
 }
 
-/// A folder in memory, which began empty and remembers each change. Of its calls that write, the one of a number fails, and each
-/// in which memory is refused, which changes nothing.
+/// A folder in memory that began empty and records each change. The writing call with one given
+/// number fails, and so does each for which memory can't be allocated, which changes nothing.
 #[derive(Drop)]
 pub struct KnownFolder {
     alloc: Global,
@@ -58,7 +58,7 @@ pub struct KnownFolder {
     failing: Failing,
 }
 
-/// A copy of bytes.
+/// Returns a copy of bytes.
 fn copied(alloc: Global, bytes: &[u8]) -> Result<Vec<u8>, AllocError>
     ensures { IfOk result (λ copy. copy.items ≡ bytes.now) }
 {
@@ -67,7 +67,7 @@ fn copied(alloc: Global, bytes: &[u8]) -> Result<Vec<u8>, AllocError>
     Ok(copy)
 }
 
-/// A change of a file.
+/// Returns a change of a file.
 fn change_of(alloc: Global, kind: Kind, name: &[u8], other: &[u8]) -> Result<Change, AllocError>
     ensures { IfOk result (λ c. c ≡ record { kind = kind; name = name.now; other = other.now }) }
 {
@@ -76,17 +76,17 @@ fn change_of(alloc: Global, kind: Kind, name: &[u8], other: &[u8]) -> Result<Cha
     Ok(Change { kind, name, other })
 }
 
-/// What the last change says of the file of a name.
+/// The effect of the last change on the file with a name.
 enum Seen<'a> {
-    /// It has these bytes.
+    /// The file has these bytes.
     Bytes(&'a [u8]),
-    /// It isn't there.
+    /// The file doesn't exist.
     Nothing,
-    /// Before, it was the file of this name.
+    /// The file had this name before the change.
     Before(&'a [u8]),
 }
 
-/// What a change says of the file of a name.
+/// Returns the effect of a change on the file with a name.
 fn see<'a>(change: &'a Change, name: &'a [u8]) -> Seen<'a>
     ensures { (files : List ℕ → Option (List ℕ)) → files_after_change change.now files name.now ≡ seen_by result files }
 {
@@ -99,7 +99,8 @@ fn see<'a>(change: &'a Change, name: &'a [u8]) -> Seen<'a>
 }
 
 impl KnownFolder {
-    /// An empty folder, of which the call of this number fails so; none does where the number is 0.
+    /// Returns an empty folder. The call with the number `fails` fails as `failing` says; none does
+    /// if the number is 0.
     pub fn new(alloc: Global, fails: u32, failing: Failing) -> KnownFolder
         ensures { result.changes.items ≡ [] }
     {
@@ -112,17 +113,18 @@ impl KnownFolder {
         }
     }
 
-    /// How many changes there were. The folder has been in a state after each of them.
+    /// Returns the number of changes. The folder has been in a state after each of them.
     pub fn count(&self) -> usize
         ensures { result ≡ length self.now.changes.items }
     {
         self.changes.len()
     }
 
-    /// The folder as it was after so many changes, or as it is where there were fewer. None of its calls fails.
+    /// Returns the folder after the first `count` changes, or the present folder if there were
+    /// fewer. None of its calls fails.
     ///
     /// # Errors
-    /// `AllocError` where memory is refused.
+    /// `AllocError` if memory can't be allocated.
     pub fn after(&self, count: usize) -> Result<KnownFolder, AllocError>
         ensures { IfOk result (λ f. f.changes.items ≡ take count self.now.changes.items) }
     {
@@ -135,7 +137,7 @@ impl KnownFolder {
         Ok(folder)
     }
 
-    /// The bytes of a file, if it is there.
+    /// Returns the bytes of a file, if it exists.
     pub fn bytes<'a>(&'a self, name: &'a [u8]) -> Option<&'a [u8]>
         ensures { option_map (λ b. b.now) result ≡ files_of self.now.changes.items name.now }
     {
@@ -150,7 +152,7 @@ impl KnownFolder {
         None
     }
 
-    /// Whether this call fails, and what it does then.
+    /// Counts a call, and returns how it fails, if it does.
     fn counted(&mut self) -> Option<Failing>
         ensures { self.new.changes ≡ self.old.changes }
     {
@@ -162,7 +164,7 @@ impl KnownFolder {
         }
     }
 
-    /// Remembers a change.
+    /// Records a change.
     fn note(&mut self, kind: Kind, name: &[u8], other: &[u8]) -> Result<(), AllocError>
         ensures ok { OnOk result (self.new.changes.items ≡ self.old.changes.items ++ record { kind = kind; name = name.now; other = other.now } ∷ []) }
         ensures err { OnErr result (self.new.changes.items ≡ self.old.changes.items) }
@@ -177,7 +179,7 @@ impl KnownFolder {
         }
     }
 
-    /// Puts these bytes into a file.
+    /// Writes these bytes to a file.
     #[tactic(auto, using(crate::proofs::Changes::calling))]
     fn put(&mut self, name: &[u8], bytes: &[u8]) -> Result<(), FolderFault>
         ensures ok { OnOk result (WritesFile (files_of self.old.changes.items) (files_of self.new.changes.items) name.now bytes.now) }
@@ -190,7 +192,7 @@ impl KnownFolder {
         }
     }
 
-    /// Gives a file another name.
+    /// Renames a file.
     #[tactic(auto, using(crate::proofs::Changes::calling))]
     fn give(&mut self, name: &[u8], place: &[u8]) -> Result<(), FolderFault>
         ensures ok { OnOk result (RenamesFile (files_of self.old.changes.items) (files_of self.new.changes.items) name.now place.now) }

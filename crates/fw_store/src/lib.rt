@@ -1,4 +1,4 @@
-//! Banks whose images last: what runs is kept in a store before it runs.
+//! Banks whose images persist: images are kept in a store before they become active.
 #![tactic(auto)]
 
 mod bank;

@@ -1,4 +1,4 @@
-//! The lines of images that come to a folder.
+//! The lines of images that are written to a folder.
 
 ghost use Rattle.std.specs.Prelude.{◌≡◌, ◌++◌, ◌<◌, ◌^◌, ℕ, get_or, IfOk, IfSome, None, OnOk, map, true};
 ghost use Rattle.std.specs.List.{AllByRecursion};
@@ -13,7 +13,7 @@ use fw_package::crc32;
 use fwup_wire::Key;
 use std::alloc::{AllocError, Global};
 
-/// Whether no component stands twice among these.
+/// Returns whether no component occurs twice among the images.
 #[tactic(auto, using(crate::proofs::Left::has_none))]
 pub(crate) fn are_apart(images: &[Kept<'_>]) -> bool
     ensures { result ≡ true → HaveKeysOnce (map (λ k. k.key) images.now) }
@@ -24,7 +24,7 @@ pub(crate) fn are_apart(images: &[Kept<'_>]) -> bool
     }
 }
 
-/// The line of an image in a file of this number, where its size has four bytes.
+/// Returns the line of an image in a file with this number, if its size fits four bytes.
 fn line_of(number: u32, image: &Kept<'_>) -> Option<ImageEntry>
     ensures { IfSome result (λ e. e ≡ line_for number image.now) }
 {
@@ -40,7 +40,7 @@ fn line_of(number: u32, image: &Kept<'_>) -> Option<ImageEntry>
     }
 }
 
-/// Appends the lines of images that are new.
+/// Appends the lines of new images.
 fn push_new(
     entries: &mut Vec<ImageEntry>,
     number: u32,
@@ -59,7 +59,7 @@ fn push_new(
     Ok(())
 }
 
-/// The same line again.
+/// Returns a copy of the line.
 fn copied(entry: &ImageEntry) -> ImageEntry
     ensures { result ≡ entry.now }
 {
@@ -72,7 +72,7 @@ fn copied(entry: &ImageEntry) -> ImageEntry
     }
 }
 
-/// Appends the lines of other components than these.
+/// Appends the lines of components other than those of the images.
 #[tactic(auto, using(crate::proofs::Left::leaving))]
 fn push_left(
     entries: &mut Vec<ImageEntry>,
@@ -91,7 +91,7 @@ fn push_left(
     Ok(())
 }
 
-/// Numbers have their widths.
+/// Proves that numbers have their widths.
 fn number_widths(key: Key, stamp: u32, kind: u8, number: u32, size: u32, checksum: u32)
     ensures class { key.classification < 2 ^ 16 }
     ensures ident { key.identifier < 2 ^ 16 }
@@ -102,12 +102,12 @@ fn number_widths(key: Key, stamp: u32, kind: u8, number: u32, size: u32, checksu
     ensures checksum { checksum < 2 ^ 32 }
 {}
 
-/// Bytes have theirs.
+/// Proves that bytes have their width.
 fn byte_widths(bytes: &[u8])
     ensures { (i : ℕ) → get_or bytes.now i 0 < 256 }
 {}
 
-/// So have those of a line.
+/// Proves that the numbers of a line have their widths.
 fn width(entry: &ImageEntry)
     ensures { IsImageEntry entry.now }
 {
@@ -123,7 +123,7 @@ fn width(entry: &ImageEntry)
     );
 }
 
-/// So have those of each line.
+/// Proves that the numbers of each line have their widths.
 #[tactic(auto, using(crate::proofs::Left::all_more))]
 pub(crate) fn widths(entries: &[ImageEntry])
     ensures { AllByRecursion IsImageEntry entries.now }
@@ -133,7 +133,7 @@ pub(crate) fn widths(entries: &[ImageEntry])
     }
 }
 
-/// The lines after these images came to files of this number.
+/// Returns the lines after the images were written to files with this number.
 pub(crate) fn entries_after(
     alloc: Global,
     number: u32,

@@ -1,4 +1,4 @@
-//! What a folder keeps.
+//! The images that a folder keeps.
 
 ghost use Rattle.std.specs.Prelude.{◌≡◌, ◌⊎◌, Err, IfErr, IfOk, Ok, Some, is_some, option_map, true};
 ghost use Rattle.fw_store.specs.Active.{image_name as name_of};
@@ -17,7 +17,8 @@ use crate::writing::image_name;
 use fw_package::crc32;
 use std::alloc::{AllocError, Global};
 
-/// The lines of a folder's `active`, if it is their text: none where there is no such file.
+/// Returns the lines of a folder's `active`, if it is the text of lines; no lines if there is no
+/// such file.
 fn lines<F: Folder>(alloc: Global, folder: &F) -> Result<Option<Vec<ImageEntry>>, OpenFault>
     ensures ok { IfOk result (λ r. F.is_known folder.now ≡ true → option_map (λ v. v.items) r ≡ lines_by (F.files folder.now active_name)) }
     ensures err { IfErr result (λ e. (e ≡ OpenFault.Unreadable) ⊎ (e ≡ OpenFault.Memory)) }
@@ -35,7 +36,7 @@ fn lines<F: Folder>(alloc: Global, folder: &F) -> Result<Option<Vec<ImageEntry>>
     }
 }
 
-/// The image of a line, where its bytes have its size and its checksum.
+/// Returns the image of a line, if its bytes have the line's size and checksum.
 fn checked(entry: &ImageEntry, bytes: Vec<u8>) -> Option<Stored>
     ensures { result ≡ image_by entry.now (Some bytes.items) }
 {
@@ -46,7 +47,7 @@ fn checked(entry: &ImageEntry, bytes: Vec<u8>) -> Option<Stored>
     }
 }
 
-/// The image of a line, where it is there.
+/// Returns the image of a line, if it is there.
 fn image<F: Folder>(
     alloc: Global,
     folder: &F,
@@ -65,7 +66,7 @@ fn image<F: Folder>(
     }
 }
 
-/// The images of lines, where each is there.
+/// Returns the images of lines, if each is there.
 #[tactic(auto, using(crate::proofs::FoundImages::looking))]
 fn images<F: Folder>(
     alloc: Global,
@@ -90,7 +91,7 @@ fn images<F: Folder>(
     Ok(Some(images))
 }
 
-/// Whether a line is of a component that isn't among these.
+/// Returns whether a line is of a component that isn't in the list.
 #[tactic(auto, using(crate::proofs::FoundImages::foreign))]
 fn has_foreign(components: &[Kept<'_>], entries: &[ImageEntry]) -> bool
     ensures { result ≡ names_foreign components.now entries.now }
@@ -103,7 +104,7 @@ fn has_foreign(components: &[Kept<'_>], entries: &[ImageEntry]) -> bool
     false
 }
 
-/// The images, lent.
+/// Borrows the images.
 fn lent(alloc: Global, images: &[Stored]) -> Result<Vec<Kept<'_>>, AllocError>
     ensures { IfOk result (λ v. v.items ≡ images.now) }
 {
@@ -114,7 +115,7 @@ fn lent(alloc: Global, images: &[Stored]) -> Result<Vec<Kept<'_>>, AllocError>
     Ok(lent)
 }
 
-/// Copies of images.
+/// Returns copies of images.
 fn copies(alloc: Global, images: &[Kept<'_>]) -> Result<Vec<Stored>, AllocError>
     ensures { IfOk result (λ v. v.items ≡ images.now) }
 {
@@ -125,7 +126,7 @@ fn copies(alloc: Global, images: &[Kept<'_>]) -> Result<Vec<Stored>, AllocError>
     Ok(copies)
 }
 
-/// A store of these images, with others in their places.
+/// Returns a store of the images, with others replacing those of their components.
 fn store_over(
     alloc: Global,
     components: &[Kept<'_>],
@@ -138,7 +139,7 @@ fn store_over(
     base.with(stored.as_slice())
 }
 
-/// The lines of a folder, and what it keeps over a configuration's images.
+/// Returns the lines of a folder, and the images that it keeps over those of a configuration.
 pub(crate) fn look<F: Folder>(
     alloc: Global,
     folder: &F,
@@ -169,11 +170,13 @@ pub(crate) fn look<F: Folder>(
     }
 }
 
-/// What a folder keeps over a configuration's images, which stand in their components' places where it keeps none. The folder
-/// is only read, and the store that comes from it lasts as long as the program.
+/// Returns the images that a folder keeps over those of a configuration, which are used for
+/// components of which it keeps none. The folder is only read, and the returned store lasts as long
+/// as the program.
 ///
 /// # Errors
-/// `Damaged` and `Foreign` as `found_in` says them; `Unreadable` where the folder can't be read, and `Memory`.
+/// `Damaged` and `Foreign` as `found_in` defines them; `Unreadable` if the folder can't be read;
+/// `Memory` if memory can't be allocated.
 pub fn read_store<F: Folder>(
     alloc: Global,
     folder: &F,

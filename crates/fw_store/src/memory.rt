@@ -11,7 +11,7 @@ use fwup_wire::Key;
 use std::alloc::{AllocError, Global};
 use std::marker::Model;
 
-/// An image that is kept: the component that it is of, its label and its bytes.
+/// A kept image: its component, its label and its bytes.
 #[derive(Drop)]
 pub struct Stored {
     key: Key,
@@ -27,14 +27,14 @@ impl Model for Stored {
     ghost view = { λ s. record { key = s.key; image = record { label = s.label; bytes = s.bytes.items } } };
 }
 
-/// A store in memory. It fails only where memory is refused.
+/// A store in memory. It fails only if memory can't be allocated.
 #[derive(Drop)]
 pub struct MemStore {
     alloc: Global,
     images: Vec<Stored>,
 }
 
-/// A copy of an image.
+/// Returns a copy of an image.
 pub(crate) fn copied(
     alloc: Global,
     key: Key,
@@ -52,7 +52,7 @@ pub(crate) fn copied(
     })
 }
 
-/// The image of a component among these, if it is there.
+/// Returns the image of a component in the list, if there is one.
 #[tactic(auto, using(crate::proofs::Keeping::finding))]
 pub(crate) fn find<'a, 'b>(images: &'a [Kept<'b>], key: Key) -> Option<&'a Kept<'b>>
     ensures { option_map (λ k. k.now.image) result ≡ image_for images.now key }
@@ -65,7 +65,7 @@ pub(crate) fn find<'a, 'b>(images: &'a [Kept<'b>], key: Key) -> Option<&'a Kept<
     None
 }
 
-/// What is kept of a component after these images.
+/// Returns the image to keep of a component after the given images.
 fn replaced(alloc: Global, old: &Stored, images: &[Kept<'_>]) -> Result<Stored, AllocError>
     ensures { IfOk result (λ s. s ≡ replaced_by old.now (image_for images.now old.now.key)) }
 {
@@ -75,7 +75,7 @@ fn replaced(alloc: Global, old: &Stored, images: &[Kept<'_>]) -> Result<Stored, 
     }
 }
 
-/// What is kept after these images.
+/// Returns the images to keep after the given images.
 fn replaced_all(
     alloc: Global,
     old: &[Stored],
@@ -91,14 +91,14 @@ fn replaced_all(
 }
 
 impl Stored {
-    /// An image of a component.
+    /// Returns an image of a component.
     pub(crate) fn new(key: Key, label: Label, bytes: Vec<u8>) -> Stored
         ensures { result ≡ record { key = key; image = record { label = label; bytes = bytes.items } } }
     {
         Stored { key, label, bytes }
     }
 
-    /// The image, lent.
+    /// Borrows the image.
     pub fn image(&self) -> Kept<'_>
         ensures { result ≡ self.now }
     {
@@ -111,10 +111,10 @@ impl Stored {
 }
 
 impl MemStore {
-    /// A store that keeps what runs of a bank with components of these keys.
+    /// Returns a store that keeps the active images of a bank's components with these keys.
     ///
     /// # Errors
-    /// `AllocError` where memory is refused.
+    /// `AllocError` if memory can't be allocated.
     pub fn of(alloc: Global, bank: &MemBank, keys: &[Key]) -> Result<MemStore, AllocError>
         requires keys { keys.now ≡ map key_of bank.now.rows }
         requires apart { HaveKeysOnce keys.now }
@@ -130,17 +130,17 @@ impl MemStore {
         Ok(MemStore { alloc, images })
     }
 
-    /// A store that keeps these images.
+    /// Returns a store that keeps these images.
     pub(crate) fn with_all(alloc: Global, images: Vec<Stored>) -> MemStore
         ensures { result.images.items ≡ images.items }
     {
         MemStore { alloc, images }
     }
 
-    /// What this store keeps with these images in their places.
+    /// Returns this store's images, with the given ones replacing those of their components.
     ///
     /// # Errors
-    /// `AllocError` where memory is refused.
+    /// `AllocError` if memory can't be allocated.
     pub(crate) fn with(&self, images: &[Kept<'_>]) -> Result<MemStore, AllocError>
         ensures { IfOk result (λ s. s.images.items ≡ kept_after self.now.images.items images.now) }
     {
@@ -150,14 +150,14 @@ impl MemStore {
         })
     }
 
-    /// The images that are kept.
+    /// The kept images.
     pub fn images(&self) -> &[Stored]
         ensures { result.now ≡ self.now.images.items }
     {
         self.images.as_slice()
     }
 
-    /// The bytes that are kept for a component, if it is there.
+    /// Returns the kept bytes of a component, if there are some.
     #[tactic(auto, using(crate::proofs::Keeping::finding))]
     pub fn bytes(&self, key: Key) -> Option<&[u8]>
         ensures { option_map (λ b. b.now) result ≡ option_map (λ i. i.bytes) (image_for self.now.images.items key) }

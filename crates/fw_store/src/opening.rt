@@ -14,7 +14,7 @@ use crate::looking::look;
 use crate::store::Kept;
 use std::alloc::Global;
 
-/// A number above those of these lines.
+/// Returns a number above those of the lines.
 #[tactic(auto, using(crate::proofs::Swept::below_more))]
 fn next_after(entries: &[ImageEntry]) -> u64
     ensures { AllByRecursion (λ e. e.number < result) entries.now }
@@ -26,11 +26,13 @@ fn next_after(entries: &[ImageEntry]) -> u64
     next
 }
 
-/// Opens the store of a folder over a configuration's images, each of which runs where the folder keeps none of its component.
-/// The folder is only read: `FolderStore::sweep` removes what was left in it. Nothing is written before the first images are kept.
+/// Opens the store of a folder over a configuration's images. A component's configured image is
+/// active if the folder keeps none of it. The folder is only read: `FolderStore::sweep` removes
+/// files left in it. Nothing is written before the first images are kept.
 ///
 /// # Errors
-/// `Damaged` and `Foreign` as `found_in` says them. `Unreadable` where the folder can't be read, and `Memory`.
+/// `Damaged` and `Foreign` as `found_in` defines them; `Unreadable` if the folder can't be read;
+/// `Memory` if memory can't be allocated.
 #[tactic(auto, using(crate::proofs::Swept::opening))]
 pub fn open_store<F: Folder + Drop>(
     alloc: Global,

@@ -1,4 +1,4 @@
-//! How images come to a folder: their files first, and then the text that names them.
+//! Writing images to a folder: their files first, and then the text that names them.
 
 ghost use Rattle.std.specs.Prelude.{◌≡◌, ◌⊎◌, ◌^◌, ◌<◌, IfErr, IfOk, OnErr, OnOk, map, true};
 ghost use Rattle.fd_core.specs.Banks.{HaveKeysOnce};
@@ -13,13 +13,13 @@ use crate::writing::{active_text, image_name};
 use fwup_wire::Key;
 use std::alloc::{AllocError, Global};
 
-/// The name of the text that says what runs.
+/// The name of the text that lists the active images.
 pub(crate) const ACTIVE: &[u8] = b"active";
 
-/// The name under which it is written before it comes to its place.
+/// The name under which the text is written before it is renamed to `active`.
 pub(crate) const ACTIVE_NEW: &[u8] = b"active.new";
 
-/// The name of an image's file of this number.
+/// Returns the name of an image's file with this number.
 fn file_name(alloc: Global, key: Key, number: u32) -> Result<Vec<u8>, AllocError>
     ensures name { IfOk result (λ name. name.items ≡ name_of key number) }
     ensures key { IsKey key }
@@ -28,7 +28,7 @@ fn file_name(alloc: Global, key: Key, number: u32) -> Result<Vec<u8>, AllocError
     image_name(alloc, key, number)
 }
 
-/// Writes images to files of this number.
+/// Writes images to files with this number.
 fn write_images<F: Folder>(
     alloc: Global,
     folder: &mut F,
@@ -52,7 +52,7 @@ fn write_images<F: Folder>(
     Ok(())
 }
 
-/// Puts the text of these lines in its place.
+/// Writes the text of the lines, and renames it to `active`.
 #[tactic(auto, using(crate::proofs::Moments::putting))]
 fn put_text<F: Folder>(folder: &mut F, text: &[u8]) -> Result<(), RenameFault>
     ensures known { F.is_known folder.new ≡ F.is_known folder.old }
@@ -66,10 +66,12 @@ fn put_text<F: Folder>(folder: &mut F, text: &[u8]) -> Result<(), RenameFault>
     }
 }
 
-/// Writes images to files of this number, and then puts the text of these lines in its place: the moment from which they run.
+/// Writes images to files with this number, and then replaces `active` by the text of the lines.
+/// From then on the images are active.
 ///
 /// # Errors
-/// `Unchanged`: what ran runs. `Unsure`: it runs, or these images do.
+/// `Unchanged`: the images that were active still are. `Unsure`: either those or the given images
+/// are active.
 #[tactic(auto, using(crate::proofs::Moments::coming))]
 pub(crate) fn put_images<F: Folder>(
     alloc: Global,

@@ -13,17 +13,17 @@ use fd_core::{Label, MAX_TEXT};
 use fwup_wire::Key;
 use std::alloc::{AllocError, Global};
 
-/// The bytes of the last line: eight digits and a line feed.
+/// The number of bytes of the last line: eight digits and a line feed.
 const LAST_LINE: usize = 9;
 
-/// Where a byte first stands.
+/// Returns the place of the first such byte.
 fn place_of(text: &[u8], byte: u8) -> Option<usize>
     ensures { result ≡ position (λ b. b == byte) text.now }
 {
     text.iter().position(|other| *other == byte)
 }
 
-/// What stands before the first of these bytes, and what behind it.
+/// Returns the bytes before the first `stop` byte, and those after it.
 #[tactic(auto, using(crate::proofs::Fields::field_here, crate::proofs::Fields::field_nowhere))]
 fn field(text: &[u8], stop: u8) -> Option<(&[u8], &[u8])>
     ensures { option_map (λ f. (f.0.now, f.1.now)) result ≡ field_at stop text.now }
@@ -34,7 +34,7 @@ fn field(text: &[u8], stop: u8) -> Option<(&[u8], &[u8])>
     }
 }
 
-/// The number that digits write, if they are digits and it fits.
+/// Returns the decimal number of the digits, if they are digits and it fits.
 fn digits(word: &[u8]) -> Option<u64>
     ensures { result ≡ (if list_all is_ascii_digit word.now && nat_lt (digits_value 10 word.now) (2 ^ 64) then Some (digits_value 10 word.now) else None) }
 {
@@ -48,7 +48,7 @@ fn digits(word: &[u8]) -> Option<u64>
     Some(value)
 }
 
-/// A decimal number of at most so much.
+/// Returns a decimal number of at most `most`.
 #[tactic(auto, unfolding(crate::specs::Active::number_in))]
 fn number_of(word: &[u8], most: u32) -> Option<u32>
     ensures value { result ≡ number_in most word.now }
@@ -60,7 +60,7 @@ fn number_of(word: &[u8], most: u32) -> Option<u32>
     }
 }
 
-/// A decimal number of at most so much before this byte, and what stands behind it.
+/// Returns a decimal number of at most `most` before the byte `stop`, and the bytes after it.
 #[tactic(auto, unfolding(crate::specs::Active::number_at))]
 fn number(text: &[u8], stop: u8, most: u32) -> Option<(u32, &[u8])>
     ensures value { option_map (λ f. (f.0, f.1.now)) result ≡ number_at stop most text.now }
@@ -70,7 +70,7 @@ fn number(text: &[u8], stop: u8, most: u32) -> Option<(u32, &[u8])>
     Some((number_of(word, most)?, rest))
 }
 
-/// Two numbers of two bytes, each before its byte.
+/// Returns two numbers of two bytes, each before its byte.
 #[tactic(auto, unfolding(crate::specs::Active::key_at))]
 fn key(text: &[u8], first: u8, second: u8) -> Option<(Key, &[u8])>
     ensures { option_map (λ f. (f.0, f.1.now)) result ≡ key_at first second text.now }
@@ -84,7 +84,7 @@ fn key(text: &[u8], first: u8, second: u8) -> Option<(Key, &[u8])>
     Some((key, rest))
 }
 
-/// The component and the number of a file's name, up to the word `image`.
+/// Returns the component and the number of a file's name, up to the word `image`.
 #[tactic(auto, unfolding(crate::specs::Active::name_at))]
 pub(crate) fn name(text: &[u8]) -> Option<((Key, u32), &[u8])>
     ensures { option_map (λ f. (f.0, f.1.now)) result ≡ name_at text.now }
@@ -94,7 +94,7 @@ pub(crate) fn name(text: &[u8]) -> Option<((Key, u32), &[u8])>
     Some(((key, number), rest))
 }
 
-/// A label's text, of at most twelve bytes.
+/// Returns a label's text, of at most twelve bytes.
 #[tactic(auto, unfolding(crate::specs::Active::data_in))]
 fn data(word: &[u8]) -> Option<ArrayVec<u8, MAX_TEXT>>
     ensures { option_map (λ v. v.items) result ≡ data_in word.now }
@@ -116,7 +116,7 @@ fn data(word: &[u8]) -> Option<ArrayVec<u8, MAX_TEXT>>
     Some(data)
 }
 
-/// A label, and what stands behind it.
+/// Returns a label, and the bytes after it.
 #[tactic(auto, unfolding(crate::specs::Active::label_at))]
 fn label(text: &[u8]) -> Option<(Label, &[u8])>
     ensures { option_map (λ f. (f.0, f.1.now)) result ≡ label_at text.now }
@@ -132,7 +132,7 @@ fn label(text: &[u8]) -> Option<(Label, &[u8])>
     Some((label, rest))
 }
 
-/// A checksum in eight digits.
+/// Returns a checksum of eight digits.
 #[tactic(auto, unfolding(crate::specs::Active::checksum_in))]
 fn checksum_of(word: &[u8]) -> Option<u32>
     ensures { result ≡ checksum_in word.now }
@@ -144,7 +144,7 @@ fn checksum_of(word: &[u8]) -> Option<u32>
     }
 }
 
-/// A checksum at the end of a line, and what stands behind the line.
+/// Returns a checksum at the end of a line, and the bytes after the line.
 #[tactic(auto, unfolding(crate::specs::Active::checksum_at))]
 fn checksum(text: &[u8]) -> Option<(u32, &[u8])>
     ensures { option_map (λ f. (f.0, f.1.now)) result ≡ checksum_at text.now }
@@ -153,7 +153,7 @@ fn checksum(text: &[u8]) -> Option<(u32, &[u8])>
     Some((checksum_of(word)?, rest))
 }
 
-/// The image of a line, and what stands behind the line.
+/// Returns the image of a line, and the bytes after the line.
 #[tactic(auto, unfolding(crate::specs::Active::entry_at))]
 fn entry(text: &[u8]) -> Option<(ImageEntry, &[u8])>
     ensures { option_map (λ f. (f.0, f.1.now)) result ≡ entry_at text.now }
@@ -174,7 +174,7 @@ fn entry(text: &[u8]) -> Option<(ImageEntry, &[u8])>
     Some((entry, rest))
 }
 
-/// The images of so many lines at most, and no more text.
+/// Returns the images of the text's lines, if there is no more text.
 #[tactic(auto, using(crate::proofs::EachLine::reading))]
 fn entries(alloc: Global, text: &[u8]) -> Result<Option<Vec<ImageEntry>>, AllocError>
     ensures { IfOk result (λ r. option_map (λ v. v.items) r ≡ entries_from (length text.now) text.now) }
@@ -198,10 +198,10 @@ fn entries(alloc: Global, text: &[u8]) -> Result<Option<Vec<ImageEntry>>, AllocE
     }
 }
 
-/// The images that a text says, if it is the text of some.
+/// Returns the images of a text, if it is the text of a list of images.
 ///
 /// # Errors
-/// `AllocError` where memory is refused.
+/// `AllocError` if memory can't be allocated.
 pub fn read_active(alloc: Global, text: &[u8]) -> Result<Option<Vec<ImageEntry>>, AllocError>
     ensures { IfOk result (λ r. option_map (λ v. v.items) r ≡ entries_of text.now) }
 {

@@ -1,4 +1,4 @@
-//! Where the images that run are kept.
+//! The store of active images.
 
 ghost use Rattle.std.specs.Prelude.{◌≡◌, List, OnErr, OnOk, map};
 ghost use Rattle.fw_store.specs.Kept.{KeptOf, kept_after};
@@ -13,14 +13,14 @@ use thiserror::Error;
 #[error("Store")]
 pub struct StoreFault;
 
-/// An image that is to be kept: the component that it is of, its label and its bytes.
+/// An image to keep: its component, its label and its bytes.
 #[derive(Drop)]
 pub struct Kept<'a> {
     /// The component.
     pub key: Key,
-    /// What the image calls itself.
+    /// The image's label.
     pub label: &'a Label,
-    /// Its bytes.
+    /// The image's bytes.
     pub bytes: &'a [u8],
 }
 
@@ -32,14 +32,15 @@ impl<'a> Model for Kept<'a> {
     ghost view = { λ k. record { key = k.key; image = record { label = k.label.now; bytes = k.bytes.now } } };
 }
 
-/// A store of images: of each component it keeps the one that runs, also after a crash at any moment.
+/// A store of images: it keeps the active image of each component, even after a crash at any
+/// moment.
 pub trait Store {
     ghost kept: { Self → List KeptOf };
 
-    /// These images run from now on, each in the place of its component's: wholly or not at all.
+    /// Makes these images active, each replacing that of its component: entirely or not at all.
     ///
     /// # Errors
-    /// They can't be kept. What was kept is kept.
+    /// They can't be kept. The images kept before are still kept.
     fn keep(&mut self, images: &[Kept<'_>]) -> Result<(), StoreFault>
         ensures ok { OnOk result (kept self.new ≡ kept_after (kept self.old) images.now) }
         ensures err { OnErr result (kept self.new ≡ kept self.old) };

@@ -1,4 +1,4 @@
-//! Files that were left in a store's folder.
+//! Unnamed files in a store's folder.
 
 ghost use Rattle.std.specs.Prelude.{◌≡◌, ◌≢◌, IfOk, List, false, true};
 ghost use Rattle.std.specs.List.{AllByRecursion};
@@ -13,7 +13,7 @@ use crate::reading::name as name_at;
 use crate::writing::image_name;
 use std::alloc::{AllocError, Global};
 
-/// Whether a name is one that a store gives its files, but for `active` itself.
+/// Returns whether a name is a store's name for a file, other than `active`.
 #[tactic(auto, unfolding(crate::specs::Opening::is_ours))]
 fn is_ours(alloc: Global, name: &[u8]) -> Result<bool, AllocError>
     ensures { IfOk result (λ b. b ≡ has_our_name name.now) }
@@ -28,7 +28,7 @@ fn is_ours(alloc: Global, name: &[u8]) -> Result<bool, AllocError>
     Ok(written.as_slice() == name)
 }
 
-/// Whether a line names a file.
+/// Returns whether a line names a file.
 fn is_named(alloc: Global, entries: &[ImageEntry], name: &[u8]) -> Result<bool, AllocError>
     ensures { IfOk result (λ b. b ≡ false → AllByRecursion (λ e. name_of e.key e.number ≢ name.now) entries.now) }
 {
@@ -41,7 +41,7 @@ fn is_named(alloc: Global, entries: &[ImageEntry], name: &[u8]) -> Result<bool, 
     Ok(false)
 }
 
-/// Whether a file is one of this store that no line names.
+/// Returns whether a file is one of this store that no line names.
 fn is_stray(alloc: Global, entries: &[ImageEntry], name: &[u8]) -> Result<bool, AllocError>
     ensures { IfOk result (λ b. b ≡ true → IsUnnamedFile entries.now name.now) }
 {
@@ -51,7 +51,8 @@ fn is_stray(alloc: Global, entries: &[ImageEntry], name: &[u8]) -> Result<bool, 
     Ok(!is_named(alloc, entries, name)?)
 }
 
-/// Removes a file where it is one of this store that no line names. It stays where it can't be removed.
+/// Removes a file if it is one of this store that no line names. A file that can't be removed
+/// stays.
 fn sweep_one<F: Folder>(
     alloc: Global,
     folder: &mut F,
@@ -72,7 +73,7 @@ fn sweep_one<F: Folder>(
     Ok(())
 }
 
-/// Removes the files that no line names, among those of these names. One that can't be removed stays.
+/// Removes the files with these names that no line names. A file that can't be removed stays.
 #[tactic(auto, using(crate::proofs::Swept::sweeping))]
 pub(crate) fn sweep<F: Folder>(
     alloc: Global,

@@ -7,11 +7,11 @@ use std::alloc::Global;
 use std::fs::{self, File};
 use std::io::{self, ErrorKind, Read, Write};
 
-/// The files of one folder of the system, of which nothing is known.
+/// The files of one folder of the system; their content isn't known to the proofs.
 ///
-/// A file is written from its start, its bytes are put on the disk, and only then the call ends. A file is renamed by the
-/// system's `rename`, which puts it in the place of the other at once; then the folder is put on the disk. Where only that
-/// fails, the call ends with `Unsure`.
+/// A file is written from its start and its bytes are synced to the disk before the call ends. A
+/// file is renamed by the system's `rename`, which replaces the other file at once; then the folder
+/// is synced. If only that sync fails, the call ends with `Unsure`.
 #[derive(Drop)]
 pub struct SystemFolder<'a> {
     rt: &'a HostRuntime,
@@ -19,10 +19,10 @@ pub struct SystemFolder<'a> {
 }
 
 impl<'a> SystemFolder<'a> {
-    /// The folder of this path. It is made where it isn't there, and so are those above it.
+    /// Returns the folder with this path. Creates it and its parents if they don't exist.
     ///
     /// # Errors
-    /// `FolderFault` where it can't be made.
+    /// `FolderFault` if it can't be created.
     pub fn make(rt: &'a HostRuntime, path: String) -> Result<SystemFolder<'a>, FolderFault> {
         match fs::create_dir_all(rt, path.as_str()) {
             Ok(()) => Ok(SystemFolder { rt, path }),
@@ -30,12 +30,13 @@ impl<'a> SystemFolder<'a> {
         }
     }
 
-    /// The folder of this path, which may not be there: then it has no files, and none can be written.
+    /// Returns the folder with this path, which may not exist: then it has no files, and none can
+    /// be written.
     pub fn at(rt: &'a HostRuntime, path: String) -> SystemFolder<'a> {
         SystemFolder { rt, path }
     }
 
-    /// The path of a file.
+    /// Returns the path of a file.
     fn path_of(&self, name: &[u8]) -> Result<String, FolderFault> {
         let Ok(name) = str::from_utf8(name) else {
             return Err(FolderFault);
@@ -46,20 +47,20 @@ impl<'a> SystemFolder<'a> {
         }
     }
 
-    /// Writes a file and puts it on the disk.
+    /// Writes a file and syncs it to the disk.
     fn write_whole(&self, path: &str, bytes: &[u8]) -> io::Result<()> {
         let mut file = File::create(self.rt, path)?;
         file.write_all(bytes)?;
         file.sync_all()
     }
 
-    /// Puts the folder's names on the disk.
+    /// Syncs the folder's names to the disk.
     fn sync(&self) -> io::Result<()> {
         File::open(self.rt, self.path.as_str())?.sync_all()
     }
 }
 
-/// All bytes of a file.
+/// Reads all bytes of a file.
 fn read_whole(alloc: Global, file: &mut File) -> Result<Vec<u8>, FolderFault> {
     let size = match file.metadata() {
         Ok(found) => usize::try_from(found.len()).unwrap_or(0),
@@ -75,7 +76,7 @@ fn read_whole(alloc: Global, file: &mut File) -> Result<Vec<u8>, FolderFault> {
     }
 }
 
-/// A copy of a name.
+/// Returns a copy of a name.
 fn copied(alloc: Global, name: &str) -> Result<Vec<u8>, FolderFault> {
     let mut bytes = Vec::new(alloc);
     match bytes.extend_from_slice(name.as_bytes()) {

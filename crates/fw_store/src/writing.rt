@@ -51,7 +51,7 @@ fn push_line(alloc: Global, text: &mut Vec<u8>, entry: &ImageEntry) -> Result<()
     Ok(())
 }
 
-/// The lines of these images.
+/// Returns the text of the images' lines.
 #[tactic(auto, using(fw_text::proofs::Chains::telling))]
 fn lines_text(alloc: Global, entries: &[ImageEntry]) -> Result<Vec<u8>, AllocError>
     ensures { IfOk result (λ text. text.items ≡ lines_of entries.now) }
@@ -63,10 +63,11 @@ fn lines_text(alloc: Global, entries: &[ImageEntry]) -> Result<Vec<u8>, AllocErr
     Ok(text)
 }
 
-/// The text of these images: a line each, and one of the lines' CRC-32. `read_active` reads it as exactly these.
+/// Returns the text of the images: one line for each, and one with the lines' CRC-32. `read_active`
+/// reads it as exactly these images.
 ///
 /// # Errors
-/// `AllocError` where memory is refused.
+/// `AllocError` if memory can't be allocated.
 #[tactic(auto, unfolding(crate::specs::Active::lines_with_checksum))]
 pub fn active_text(alloc: Global, entries: &[ImageEntry]) -> Result<Vec<u8>, AllocError>
     ensures { IfOk result (λ text. text.items ≡ text_of entries.now) }
@@ -78,10 +79,10 @@ pub fn active_text(alloc: Global, entries: &[ImageEntry]) -> Result<Vec<u8>, All
     Ok(text)
 }
 
-/// The name of an image's file.
+/// Returns the name of an image's file.
 ///
 /// # Errors
-/// `AllocError` where memory is refused.
+/// `AllocError` if memory can't be allocated.
 pub fn image_name(alloc: Global, key: Key, number: u32) -> Result<Vec<u8>, AllocError>
     ensures { IfOk result (λ text. text.items ≡ name_of key number) }
 {

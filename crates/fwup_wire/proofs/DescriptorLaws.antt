@@ -36,7 +36,7 @@ descriptor_spelled (k0 ∷ k1 ∷ l0 ∷ l1 ∷ rest) d are is =
     spelled_at k0 k1 l0 l1 rest d (nat_le (u16_of l0 l1) (length rest)) refl (are 0) (are 1) (are 2) (are 3) is
 descriptor_spelled bytes d are is = absurd (cc)
 
--- what is written is found again, whatever follows it
+-- an encoded descriptor is read back, with any bytes after it
 read_at : (d : DeviceDescriptorOf) (rest : List ℕ) (size : ℕ) (fits : Bool) → size ≡ length d.bytes
     → nat_le size (length (d.bytes ++ rest)) ≡ fits
     → (if fits then Some (record { kind = d.kind; bytes = take size (d.bytes ++ rest) }) else None) ≡ Some d
@@ -58,12 +58,12 @@ descriptor_skips d rest =
     drop-append-add (d.kind % 256 ∷ d.kind / 256 % 256 ∷ length d.bytes % 256 ∷ length d.bytes / 256 % 256 ∷ []) (d.bytes ++ rest) (length d.bytes)
     ∙ drop-append_seam d.bytes rest
 
--- bytes in which descriptors are found are those as they are written
+-- bytes that read as descriptors are their encoded form
 pub are_descriptors : (count : ℕ) (bytes : List ℕ) → AreBytes bytes → is_some (descriptors_in count bytes) ≡ true
     → AreDescriptors count bytes (unwrap_or (descriptors_in count bytes) [])
 are_descriptors count bytes are e = are_items first_descriptor descriptor_size descriptor_bytes descriptor_spelled count bytes are e
 
--- behind the first are the others
+-- the other descriptors are after the first
 pub descriptors_behind : (count : ℕ) (bytes : List ℕ) (d : DeviceDescriptorOf) (ds : List DeviceDescriptorOf) → (count ≡ 0 → ⊥)
     → first_descriptor bytes ≡ Some d → AreDescriptors count bytes ds
     → AreDescriptors (count - 1) (drop (descriptor_size d) bytes) (unwrap_or (descriptors_in (count - 1) (drop (descriptor_size d) bytes)) [])

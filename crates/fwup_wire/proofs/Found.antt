@@ -1,11 +1,11 @@
--- What reading an answer gives is what the bytes are.
+-- The result of reading an answer is the answer that the bytes are.
 use Rattle.std.proofs.Common.{Bool, IfSome, List, None, Option, Some, [], false, if◌then◌else◌, refl, rules, sym, true, ◌==◌, ◌∷◌, ◌≡◌, ◌≢◌, ℕ}
 use Rattle.std.proofs.lemmas.Bool.{eqb-false, eqb-true}
 use Rattle.fwup_wire.specs.Answers.{IsAnswer, IsSuccess, answer_in, fieldless_answer, is_known, success_in}
 use Rattle.fwup_wire.specs.Laws.{ReadsOnlyAnswers}
 use Rattle.fwup_wire.specs.Values.{AnswerOf}
 
--- what follows the code 0
+-- the fields after the code 0
 only_success : (command : ℕ) (fields : List ℕ) → IfSome (success_in command fields) (λ a. IsSuccess command fields a)
 only_success command fields = search rules
 
@@ -19,7 +19,7 @@ coded : (command : ℕ) (fields : List ℕ) (o : Option AnswerOf) → IfSome o (
 coded command fields None h = tt
 coded command fields (Some a) h = with_code command fields a h
 
--- a refusal, of a known command and with nothing behind the code
+-- a refusal, of a known command and with nothing after the code
 refused : (known : Bool) (command code : ℕ) (fields : List ℕ) → is_known command ≡ known → code ≢ 0
     → IfSome (if known then fieldless_answer (AnswerOf.Refused code) fields else None) (λ a. IsAnswer command (code ∷ fields) a)
 refused true command code [] known other = (known, refl, other, refl)

@@ -8,7 +8,7 @@ is_some-option_map : {A B : Type 0} (f : A → B) (o : Option A) → is_some (op
 is_some-option_map f None = refl
 is_some-option_map f (Some a) = refl
 
--- behind a first item are the others
+-- the other items are after the first item
 pub items_more : {A : Type 0} (first : List ℕ → Option A) (size : A → ℕ) (count i : ℕ) (bytes : List ℕ) (a : A)
     → i < count → first bytes ≡ Some a
     → is_some (items_in first size (count - i) bytes) ≡ is_some (items_in first size (count - (i + 1)) (drop (size a) bytes))
@@ -47,7 +47,7 @@ AreBytes bytes = (k : ℕ) → slice_index bytes k < 256
 pub bytes_behind : (n : ℕ) (bytes : List ℕ) → AreBytes bytes → AreBytes (drop n bytes)
 bytes_behind n bytes are k = rw (get_or-drop n bytes k 0) (are (n + k))
 
--- where a first item stands as it is written, so do all
+-- if the first item is in its encoded form, all items are
 pub items_spelled : {A : Type 0} (first : List ℕ → Option A) (size : A → ℕ) (spelling : A → List ℕ)
     → ((bytes : List ℕ) (a : A) → AreBytes bytes → first bytes ≡ Some a → bytes ≡ spelling a ++ drop (size a) bytes)
     → (count : ℕ) (bytes : List ℕ) (items : List A) → AreBytes bytes → items_in first size count bytes ≡ Some items
@@ -60,7 +60,7 @@ items_spelled first size spelling exact (suc count) bytes items are e =
     let rest = items_spelled first size spelling exact count (drop (size a) bytes) others (bytes_behind (size a) bytes are) others_are in
     exact bytes a are is ∙ ap (λ behind. spelling a ++ behind) rest ∙ ap (items_bytes spelling) (sym same))
 
--- what is written is found again
+-- an encoded list is read back
 pub items_read_back : {A : Type 0} (first : List ℕ → Option A) (size : A → ℕ) (spelling : A → List ℕ) (Fits : A → Type 0)
     → ((a : A) (rest : List ℕ) → Fits a → first (spelling a ++ rest) ≡ Some a)
     → ((a : A) (rest : List ℕ) → drop (size a) (spelling a ++ rest) ≡ rest)
@@ -72,12 +72,12 @@ items_read_back first size spelling Fits reads skips (a ∷ items) fit =
     let others = items_read_back first size spelling Fits reads skips items fit.1 in
     rw (is, behind, others) refl
 
--- what was found is some
+-- a list that was read is some
 found_of : {A : Type 0} (o : Option (List A)) → is_some o ≡ true → o ≡ Some (unwrap_or o [])
 found_of None e = absurd (cc)
 found_of (Some items) e = refl
 
--- bytes in which a list is found are that list as it is written
+-- bytes that read as a list are its encoded form
 pub are_items : {A : Type 0} (first : List ℕ → Option A) (size : A → ℕ) (spelling : A → List ℕ)
     → ((bytes : List ℕ) (a : A) → AreBytes bytes → first bytes ≡ Some a → bytes ≡ spelling a ++ drop (size a) bytes)
     → (count : ℕ) (bytes : List ℕ) → AreBytes bytes → is_some (items_in first size count bytes) ≡ true
@@ -89,7 +89,7 @@ are_items first size spelling exact count bytes are e =
       spelled = items_spelled first size spelling exact count bytes (unwrap_or (items_in first size count bytes) []) are found;
     }
 
--- behind the first item of a list are the others
+-- the other items are after the first item of a list
 pub items_behind : {A : Type 0} (first : List ℕ → Option A) (size : A → ℕ) (spelling : A → List ℕ)
     → ((a : A) (rest : List ℕ) → drop (size a) (spelling a ++ rest) ≡ rest)
     → (count : ℕ) (bytes : List ℕ) (a : A) (items : List A) → (count ≡ 0 → ⊥) → first bytes ≡ Some a
@@ -137,7 +137,7 @@ items_pushed {A} first size spelling Fits reads skips count bytes items a holds 
       fit = each;
     }
 
--- the same of what is found then
+-- the same of the list that is then read
 pub items_kept : {A : Type 0} (first : List ℕ → Option A) (size : A → ℕ) (spelling : A → List ℕ) (Fits : A → Type 0)
     (count : ℕ) (bytes : List ℕ) (items : List A) → HoldsItems first size spelling Fits count bytes items
     → HoldsItems first size spelling Fits count bytes (unwrap_or (items_in first size count bytes) [])

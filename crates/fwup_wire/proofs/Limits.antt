@@ -1,4 +1,4 @@
--- What fits a message at the smallest unit fits one at each.
+-- Data that fit a message at the smallest unit fit one at each.
 use Rattle.std.proofs.Common.{arith, ◌+◌, ◌≤◌, ℕ}
 use Rattle.mctp_wire.specs.declared.unit.Unit.{«Unit»}
 use Rattle.mctp_wire.specs.declared.unit.Unit.TheVariants.{U64, U128}
@@ -9,7 +9,7 @@ pub fits_each : (unit : «Unit») (n : ℕ) → n ≤ reply_limit U64 → n ≤ 
 fits_each U64 n few = few
 fits_each U128 n few = omega (arith, few)
 
--- a piece of an image fits behind a reply's code
+-- a piece of an image fits after a reply's code
 pub piece_fits : (unit : «Unit») (n : ℕ) → n ≤ transfer_size unit → 1 + n ≤ reply_limit unit
 piece_fits U64 n few = omega (arith, few)
 piece_fits U128 n few = omega (arith, few)

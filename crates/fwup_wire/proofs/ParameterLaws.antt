@@ -30,7 +30,7 @@ texts_read_back : (key : Key) (index stamp pending kind kind' : ℕ) (xs ys rest
 texts_read_back key index stamp pending kind kind' xs ys rest =
     rw (append_assoc xs ys rest, first_bytes_seam xs (ys ++ rest), drop-append_seam xs (ys ++ rest), first_bytes_seam ys rest) refl
 
--- what is written is found again, whatever follows it
+-- encoded parameters are read back, with any bytes after them
 pub parameters_read_back : (p : ParametersOf) (rest : List ℕ) → HasParametersWidths p
     → first_parameters (parameters_bytes p ++ rest) ≡ Some p
 parameters_read_back p rest fits =
@@ -86,7 +86,7 @@ byte_2 a b c d f g h = omega arith
 byte_3 : (a b c d : ℕ) → a < 256 → b < 256 → c < 256 → d < 256 → u32_of a b c d / 16777216 % 256 ≡ d
 byte_3 a b c d f g h i = omega arith
 
--- bytes that stand behind others
+-- bytes that come after others
 bytes_in : (n : ℕ) (s t : List ℕ) → t ≡ drop n s → AreBytes s → AreBytes t
 bytes_in n s t is are = rw is (bytes_behind n s are)
 
@@ -100,7 +100,7 @@ made component active pending_stamp pending active_text pending_text =
       pending = record { stamp = pending_stamp; text = record { text_type = pending.0; bytes = pending_text } };
     }
 
--- each part stands as it is written
+-- each part is in its encoded form
 component_exact : (bytes : List ℕ) (c : Key × ℕ × ℕ) → AreBytes bytes → first_component bytes ≡ Some c
     → bytes ≡ component_bytes c.0 c.1 c.2 ++ drop 9 bytes
 component_exact (c0 ∷ c1 ∷ i0 ∷ i1 ∷ index ∷ s0 ∷ s1 ∷ s2 ∷ s3 ∷ rest) c are is =
@@ -182,12 +182,12 @@ parameters_spelled s p are is =
     ∙ ap (λ r. parameters_bytes (made component active pending_stamp pending active_text pending_text) ++ r)
     (parameters_skipped s active.1 pending.1 (length active_text) (length pending_text) texts.1 others.1)))))))))
 
--- bytes in which components are found are those as they are written
+-- bytes that read as components are their encoded form
 pub are_parameters : (count : ℕ) (bytes : List ℕ) → AreBytes bytes → is_some (parameters_in count bytes) ≡ true
     → AreParameters count bytes (unwrap_or (parameters_in count bytes) [])
 are_parameters count bytes are e = are_items first_parameters parameters_size parameters_bytes parameters_spelled count bytes are e
 
--- behind the first are the others
+-- the other components are after the first
 pub parameters_behind : (count : ℕ) (bytes : List ℕ) (p : ParametersOf) (ps : List ParametersOf) → (count ≡ 0 → ⊥)
     → first_parameters bytes ≡ Some p → AreParameters count bytes ps
     → AreParameters (count - 1) (drop (parameters_size p) bytes) (unwrap_or (parameters_in (count - 1) (drop (parameters_size p) bytes)) [])

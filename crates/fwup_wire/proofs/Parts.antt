@@ -1,8 +1,8 @@
--- Parts of a message, one behind the other.
+-- Consecutive parts of a message.
 use Rattle.std.proofs.Common.{List, ap, arith, drop, ◌+◌, ◌∙◌, ◌≡◌, ℕ}
 use Rattle.std.proofs.lemmas.List.{drop-drop}
 
--- what is left behind the fixed part of a component's parameters
+-- the bytes after the fixed part of a component's parameters
 pub fixed_skipped : (s : List ℕ) → drop 6 (drop 10 (drop 4 (drop 10 (drop 9 s)))) ≡ drop 39 s
 fixed_skipped s =
     let after_head : drop 10 (drop 9 s) ≡ drop 19 s = drop-drop 10 9 s in
@@ -10,7 +10,7 @@ fixed_skipped s =
     let after_pending : drop 10 (drop 4 (drop 10 (drop 9 s))) ≡ drop 33 s = ap (drop 10) after_stamp ∙ drop-drop 10 23 s in
     ap (drop 6) after_pending ∙ drop-drop 6 33 s
 
--- and behind its texts
+-- the bytes after its texts
 pub parameters_skipped : (s : List ℕ) (active pending a p : ℕ) → a ≡ active → p ≡ pending
     → drop pending (drop active (drop 6 (drop 10 (drop 4 (drop 10 (drop 9 s)))))) ≡ drop (39 + (a + p)) s
 parameters_skipped s active pending a p is_active is_pending =

@@ -1,4 +1,4 @@
--- What is written reads back, at a command that equals a written one.
+-- An encoded command reads back, for a command that equals it.
 use Rattle.std.proofs.Common.{Ok, ◌≡◌, rules}
 use Rattle.fwup_wire.specs.Commands.{HasCommandWidths, IsCommand, IsWritable, command_bytes, command_code, command_read}
 use Rattle.fwup_wire.specs.Values.{CommandOf}

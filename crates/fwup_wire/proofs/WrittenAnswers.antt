@@ -1,4 +1,4 @@
--- What is written of an answer reads back.
+-- An encoded answer reads back.
 use Rattle.std.proofs.Common.{List, Some, [], arith, eq-eqb, length, refl, rules, ◌^◌, true, ◌<◌, ◌==◌, ◌≡◌}
 use Rattle.std.proofs.lemmas.Bool.{eqb-true}
 use Rattle.byteorder.specs.Numbers.{little_number-reads_back}
@@ -27,7 +27,7 @@ parameters_back ps each few =
     let found = items_read_back first_parameters parameters_size parameters_bytes HasParametersWidths parameters_read_back parameters_skip ps each in
     rw (count, found) refl
 
--- the same where the list is known to be found
+-- the same if the list is known to be read
 pub parameters_known : (ps : List ParametersOf) → length ps < 65536
     → parameters_in (length ps) (all_parameters_bytes ps) ≡ Some ps
     → answer_in 2 (answer_bytes (AnswerOf.GetFirmwareParameters ps)) ≡ Some (AnswerOf.GetFirmwareParameters ps)

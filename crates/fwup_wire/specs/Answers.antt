@@ -1,4 +1,4 @@
--- The answers of DSP0267 1.0: which bytes are one, what reading gives, and how they are written.
+-- The answers of DSP0267 1.0: the bytes of an answer, the result of reading, and the encoded form.
 use Rattle.std.specs.Prelude.{[], ◌%◌, ◌++◌, ◌<◌, ◌==◌, ◌&&◌, ◌^◌, ◌∷◌, ◌≡◌, ◌≢◌, ◌≤◌, Bool, Err, List, None, Ok, Option, Result, Some, if◌then◌else◌, length, option_map, replicate, true, ℕ}
 use Rattle.std.specs.List.{list_any}
 use Rattle.byteorder.specs.Endian.{little_bytes}
@@ -13,7 +13,7 @@ use Rattle.fwup_wire.specs.declared.answer.Malformed.{Malformed}
 use Rattle.fwup_wire.specs.declared.answer.OfferResponse.{OfferResponse}
 use Rattle.fwup_wire.specs.declared.answer.Status.{Status}
 
--- the commands of PLDM type 5 that are here
+-- the commands of PLDM type 5 that this crate knows
 abbrev pub known_commands : List ℕ
 known_commands =
     0x01 ∷ 0x02 ∷ 0x10 ∷ 0x13 ∷ 0x14 ∷ 0x15 ∷ 0x16 ∷ 0x17 ∷ 0x18 ∷ 0x1A ∷ 0x1B ∷ 0x1C ∷ 0x1D ∷ []
@@ -26,49 +26,53 @@ abbrev pub answer_code : AnswerOf → ℕ
 answer_code (AnswerOf.Refused code) = code
 answer_code _ = 0
 
--- After the code of QueryDeviceIdentifiers: how many bytes and how many descriptors follow, and they.
+-- After the code of QueryDeviceIdentifiers: the number of bytes, the number of descriptors, and the
+-- descriptors.
 abbrev pub IsIdentifiers : List ℕ → List DeviceDescriptorOf → Type 0
 IsIdentifiers (l0 ∷ l1 ∷ l2 ∷ l3 ∷ count ∷ rest) ds =
     (u32_of l0 l1 l2 l3 ≡ length rest) × (descriptors_in count rest ≡ Some ds)
 IsIdentifiers _ ds = ⊥
 
--- After that of GetFirmwareParameters: capabilities, 0; how many components follow; the heads of the texts of the active
--- and the pending component image set, of type 0 and length 0; and the components.
+-- After the code of GetFirmwareParameters: capabilities, 0; the number of components; the heads of
+-- the texts of the active and the pending component image set, of type 0 and length 0; and the
+-- components.
 abbrev pub IsParameters : List ℕ → List ParametersOf → Type 0
 IsParameters (c0 ∷ c1 ∷ c2 ∷ c3 ∷ n0 ∷ n1 ∷ a0 ∷ a1 ∷ p0 ∷ p1 ∷ rest) ps =
     (c0 ≡ 0) × (c1 ≡ 0) × (c2 ≡ 0) × (c3 ≡ 0) × (a0 ≡ 0) × (a1 ≡ 0) × (p0 ≡ 0) × (p1 ≡ 0)
     × (parameters_in (u16_of n0 n1) rest ≡ Some ps)
 IsParameters _ ps = ⊥
 
--- After the code of RequestUpdate: the length of the device's metadata, 0, and whether it wants package data, 0.
+-- After the code of RequestUpdate: the length of the device's metadata, 0, and whether it requests
+-- package data, 0.
 abbrev pub no_metadata : List ℕ
 no_metadata = replicate 3 0
 
--- After that of CancelUpdate: whether components don't work, 0, and the bits of those, eight bytes 0.
+-- After the code of CancelUpdate: whether components don't work, 0, and their bits, eight bytes 0.
 abbrev pub all_components_work : List ℕ
 all_components_work = replicate 9 0
 
--- After the code of UpdateComponent: compatibility, its code, flags, time. Bit 0 of the flags is force; the others are
--- reserved and may hold anything.
+-- After the code of UpdateComponent: compatibility, its code, flags, time. Bit 0 of the flags is
+-- force; the others are reserved and may hold anything.
 abbrev pub IsOfferResponse : List ℕ → OfferResponse → Type 0
 IsOfferResponse (compatibility ∷ code ∷ f0 ∷ f1 ∷ f2 ∷ f3 ∷ t0 ∷ t1 ∷ []) r =
     (compatibility ≡ r.compatibility) × (code ≡ r.code) × (((u32_of f0 f1 f2 f3 % 2) == 1) ≡ r.force)
     × (u16_of t0 t1 ≡ r.time)
 IsOfferResponse _ r = ⊥
 
--- After that of GetStatus: state, previous state, aux, its status, progress, reason, flags as above.
+-- After the code of GetStatus: state, previous state, aux, its status, progress, reason, flags as
+-- above.
 abbrev pub IsStatus : List ℕ → Status → Type 0
 IsStatus (state ∷ previous ∷ aux ∷ aux_status ∷ progress ∷ reason ∷ f0 ∷ f1 ∷ f2 ∷ f3 ∷ []) s =
     (state ≡ s.state) × (previous ≡ s.previous) × (aux ≡ s.aux) × (aux_status ≡ s.aux_status)
     × (progress ≡ s.progress) × (reason ≡ s.reason) × (((u32_of f0 f1 f2 f3 % 2) == 1) ≡ s.force)
 IsStatus _ s = ⊥
 
--- After that of ActivateFirmware: the time.
+-- After the code of ActivateFirmware: the time.
 abbrev pub IsTime : List ℕ → ℕ → Type 0
 IsTime (t0 ∷ t1 ∷ []) time = u16_of t0 t1 ≡ time
 IsTime _ time = ⊥
 
--- What follows the code 0 in an answer to this command is this answer.
+-- The fields after the code 0 in an answer to this command are this answer.
 abbrev pub IsSuccess : ℕ → List ℕ → AnswerOf → Type 0
 IsSuccess command fields (AnswerOf.Refused code) = ⊥
 IsSuccess command fields (AnswerOf.QueryDeviceIdentifiers ds) = (command ≡ 0x01) × IsIdentifiers fields ds
@@ -85,7 +89,7 @@ IsSuccess command fields (AnswerOf.GetStatus status) = (command ≡ 0x1B) × IsS
 IsSuccess command fields AnswerOf.CancelUpdateComponent = (command ≡ 0x1C) × (fields ≡ [])
 IsSuccess command fields AnswerOf.CancelUpdate = (command ≡ 0x1D) × (fields ≡ all_components_work)
 
--- The bytes are this answer to this command. One with another code than 0 ends at the code.
+-- The bytes are this answer to this command. An answer with another code than 0 has no fields.
 abbrev pub IsAnswer : ℕ → List ℕ → AnswerOf → Type 0
 IsAnswer command [] a = ⊥
 IsAnswer command (code ∷ fields) (AnswerOf.Refused refusal) =
@@ -158,7 +162,7 @@ update_cancelled_in (broken ∷ b0 ∷ b1 ∷ b2 ∷ b3 ∷ b4 ∷ b5 ∷ b6 ∷
     else None
 update_cancelled_in _ = None
 
--- what reading gives of what follows the code 0
+-- the result of reading the fields after the code 0
 abbrev pub success_in : ℕ → List ℕ → Option AnswerOf
 success_in command fields =
     if command == 0x01 then identifiers_in fields
@@ -180,7 +184,7 @@ abbrev pub ok_or_malformed : Option AnswerOf → Result AnswerOf Malformed
 ok_or_malformed None = Err (record {})
 ok_or_malformed (Some a) = Ok a
 
--- what reading gives: the answer, or none where the bytes are malformed
+-- the result of reading: the answer, or none if the bytes are malformed
 abbrev pub answer_in : ℕ → List ℕ → Option AnswerOf
 answer_in command [] = None
 answer_in command (code ∷ fields) =
@@ -192,7 +196,7 @@ answer_in command (code ∷ fields) =
 abbrev pub answer_read : ℕ → List ℕ → Result AnswerOf Malformed
 answer_read command bytes = ok_or_malformed (answer_in command bytes)
 
--- how what follows the code is written: reserved bits are 0
+-- the encoded fields after the code: reserved bits are 0
 abbrev pub success_bytes : AnswerOf → List ℕ
 success_bytes (AnswerOf.QueryDeviceIdentifiers ds) =
     little_bytes 4 (length (descriptors_bytes ds)) ++ length ds ∷ descriptors_bytes ds
@@ -209,7 +213,7 @@ success_bytes (AnswerOf.GetStatus s) =
 success_bytes AnswerOf.CancelUpdate = all_components_work
 success_bytes _ = []
 
--- how an answer is written: its code, and what follows it
+-- the encoded answer: its code, and the fields after it
 abbrev pub answer_bytes : AnswerOf → List ℕ
 answer_bytes a = answer_code a ∷ success_bytes a
 
@@ -226,7 +230,7 @@ HasAnswerWidths (AnswerOf.UpdateComponent r) = r.time < 256 ^ 2
 HasAnswerWidths (AnswerOf.ActivateFirmware time) = time < 256 ^ 2
 HasAnswerWidths a = Unit {0}
 
--- whether an answer can be one to this command: a refusal to each
+-- whether the answer is possible for this command: a refusal is for each
 abbrev pub answers_command : ℕ → AnswerOf → Bool
 answers_command command (AnswerOf.Refused code) = is_known command
 answers_command command (AnswerOf.QueryDeviceIdentifiers _) = command == 0x01

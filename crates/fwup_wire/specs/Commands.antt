@@ -1,4 +1,4 @@
--- The commands of DSP0267 1.0: which bytes are one, what reading gives, and how they are written.
+-- The commands of DSP0267 1.0: the bytes of a command, the result of reading, and the encoded form.
 use Rattle.std.specs.Prelude.{[], ◌%◌, ◌++◌, ◌^◌, ◌<◌, ◌==◌, ◌∷◌, ◌≡◌, ◌≤◌, Err, List, None, Ok, Option, Result, Some, false, if◌then◌else◌, length, nat_le, true, ◌&&◌, Bool, ℕ}
 use Rattle.std.specs.Option.{option_map}
 use Rattle.byteorder.specs.Endian.{little_bytes}
@@ -26,7 +26,8 @@ command_code CommandOf.GetStatus = 0x1B
 command_code CommandOf.CancelUpdateComponent = 0x1C
 command_code CommandOf.CancelUpdate = 0x1D
 
--- The request data of RequestUpdate: transfer size, components, outstanding requests, package data length, text.
+-- The request data of RequestUpdate: transfer size, components, outstanding requests, package data
+-- length, text.
 abbrev pub IsRequest : List ℕ → UpdateRequestOf → Type 0
 IsRequest (t0 ∷ t1 ∷ t2 ∷ t3 ∷ c0 ∷ c1 ∷ outstanding ∷ p0 ∷ p1 ∷ text) r =
     (u32_of t0 t1 t2 t3 ≡ r.transfer_size) × (u16_of c0 c1 ≡ r.components) × (outstanding ≡ r.outstanding)
@@ -40,8 +41,8 @@ IsEntry (flag ∷ c0 ∷ c1 ∷ i0 ∷ i1 ∷ index ∷ s0 ∷ s1 ∷ s2 ∷ s3 
     × (index ≡ e.index) × (u32_of s0 s1 s2 s3 ≡ e.version.stamp) × IsText text e.version.text
 IsEntry _ e = ⊥
 
--- Of UpdateComponent: classification, identifier, index, comparison stamp, image size, options, text. Bit 0 of the
--- options is force; the others are reserved and may hold anything.
+-- Of UpdateComponent: classification, identifier, index, comparison stamp, image size, options,
+-- text. Bit 0 of the options is force; the others are reserved and may hold anything.
 abbrev pub IsOffer : List ℕ → OfferOf → Type 0
 IsOffer (c0 ∷ c1 ∷ i0 ∷ i1 ∷ index ∷ s0 ∷ s1 ∷ s2 ∷ s3 ∷ z0 ∷ z1 ∷ z2 ∷ z3 ∷ o0 ∷ o1 ∷ o2 ∷ o3 ∷ text) o =
     (u16_of c0 c1 ≡ o.key.classification) × (u16_of i0 i1 ≡ o.key.identifier) × (index ≡ o.index)
@@ -79,7 +80,7 @@ IsCommand command fields CommandOf.GetStatus = (command ≡ 0x1B) × (fields ≡
 IsCommand command fields CommandOf.CancelUpdateComponent = (command ≡ 0x1C) × (fields ≡ [])
 IsCommand command fields CommandOf.CancelUpdate = (command ≡ 0x1D) × (fields ≡ [])
 
--- what reading gives where only the length can be wrong
+-- the result of reading if only the length can be wrong
 abbrev pub of_length : Option CommandOf → Result CommandOf ℕ
 of_length None = Err invalid_length
 of_length (Some c) = Ok c
@@ -89,7 +90,7 @@ abbrev pub alone : List ℕ → CommandOf → Result CommandOf ℕ
 alone [] c = Ok c
 alone (_ ∷ _) c = Err invalid_length
 
--- the request data of RequestUpdate, if these are
+-- the request data of RequestUpdate, if the bytes are these
 abbrev pub request_in : List ℕ → Option UpdateRequestOf
 request_in (t0 ∷ t1 ∷ t2 ∷ t3 ∷ c0 ∷ c1 ∷ outstanding ∷ p0 ∷ p1 ∷ text) =
     option_map (λ image_set. record {
@@ -101,7 +102,7 @@ request_in (t0 ∷ t1 ∷ t2 ∷ t3 ∷ c0 ∷ c1 ∷ outstanding ∷ p0 ∷ p1 
     }) (last_text text)
 request_in _ = None
 
--- of PassComponentTable, whose flag is looked at after the length
+-- of PassComponentTable, whose flag is checked after the length
 abbrev pub entry_with : Option TransferFlag → Key → ℕ → ℕ → Option TypedTextOf → Result CommandOf ℕ
 entry_with flag key index stamp None = Err invalid_length
 entry_with None key index stamp (Some text) = Err invalid_data
@@ -152,7 +153,8 @@ activation_read (byte ∷ []) =
     else Err invalid_data
 activation_read _ = Err invalid_length
 
--- What reading gives: the command, or the first refusal. An unknown command comes first, then the length, then a field.
+-- The result of reading: the command, or the first refusal. An unknown command comes first, then
+-- the length, then a field.
 abbrev pub command_read : ℕ → List ℕ → Result CommandOf ℕ
 command_read command fields =
     if command == 0x01 then alone fields CommandOf.QueryDeviceIdentifiers
@@ -170,7 +172,7 @@ command_read command fields =
     else if command == 0x1D then alone fields CommandOf.CancelUpdate
     else Err unsupported_command
 
--- how request data are written: reserved bits are 0
+-- the encoded request data: reserved bits are 0
 abbrev pub command_bytes : CommandOf → List ℕ
 command_bytes (CommandOf.RequestUpdate r) =
     little_bytes 4 r.transfer_size ++ little_bytes 2 r.components ++ r.outstanding ∷ little_bytes 2 r.package_data_length
@@ -191,7 +193,8 @@ command_bytes CommandOf.GetStatus = []
 command_bytes CommandOf.CancelUpdateComponent = []
 command_bytes CommandOf.CancelUpdate = []
 
--- the most bytes of request data: what a message holds at the smallest unit, so that a command goes over each network
+-- the most bytes of request data: the bytes of a message at the smallest unit, so that a command
+-- can be sent over each network
 abbrev pub command_limit : ℕ
 command_limit = reply_limit U64
 
@@ -209,11 +212,12 @@ HasCommandWidths (CommandOf.RequestFirmwareData offset size) = (offset < 256 ^ 4
 HasCommandWidths (CommandOf.ApplyComplete result methods) = methods < 256 ^ 2
 HasCommandWidths c = Unit {0}
 
--- what can be said: it can be written, and each number fits its field
+-- facts about a command that round-trips: it can be encoded, and each number fits its field
 pub record CommandRoundTrips (c : CommandOf) : Type 0 where
   pub writable : IsWritable c
   pub widths : HasCommandWidths c
 
--- the commands that go from a device to its agent: RequestFirmwareData, TransferComplete, VerifyComplete, ApplyComplete
+-- the commands that go from a device to its agent: RequestFirmwareData, TransferComplete,
+-- VerifyComplete, ApplyComplete
 abbrev pub is_asked_of_agent : ℕ → Bool
 is_asked_of_agent command = nat_le 0x15 command && nat_le command 0x18

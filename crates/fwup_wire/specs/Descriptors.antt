@@ -1,11 +1,12 @@
--- The descriptors of a device (DSP0267 1.0, "Descriptor definition"): each has a type, a length and its data.
+-- The descriptors of a device (DSP0267 1.0, "Descriptor definition"): each has a type, a length and
+-- its data.
 use Rattle.std.specs.Prelude.{List, None, Option, Some, if◌then◌else◌, length, nat_le, take, ◌+◌, ◌++◌, ◌∷◌, ◌<◌, ◌^◌, ℕ}
 use Rattle.byteorder.specs.Endian.{little_bytes}
 use Rattle.fwup_wire.specs.Fields.{u16_of}
 use Rattle.fwup_wire.specs.Items.{AreItems, HoldsItems, items_bytes, items_in}
 use Rattle.fwup_wire.specs.Values.{DeviceDescriptorOf}
 
--- the descriptor that bytes begin with, if they do
+-- the descriptor at the beginning of the bytes, if there is one
 abbrev pub first_descriptor : List ℕ → Option DeviceDescriptorOf
 first_descriptor (k0 ∷ k1 ∷ l0 ∷ l1 ∷ rest) =
     if nat_le (u16_of l0 l1) (length rest)
@@ -13,15 +14,15 @@ first_descriptor (k0 ∷ k1 ∷ l0 ∷ l1 ∷ rest) =
     else None
 first_descriptor _ = None
 
--- how many bytes it has
+-- the number of its bytes
 abbrev pub descriptor_size : DeviceDescriptorOf → ℕ
 descriptor_size d = 4 + length d.bytes
 
--- so many descriptors and nothing behind them, if the bytes are that
+-- `count` descriptors and nothing after them, if the bytes are that
 abbrev pub descriptors_in : ℕ → List ℕ → Option (List DeviceDescriptorOf)
 descriptors_in count bytes = items_in first_descriptor descriptor_size count bytes
 
--- how a descriptor is written, and a list of them
+-- the encoded form of a descriptor, and of a list of descriptors
 abbrev pub descriptor_bytes : DeviceDescriptorOf → List ℕ
 descriptor_bytes d = little_bytes 2 d.kind ++ little_bytes 2 (length d.bytes) ++ d.bytes
 
@@ -32,11 +33,12 @@ descriptors_bytes ds = items_bytes descriptor_bytes ds
 abbrev pub HasDescriptorWidths : DeviceDescriptorOf → Type 0
 HasDescriptorWidths d = (d.kind < 256 ^ 2) × (length d.bytes < 256 ^ 2)
 
--- The bytes are so many descriptors, these, as they are written.
+-- The bytes are the given number of descriptors in their encoded form, and these are the
+-- descriptors.
 abbrev pub AreDescriptors : ℕ → List ℕ → List DeviceDescriptorOf → Type 0
 AreDescriptors count bytes ds = AreItems first_descriptor descriptor_size descriptor_bytes count bytes ds
 
--- the same of a list that is put together: its descriptors fit their fields
+-- the same of a list that is built: its descriptors fit their fields
 abbrev pub HoldsDescriptors : ℕ → List ℕ → List DeviceDescriptorOf → Type 0
 HoldsDescriptors count bytes ds =
     HoldsItems first_descriptor descriptor_size descriptor_bytes HasDescriptorWidths count bytes ds

@@ -1,4 +1,4 @@
--- The fields that messages are made of. Integers are little-endian.
+-- The fields of messages. Integers are little-endian.
 use Rattle.std.specs.Prelude.{nat_le, take, [], ◌++◌, ◌==◌, ◌∷◌, ◌≡◌, Bool, List, None, Option, false, true, ◌<◌, ◌^◌, Some, if◌then◌else◌, length, ℕ}
 use Rattle.byteorder.specs.Endian.{little_bytes, little_number}
 use Rattle.fwup_wire.specs.Values.{TypedTextOf}
@@ -19,7 +19,7 @@ abbrev pub bit : Bool → ℕ
 bit true = 1
 bit false = 0
 
--- where an entry stands in the component table
+-- the place of an entry in the component table
 abbrev pub flag_byte : TransferFlag → ℕ
 flag_byte flags.Start = 1
 flag_byte flags.Middle = 2
@@ -34,7 +34,7 @@ flag_of byte =
     else if byte == 5 then Some flags.StartAndEnd
     else None
 
--- the field that bytes begin with, if they have it
+-- the field at the beginning of the bytes, if they have it
 abbrev pub first_byte : List ℕ → Option ℕ
 first_byte (a ∷ _) = Some a
 first_byte _ = None
@@ -56,7 +56,7 @@ first_component (c0 ∷ c1 ∷ i0 ∷ i1 ∷ index ∷ s0 ∷ s1 ∷ s2 ∷ s3 �
     Some (record { classification = u16_of c0 c1; identifier = u16_of i0 i1 }, index, u32_of s0 s1 s2 s3)
 first_component _ = None
 
--- the first so many bytes, if there are as many
+-- the first bytes of the given number, if there are as many
 abbrev pub first_bytes : ℕ → List ℕ → Option (List ℕ)
 first_bytes count bytes = if nat_le count (length bytes) then Some (take count bytes) else None
 
@@ -65,17 +65,17 @@ abbrev pub IsText : List ℕ → TypedTextOf → Type 0
 IsText (text_type ∷ size ∷ bytes) t = (text_type ≡ t.text_type) × (size ≡ length bytes) × (bytes ≡ t.bytes)
 IsText _ t = ⊥
 
--- the text that the bytes are
+-- the text with these bytes
 abbrev pub last_text : List ℕ → Option TypedTextOf
 last_text (text_type ∷ size ∷ bytes) =
     if size == length bytes then Some (record { text_type = text_type; bytes = bytes }) else None
 last_text _ = None
 
--- how a text is written
+-- the encoded form of a text
 abbrev pub text_bytes : TypedTextOf → List ℕ
 text_bytes t = t.text_type ∷ length t.bytes ∷ t.bytes
 
--- how key, index and comparison stamp are written
+-- the encoded form of key, index and comparison stamp
 abbrev pub component_bytes : Key → ℕ → ℕ → List ℕ
 component_bytes key index stamp =
     little_bytes 2 key.classification ++ little_bytes 2 key.identifier ++ index ∷ little_bytes 4 stamp

@@ -1,4 +1,4 @@
--- The values of commands and answers whose texts and data are lent.
+-- The values of commands and answers whose texts and data are borrowed.
 use Rattle.fwup_wire.specs.Values.{AnswerOf, CommandOf, DeviceDescriptorOf, TableEntryOf, OfferOf, ParametersOf, UpdateRequestOf, TypedTextOf, VersionOf}
 use Rattle.fwup_wire.specs.declared.answer.Answer.{Answer}
 use Rattle.fwup_wire.specs.declared.answer.Answer.TheVariants as answers

@@ -1,4 +1,4 @@
--- What a device tells of its components (DSP0267 1.0, "ComponentParameterTable").
+-- A device's parameters of its components (DSP0267 1.0, "ComponentParameterTable").
 use Rattle.std.specs.Prelude.{Bool, List, None, Option, Some, drop, false, if◌then◌else◌, length, replicate, ◌&&◌, ◌+◌, ◌++◌, ◌<◌, ◌==◌, ◌^◌, ◌∷◌, ℕ}
 use Rattle.byteorder.specs.Endian.{little_bytes}
 use Rattle.fwup_wire.specs.Fields.{HasComponentWidths, component_bytes, first_bytes, first_component, first_u32}
@@ -6,7 +6,8 @@ use Rattle.fwup_wire.specs.Items.{AreItems, HoldsItems, items_bytes, items_in}
 use Rattle.fwup_wire.specs.declared.values.Key.{Key}
 use Rattle.fwup_wire.specs.Values.{ParametersOf, TypedTextOf}
 
--- A text's type and its length, and a release date that isn't set, eight bytes 0. The text's bytes come later.
+-- A text's type and its length, and a release date that isn't set, eight bytes 0. The text's bytes
+-- come later.
 abbrev pub first_text_head : List ℕ → Option (ℕ × ℕ)
 first_text_head (text_type ∷ size ∷ d0 ∷ d1 ∷ d2 ∷ d3 ∷ d4 ∷ d5 ∷ d6 ∷ d7 ∷ _) =
     if (d0 == 0) && (d1 == 0) && (d2 == 0) && (d3 == 0) && (d4 == 0) && (d5 == 0) && (d6 == 0) && (d7 == 0)
@@ -14,13 +15,14 @@ first_text_head (text_type ∷ size ∷ d0 ∷ d1 ∷ d2 ∷ d3 ∷ d4 ∷ d5 �
     else None
 first_text_head _ = None
 
--- Activation methods: 2, self-contained, in two bytes. Capabilities during the update: none, in four bytes.
+-- Activation methods: 2, self-contained, in two bytes. Capabilities during the update: none, in
+-- four bytes.
 abbrev pub has_methods : List ℕ → Bool
 has_methods (m0 ∷ m1 ∷ c0 ∷ c1 ∷ c2 ∷ c3 ∷ _) =
     (m0 == 2) && (m1 == 0) && (c0 == 0) && (c1 == 0) && (c2 == 0) && (c3 == 0)
 has_methods _ = false
 
--- a part that may be missing, and what is made of it
+-- a part that may be missing, and a function on it
 abbrev pub with_part : {A B : Type 0} → Option A → (A → Option B) → Option B
 with_part None make = None
 with_part (Some a) make = make a
@@ -37,8 +39,9 @@ with_texts key index active_stamp active pending_stamp pending bytes =
       pending = record { stamp = pending_stamp; text = record { text_type = pending.0; bytes = pending_text } };
     })))
 
--- The parameters of the component that bytes begin with, if they do: key, index, active stamp, head of the active text,
--- pending stamp, head of the pending text, methods and capabilities, then both texts.
+-- The parameters of the component at the beginning of the bytes, if there are such: key, index,
+-- active stamp, head of the active text, pending stamp, head of the pending text, methods and
+-- capabilities, then both texts.
 abbrev pub first_parameters : List ℕ → Option ParametersOf
 first_parameters bytes =
     let after_active_stamp = drop 9 bytes in
@@ -53,15 +56,15 @@ first_parameters bytes =
     then with_texts component.0 component.1 component.2 active pending_stamp pending (drop 6 after_pending_head)
     else None))))
 
--- how many bytes they have: 39 and the texts
+-- the number of their bytes: 39 and the texts
 abbrev pub parameters_size : ParametersOf → ℕ
 parameters_size p = 39 + (length p.active.text.bytes + length p.pending.text.bytes)
 
--- so many components and nothing behind them, if the bytes are that
+-- `count` components and nothing after them, if the bytes are that
 abbrev pub parameters_in : ℕ → List ℕ → Option (List ParametersOf)
 parameters_in count bytes = items_in first_parameters parameters_size count bytes
 
--- how the parameters of a component are written, and a list of them
+-- the encoded form of the parameters of a component, and of a list of them
 abbrev pub text_head_bytes : TypedTextOf → List ℕ
 text_head_bytes t = t.text_type ∷ length t.bytes ∷ replicate 8 0
 
@@ -79,10 +82,10 @@ HasParametersWidths p =
     HasComponentWidths p.key p.active.stamp × (p.pending.stamp < 256 ^ 4) × (length p.active.text.bytes < 256)
     × (length p.pending.text.bytes < 256)
 
--- The bytes are so many components, these, as they are written.
+-- The bytes are the given number of components in their encoded form, and these are the components.
 abbrev pub AreParameters : ℕ → List ℕ → List ParametersOf → Type 0
 AreParameters count bytes ps = AreItems first_parameters parameters_size parameters_bytes count bytes ps
 
--- the same of a list that is put together: its components fit their fields
+-- the same of a list that is built: its components fit their fields
 abbrev pub HoldsParameters : ℕ → List ℕ → List ParametersOf → Type 0
 HoldsParameters count bytes ps = HoldsItems first_parameters parameters_size parameters_bytes HasParametersWidths count bytes ps

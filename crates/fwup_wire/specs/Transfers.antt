@@ -1,4 +1,4 @@
--- How many bytes of an image go at once.
+-- The number of bytes of an image that are sent at once.
 use Rattle.std.specs.Prelude.{◌*◌, ◌-◌, ◌/◌, ℕ}
 use Rattle.mctp_wire.specs.declared.unit.Unit.{«Unit»}
 use Rattle.pldm_base.specs.Limits.{reply_limit}

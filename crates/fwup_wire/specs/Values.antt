@@ -1,4 +1,4 @@
--- Commands and answers as values, without the messages that their texts are lent from.
+-- Commands and answers as values, independent of the messages that their texts are borrowed from.
 use Rattle.std.specs.Prelude.{Bool, List, ℕ}
 use Rattle.fwup_wire.specs.declared.answer.OfferResponse.{OfferResponse}
 use Rattle.fwup_wire.specs.declared.answer.Status.{Status}
@@ -11,7 +11,7 @@ pub record TypedTextOf : Type 0 where
   pub text_type : ℕ
   pub bytes : List ℕ
 
--- what an image calls itself
+-- the version of an image
 pub record VersionOf : Type 0 where
   pub stamp : ℕ
   pub text : TypedTextOf
@@ -21,14 +21,14 @@ pub record DeviceDescriptorOf : Type 0 where
   pub kind : ℕ
   pub bytes : List ℕ
 
--- what a device tells of one of its components
+-- a device's parameters of one of its components
 pub record ParametersOf : Type 0 where
   pub key : Key
   pub index : ℕ
   pub active : VersionOf
   pub pending : VersionOf
 
--- what RequestUpdate says
+-- the request data of RequestUpdate
 pub record UpdateRequestOf : Type 0 where
   pub transfer_size : ℕ
   pub components : ℕ
@@ -36,14 +36,14 @@ pub record UpdateRequestOf : Type 0 where
   pub package_data_length : ℕ
   pub image_set : TypedTextOf
 
--- what PassComponentTable says
+-- the request data of PassComponentTable
 pub record TableEntryOf : Type 0 where
   pub flag : TransferFlag
   pub key : Key
   pub index : ℕ
   pub version : VersionOf
 
--- what UpdateComponent says
+-- the request data of UpdateComponent
 pub record OfferOf : Type 0 where
   pub key : Key
   pub index : ℕ
@@ -67,7 +67,7 @@ pub data CommandOf : Type 0 where
   CancelUpdateComponent : CommandOf
   CancelUpdate : CommandOf
 
--- an answer: a refusal by its completion code, or what follows the code 0
+-- an answer: a refusal by its completion code, or the fields after the code 0
 pub data AnswerOf : Type 0 where
   Refused : (code : ℕ) → AnswerOf
   QueryDeviceIdentifiers : (descriptors : List DeviceDescriptorOf) → AnswerOf

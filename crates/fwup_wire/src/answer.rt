@@ -16,49 +16,52 @@ const IDENTIFIERS_SIZE: usize = 6;
 /// The answer to GetFirmwareParameters without its components.
 const PARAMETERS_SIZE: usize = 11;
 
-/// What a device says of a component of the update, in answer to PassComponentTable.
+/// A device's response about a component of the update, in answer to PassComponentTable.
 #[derive(Clone, Copy, PartialEq, Eq)]
 pub struct TableResponse {
     /// Whether the component can be updated, as `code::response`.
     pub response: u8,
-    /// Why not, or under which restriction, as `code::response`.
+    /// The reason or the restriction, as `code::response`.
     pub code: u8,
 }
 
-/// What a device says of the component that is to be updated, in answer to UpdateComponent.
+/// A device's response about the component to update, in answer to UpdateComponent.
 #[derive(Clone, Copy, PartialEq, Eq)]
 pub struct OfferResponse {
     /// Whether the component can be updated, as `code::response`.
     pub compatibility: u8,
-    /// Why not, as `code::response`.
+    /// The reason, as `code::response`.
     pub code: u8,
-    /// The device follows the force bit: bit 0 of the enabled update option flags, whose other bits are reserved.
+    /// The device follows the force bit: bit 0 of the enabled update option flags, whose other bits
+    /// are reserved.
     pub force: bool,
-    /// Seconds until the device asks for data.
+    /// Seconds until the device requests data.
     pub time: u16,
 }
 
-/// How far a device is, in answer to GetStatus.
+/// The progress of a device, in answer to GetStatus.
 #[derive(Clone, Copy, PartialEq, Eq)]
 pub struct Status {
     /// The device's state.
     pub state: u8,
     /// The state before the last change of state.
     pub previous: u8,
-    /// How far it is in its state.
+    /// The device's progress in its state.
     pub aux: u8,
-    /// The result code of a failure in its state, else 0.
+    /// The result code of a failure in its state, otherwise 0.
     pub aux_status: u8,
-    /// Hundredths that are done, or 0x65 where the device doesn't tell.
+    /// Hundredths that are done, or 0x65 if the device doesn't report progress.
     pub progress: u8,
-    /// Why it is idle.
+    /// The reason why the device is idle.
     pub reason: u8,
-    /// The device follows the force bit: bit 0 of the enabled update option flags, whose other bits are reserved.
+    /// The device follows the force bit: bit 0 of the enabled update option flags, whose other bits
+    /// are reserved.
     pub force: bool,
 }
 
-/// An answer (DSP0267 1.0), its texts and data lent. An answer with another code than `SUCCESS` ends at the code and is
-/// `Refused`, whatever the command; the others carry what follows the code.
+/// An answer (DSP0267 1.0), its texts and data borrowed. An answer with another code than `SUCCESS`
+/// has no fields and is `Refused`, whatever the command; the others carry the fields after the
+/// code.
 #[derive(PartialEq, Eq, Drop)]
 pub enum Answer<'a> {
     /// The command wasn't carried out.
@@ -68,15 +71,16 @@ pub enum Answer<'a> {
     },
     /// The device's descriptors.
     QueryDeviceIdentifiers(DeviceDescriptors<'a>),
-    /// The device's components. It can do nothing beyond this profile, and names no component image set.
+    /// The device's components. It has no capability beyond this profile, and names no component
+    /// image set.
     GetFirmwareParameters(Parameters<'a>),
-    /// The update began. The device wants no package data and has no metadata.
+    /// The update began. The device requests no package data and has no metadata.
     RequestUpdate,
-    /// What the device says of the component.
+    /// The device's response about the component.
     PassComponentTable(TableResponse),
-    /// What the device says of the component.
+    /// The device's response about the component.
     UpdateComponent(OfferResponse),
-    /// The bytes of the image that were asked for.
+    /// The requested bytes of the image.
     RequestFirmwareData(&'a [u8]),
     /// The end of the transfer was noted.
     TransferComplete,
@@ -86,10 +90,10 @@ pub enum Answer<'a> {
     ApplyComplete,
     /// The applied images become active.
     ActivateFirmware {
-        /// Seconds that it takes.
+        /// Seconds that the activation takes.
         time: u16,
     },
-    /// How far the device is.
+    /// The device's progress.
     GetStatus(Status),
     /// The update of the component ended.
     CancelUpdateComponent,
@@ -103,7 +107,7 @@ pub enum Answer<'a> {
 pub struct Malformed;
 
 impl Answer<'_> {
-    /// The completion code.
+    /// Returns the completion code.
     pub fn code(&self) -> u8
         ensures { result ≡ answer_code (answer_of self.now) }
     {
@@ -113,8 +117,8 @@ impl Answer<'_> {
         }
     }
 
-    /// Whether `write_answer` takes the answer: it fits a message at the greatest transmission unit, and it is no refusal
-    /// with the code of success.
+    /// Returns whether `write_answer` accepts the answer: it fits a message at the greatest
+    /// transmission unit, and it is no refusal with the code of success.
     pub fn is_writable(&self) -> bool
         ensures { IsTrue result ↔ IsAnswerWritable (answer_of self.now) }
     {

@@ -1,4 +1,4 @@
-//! Answers, read.
+//! Reads answers.
 
 ghost use Rattle.std.specs.Prelude.{IfOk, IsOk, ◌≡◌, ℕ};
 ghost use Rattle.std.specs.Option.{option_map};
@@ -14,13 +14,13 @@ use crate::descriptors::DeviceDescriptors;
 use crate::parameters::Parameters;
 use pldm_base::completion::SUCCESS;
 
-/// Reads an answer to this command (DSP0267 1.0): the completion code and, where it is `SUCCESS`, what follows it.
-/// Reserved bits may hold anything.
+/// Reads an answer to this command (DSP0267 1.0): the completion code and, if it is `SUCCESS`, the
+/// fields after it. Reserved bits may hold anything.
 ///
 /// # Errors
-/// `Malformed` for an answer of no bytes, one to a command that PLDM type 5 doesn't have here, one that goes on after
-/// another code than `SUCCESS`, one of another length than its command's, and one with a value in a field that this
-/// profile doesn't have there.
+/// `Malformed` for an answer of no bytes, one to a command of PLDM type 5 that this crate doesn't
+/// know, one with bytes after another code than `SUCCESS`, one of another length than its
+/// command's, and one with a field value outside this profile.
 #[tactic(auto, using(crate::proofs::Found::found_answer_value))]
 pub fn read_answer(command: u8, bytes: &[u8]) -> Result<Answer<'_>, Malformed>
     ensures found { IfOk result (λ a. IsAnswer command bytes.now (answer_of a)) }
@@ -33,7 +33,7 @@ pub fn read_answer(command: u8, bytes: &[u8]) -> Result<Answer<'_>, Malformed>
     Ok(answer)
 }
 
-/// The answer, if the bytes are one.
+/// Returns the answer, if the bytes are one.
 fn answer(command: u8, bytes: &[u8]) -> Option<Answer<'_>>
     ensures { option_map answer_of result ≡ answer_in command bytes.now }
 {
@@ -49,7 +49,7 @@ fn answer(command: u8, bytes: &[u8]) -> Option<Answer<'_>>
     }
 }
 
-/// Whether PLDM type 5 has this command here.
+/// Returns whether this crate knows the command of PLDM type 5.
 fn is_known(command: u8) -> bool
     ensures { result ≡ Rattle.fwup_wire.specs.Answers.is_known command }
 {
@@ -71,7 +71,7 @@ fn is_known(command: u8) -> bool
     )
 }
 
-/// What follows the code of success.
+/// Returns the answer with these fields after the code of success.
 fn success(command: u8, fields: &[u8]) -> Option<Answer<'_>>
     ensures { option_map answer_of result ≡ success_in command fields.now }
 {
@@ -99,7 +99,7 @@ fn success(command: u8, fields: &[u8]) -> Option<Answer<'_>>
     }
 }
 
-/// An answer without fields.
+/// Returns an answer without fields.
 fn alone<'a>(fields: &[u8], answer: Answer<'a>) -> Option<Answer<'a>>
     ensures { option_map answer_of result ≡ fieldless_answer (answer_of answer.entry) fields.now }
 {

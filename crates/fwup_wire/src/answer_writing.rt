@@ -1,4 +1,4 @@
-//! Answers, written.
+//! Writes answers.
 
 ghost use Rattle.std.specs.Prelude.{Some, length, true, ◌<◌, ◌≡◌, ℕ};
 ghost use Rattle.fwup_wire.specs.Answers.{IsAnswer, IsAnswerWritable, answer_bytes, answer_in, answers_command};
@@ -16,16 +16,19 @@ use pldm_base::completion::SUCCESS;
 /// The capabilities of a device during an update: none beyond this profile.
 const NO_CAPABILITIES: [u8; 4] = [0; 4];
 
-/// The heads of the texts of the active and the pending component image set, which have type 0 and no bytes.
+/// The heads of the texts of the active and the pending component image set, which have type 0 and
+/// no bytes.
 const NO_SET_TEXTS: [u8; 4] = [0; 4];
 
 /// The bytes of RequestUpdate's answer after its code: no metadata, and no package data wanted.
 const NO_METADATA: [u8; 3] = [0; 3];
 
-/// The bytes of CancelUpdate's answer after its code: no component that doesn't work, and none of their bits.
+/// The bytes of CancelUpdate's answer after its code: no component that doesn't work, and none of
+/// their bits.
 const ALL_COMPONENTS_WORK: [u8; 9] = [0; 9];
 
-/// Writes an answer (DSP0267 1.0): the completion code and what follows it, with its reserved bits 0.
+/// Writes an answer (DSP0267 1.0): the completion code and the fields after it, with reserved bits
+/// 0.
 #[tactic(auto, using(crate::proofs::Found::read_member))]
 pub fn write_answer(answer: &Answer<'_>) -> Reply
     requires { IsAnswerWritable (answer_of answer.now) }
@@ -36,7 +39,7 @@ pub fn write_answer(answer: &Answer<'_>) -> Reply
     written(answer)
 }
 
-/// The answer as it is written.
+/// Returns the encoded answer.
 #[tactic(auto, using(crate::proofs::WrittenAnswers::parameters_known))]
 fn written(answer: &Answer<'_>) -> Reply
     requires { IsAnswerWritable (answer_of answer.now) }

@@ -8,8 +8,8 @@ ghost use Rattle.fwup_wire.specs.Same.{same_command};
 use crate::code::command;
 use crate::values::{Key, TransferFlag, TypedText, Version};
 
-/// The most bytes of request data: what a message holds at the smallest transmission unit, so that a command goes over each
-/// network (DSP0236, section 8.3).
+/// The most bytes of request data: the bytes of a message at the smallest transmission unit, so
+/// that a command can be sent over each network (DSP0236, section 8.3).
 pub const MAX_FIELDS: usize = 252;
 
 /// The request data of RequestUpdate without its text's bytes.
@@ -21,102 +21,103 @@ const ENTRY_SIZE: usize = 12;
 /// The request data of UpdateComponent without its text's bytes.
 const OFFER_SIZE: usize = 19;
 
-/// What RequestUpdate says.
+/// The request data of RequestUpdate.
 #[derive(Clone, Copy, PartialEq, Eq)]
 pub struct UpdateRequest<'a> {
-    /// The most bytes that the agent gives in answer to one RequestFirmwareData.
+    /// The most bytes that the agent sends in answer to one RequestFirmwareData.
     pub transfer_size: u32,
-    /// How many components the update has.
+    /// The number of components of the update.
     pub components: u16,
-    /// How many RequestFirmwareData may be outstanding at once.
+    /// The most RequestFirmwareData that may be outstanding at once.
     pub outstanding: u8,
-    /// The bytes of package data that the device may ask for.
+    /// The bytes of package data that the device may request.
     pub package_data_length: u16,
     /// The version text of the whole component image set.
     pub image_set: TypedText<'a>,
 }
 
-/// What PassComponentTable says of one component.
+/// The request data of PassComponentTable, about one component.
 #[derive(Clone, Copy, PartialEq, Eq)]
 pub struct TableEntry<'a> {
-    /// Where the entry stands in the table.
+    /// The place of the entry in the table.
     pub flag: TransferFlag,
     /// The component.
     pub key: Key,
-    /// Which of several components of this classification in the device.
+    /// The index among several components of this classification in the device.
     pub index: u8,
     /// The new image's version.
     pub version: Version<'a>,
 }
 
-/// What UpdateComponent says of the component that is to be updated.
+/// The request data of UpdateComponent, about the component to update.
 #[derive(Clone, Copy, PartialEq, Eq)]
 pub struct ComponentOffer<'a> {
     /// The component.
     pub key: Key,
-    /// Which of several components of this classification in the device.
+    /// The index among several components of this classification in the device.
     pub index: u8,
     /// The new image's version.
     pub version: Version<'a>,
     /// The new image's size in bytes.
     pub size: u32,
-    /// Update also where the comparison stamp speaks against it: bit 0 of the update option flags, whose other bits
-    /// are reserved.
+    /// Update even if the comparison stamp is equal or lower: bit 0 of the update option flags,
+    /// whose other bits are reserved.
     pub force: bool,
 }
 
-/// A command with its request data (DSP0267 1.0), its texts lent.
+/// A command with its request data (DSP0267 1.0), its texts borrowed.
 #[derive(Clone, Copy, PartialEq, Eq)]
 pub enum Command<'a> {
-    /// Which descriptors has the device?
+    /// Requests the device's descriptors.
     QueryDeviceIdentifiers,
-    /// Which components has it, and which images of them?
+    /// Requests the device's components, and the versions of their images.
     GetFirmwareParameters,
-    /// Begin an update.
+    /// Begins an update.
     RequestUpdate(UpdateRequest<'a>),
-    /// Know of this component of the update.
+    /// Passes this component of the update.
     PassComponentTable(TableEntry<'a>),
-    /// Update this component now.
+    /// Updates this component now.
     UpdateComponent(ComponentOffer<'a>),
-    /// The device asks for `length` bytes of the image from `offset` on.
+    /// The device requests `length` bytes of the image from `offset` on.
     RequestFirmwareData {
-        /// The first byte that is asked for.
+        /// The first requested byte.
         offset: u32,
-        /// How many bytes are asked for.
+        /// The number of requested bytes.
         length: u32,
     },
-    /// The device tells how the transfer ended.
+    /// The device reports the result of the transfer.
     TransferComplete {
         /// 0 for success.
         result: u8,
     },
-    /// The device tells how the verification ended.
+    /// The device reports the result of the verification.
     VerifyComplete {
         /// 0 for success.
         result: u8,
     },
-    /// The device tells how the application ended.
+    /// The device reports the result of the application.
     ApplyComplete {
         /// 0 for success.
         result: u8,
-        /// The activation methods, where they differ from those in its parameters.
+        /// The activation methods, if they differ from those in the device's parameters.
         methods: u16,
     },
-    /// Make the applied images active.
+    /// Makes the applied images active.
     ActivateFirmware {
-        /// Components that can are to be activated at once.
+        /// Self-contained components are activated at once.
         self_contained: bool,
     },
-    /// How far is the device?
+    /// Requests the device's state.
     GetStatus,
-    /// End the update of the component.
+    /// Ends the update of the component.
     CancelUpdateComponent,
-    /// End the update.
+    /// Ends the update.
     CancelUpdate,
 }
 
 impl Command<'_> {
-    /// Whether two commands are equal, with all their fields. It is `==` with a clause in the words of the definitions.
+    /// Returns whether two commands are equal, with all their fields. It is `==` with a clause that
+    /// uses the definitions.
     #[tactic(auto, unfolding(crate::specs::Same::same_command))]
     pub fn is_same(&self, other: &Command<'_>) -> bool
         ensures { result ≡ same_command (command_of self.now) (command_of other.now) }
@@ -124,7 +125,7 @@ impl Command<'_> {
         self == other
     }
 
-    /// The command's byte in a message's head.
+    /// Returns the command's byte in a message's head.
     pub fn code(&self) -> u8
         ensures { result ≡ command_code (command_of self.now) }
     {
@@ -145,8 +146,8 @@ impl Command<'_> {
         }
     }
 
-    /// Whether the request data fit a message of each network, so that `write` takes the command. Only a long text keeps
-    /// them from it.
+    /// Returns whether the request data fit a message of each network, so that `write` accepts the
+    /// command. Only a long text can exceed it.
     pub fn is_writable(&self) -> bool
         ensures { IsTrue result ↔ IsWritable (command_of self.now) }
     {
@@ -165,8 +166,9 @@ impl Command<'_> {
     }
 }
 
-/// Whether a command goes from a device to its agent. The others go from the agent to a device; each end answers those of the
-/// other kind with `ERROR_UNSUPPORTED_PLDM_CMD` whatever their request data.
+/// Returns whether a command goes from a device to its agent. The others go from the agent to a
+/// device. Each end answers commands of the other kind with `ERROR_UNSUPPORTED_PLDM_CMD`, whatever
+/// their request data.
 pub fn is_asked_of_agent(code: u8) -> bool
     ensures { result ≡ is_asked_of_agent code }
 {

@@ -1,4 +1,4 @@
-//! Commands, read.
+//! Reads commands.
 
 ghost use Rattle.std.specs.Prelude.{◌≡◌, IfOk, IsOk, ℕ};
 ghost use Rattle.std.specs.Option.{option_map};
@@ -16,8 +16,9 @@ use pldm_base::completion::{ERROR_INVALID_DATA, ERROR_INVALID_LENGTH, ERROR_UNSU
 /// Reads the request data of a command (DSP0267 1.0). Reserved bits may hold anything.
 ///
 /// # Errors
-/// The completion code of the refusal, the first of these: `ERROR_UNSUPPORTED_PLDM_CMD` for a command that PLDM type 5
-/// doesn't have here, `ERROR_INVALID_LENGTH` for too few or too many bytes, `ERROR_INVALID_DATA` for a field's value.
+/// The completion code of the refusal, the first of these: `ERROR_UNSUPPORTED_PLDM_CMD` for a
+/// command of PLDM type 5 that this crate doesn't know, `ERROR_INVALID_LENGTH` for too few or too
+/// many bytes, `ERROR_INVALID_DATA` for a field's value.
 pub fn read(command: u8, fields: &[u8]) -> Result<Command<'_>, u8>
     ensures found { IfOk result (λ c. IsCommand command fields.now (command_of c)) }
     ensures only { (c : CommandOf) → IsCommand command fields.now c → IsOk result }
@@ -47,14 +48,14 @@ pub fn read(command: u8, fields: &[u8]) -> Result<Command<'_>, u8>
     }
 }
 
-/// A command that was found, or the code of a wrong length.
+/// Returns the command, or the code for a wrong length if there is none.
 fn of_length(found: Option<Command<'_>>) -> Result<Command<'_>, u8>
     ensures { result_map_both command_of (λ e. e) result ≡ Rattle.fwup_wire.specs.Commands.of_length (option_map command_of found.entry) }
 {
     found.ok_or(ERROR_INVALID_LENGTH)
 }
 
-/// A command without request data.
+/// Returns a command without request data.
 fn alone<'a>(fields: &[u8], command: Command<'a>) -> Result<Command<'a>, u8>
     ensures { result_map_both command_of (λ e. e) result ≡ Rattle.fwup_wire.specs.Commands.alone fields.now (command_of command.entry) }
 {

@@ -1,4 +1,4 @@
-//! Commands, written.
+//! Writes commands.
 
 ghost use Rattle.std.specs.Prelude.{Ok, ◌+◌, ◌≡◌, ◌≤◌, length, ℕ};
 ghost use Rattle.fwup_wire.specs.Commands.{HasCommandWidths, IsCommand, IsWritable, command_bytes, command_code, command_read};
@@ -9,7 +9,8 @@ use crate::command::{Command, ComponentOffer, MAX_FIELDS, TableEntry, UpdateRequ
 use crate::writer::{put_component, put_text, put_u16, put_u32};
 use pldm_base::Reply;
 
-/// Writes the request data of a command (DSP0267 1.0), with its reserved bits 0. The command's byte is `Command::code`.
+/// Writes the request data of a command (DSP0267 1.0), with reserved bits 0. The command's byte is
+/// `Command::code`.
 #[tactic(auto, using(crate::proofs::Written::writes_member, crate::proofs::Written::writes_back))]
 pub fn write(command: &Command<'_>) -> Reply
     requires { IsWritable (command_of command.now) }

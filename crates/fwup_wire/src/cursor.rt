@@ -1,4 +1,5 @@
-//! Reading the fields of a message one after the other. Each step is one checked advance, and lengths have one place.
+//! Reads the fields of a message in order. Each step is one checked advance, and lengths are
+//! checked in one place.
 
 ghost use Rattle.std.specs.Prelude.{List, drop, is_some, length, IfSome, IsTrue, ◌↔◌, ◌≡◌, [], ℕ};
 ghost use Rattle.std.specs.Option.{option_map};
@@ -11,7 +12,7 @@ use crate::values::{ComponentParameters, DeviceDescriptor, Key, TypedText, Versi
 use byteorder::{ByteOrder, LittleEndian};
 use std::marker::Model;
 
-/// What is left to read.
+/// The bytes that are left to read.
 #[derive(Drop)]
 pub struct Cursor<'a> {
     rest: &'a [u8],
@@ -24,21 +25,21 @@ impl<'a> Model for Cursor<'a> {
 }
 
 impl<'a> Cursor<'a> {
-    /// All of these bytes are left.
+    /// Returns a cursor over the bytes.
     pub fn new(bytes: &'a [u8]) -> Self
         ensures { result ≡ bytes.now }
     {
         Cursor { rest: bytes }
     }
 
-    /// Whether nothing is left.
+    /// Returns whether no byte is left.
     pub fn is_at_end(&self) -> bool
         ensures { IsTrue result ↔ (self.now ≡ []) }
     {
         self.rest.is_empty()
     }
 
-    /// The next byte.
+    /// Reads the next byte.
     pub fn byte(&mut self) -> Option<u8>
         ensures value { result ≡ first_byte self.old }
         ensures rest { IfSome result (λ _. self.new ≡ drop 1 self.old) }
@@ -50,7 +51,7 @@ impl<'a> Cursor<'a> {
         Some(*byte)
     }
 
-    /// The number in the next two bytes.
+    /// Reads the number in the next two bytes.
     pub fn u16(&mut self) -> Option<u16>
         ensures value { result ≡ first_u16 self.old }
         ensures rest { IfSome result (λ _. self.new ≡ drop 2 self.old) }
@@ -63,7 +64,7 @@ impl<'a> Cursor<'a> {
         Some(LittleEndian::read_u16(bytes))
     }
 
-    /// The number in the next four bytes.
+    /// Reads the number in the next four bytes.
     pub fn u32(&mut self) -> Option<u32>
         ensures value { result ≡ first_u32 self.old }
         ensures rest { IfSome result (λ _. self.new ≡ drop 4 self.old) }
@@ -76,7 +77,7 @@ impl<'a> Cursor<'a> {
         Some(LittleEndian::read_u32(bytes))
     }
 
-    /// The component that the next four bytes name.
+    /// Reads the component key in the next four bytes.
     pub fn key(&mut self) -> Option<Key>
         ensures value { result ≡ first_key self.old }
         ensures rest { IfSome result (λ _. self.new ≡ drop 4 self.old) }
@@ -89,7 +90,8 @@ impl<'a> Cursor<'a> {
         })
     }
 
-    /// What begins an entry of the component table and an offer: key, index and comparison stamp.
+    /// Reads the beginning of an entry of the component table or of an offer: key, index and
+    /// comparison stamp.
     pub fn component(&mut self) -> Option<(Key, u8, u32)>
         ensures value { result ≡ first_component self.old }
         ensures rest { IfSome result (λ _. self.new ≡ drop 9 self.old) }
@@ -100,7 +102,7 @@ impl<'a> Cursor<'a> {
         Some((key, index, stamp))
     }
 
-    /// The next descriptor.
+    /// Reads the next descriptor.
     pub fn descriptor(&mut self) -> Option<DeviceDescriptor<'a>>
         ensures value { option_map device_descriptor_of result ≡ first_descriptor self.old }
         ensures rest { IfSome result (λ d. self.new ≡ drop (descriptor_size (device_descriptor_of d)) self.old) }
@@ -111,7 +113,7 @@ impl<'a> Cursor<'a> {
         Some(DeviceDescriptor { kind, bytes })
     }
 
-    /// The parameters of the next component. A text's bytes stand behind all other fields.
+    /// Reads the parameters of the next component. A text's bytes come after all other fields.
     #[tactic(auto, using(crate::proofs::Parts::parameters_skipped))]
     pub fn parameters(&mut self) -> Option<ComponentParameters<'a>>
         ensures value { option_map parameters_of result ≡ first_parameters self.old }
@@ -144,7 +146,7 @@ impl<'a> Cursor<'a> {
         })
     }
 
-    /// The type and the length of a text whose bytes come later, and a date that isn't set.
+    /// Reads the type and the length of a text whose bytes come later, and a date that isn't set.
     fn text_head(&mut self) -> Option<(u8, u8)>
         ensures value { result ≡ first_text_head self.old }
         ensures rest { IfSome result (λ _. self.new ≡ drop 10 self.old) }
@@ -156,7 +158,7 @@ impl<'a> Cursor<'a> {
         Some((*text_type, *length))
     }
 
-    /// The activation methods and the capabilities of a component, which have one value each.
+    /// Reads the activation methods and the capabilities of a component, which have one value each.
     fn methods(&mut self) -> Option<()>
         ensures value { is_some result ≡ has_methods self.old }
         ensures rest { IfSome result (λ _. self.new ≡ drop 6 self.old) }
@@ -168,7 +170,7 @@ impl<'a> Cursor<'a> {
         Some(())
     }
 
-    /// The next bytes, so many of them.
+    /// Reads the next `count` bytes.
     pub fn bytes(&mut self, count: usize) -> Option<&'a [u8]>
         ensures value { option_map (λ bytes. bytes.now) result ≡ first_bytes count self.old }
         ensures rest { IfSome result (λ _. self.new ≡ drop count self.old) }
@@ -183,14 +185,14 @@ impl<'a> Cursor<'a> {
         Some(first)
     }
 
-    /// What is left.
+    /// Returns the bytes that are left.
     pub fn rest(&self) -> &'a [u8]
         ensures { result.now ≡ self.now }
     {
         self.rest
     }
 
-    /// The text that takes all that is left: its type, its length and its bytes.
+    /// Returns the text that takes all bytes that are left: its type, its length and its bytes.
     pub fn last_text(self) -> Option<TypedText<'a>>
         ensures { option_map typed_text_of result ≡ last_text self.entry }
     {

@@ -1,4 +1,4 @@
-//! Lists of descriptors, put together.
+//! Builds lists of descriptors.
 
 ghost use Rattle.std.proofs.Common.{rules};
 ghost use Rattle.std.specs.Cmp.Lexicographic.{pointwise};
@@ -14,11 +14,11 @@ use arrayvec::ArrayVec;
 use byteorder::{ByteOrder, LittleEndian};
 use std::marker::Model;
 
-/// The most bytes of descriptors that an answer to QueryDeviceIdentifiers has room for: what is left of the longest
-/// answer behind its code, their length and their number.
+/// The most bytes of descriptors in an answer to QueryDeviceIdentifiers: the longest answer without
+/// its code, their length and their number.
 pub const MAX_DESCRIPTOR_BYTES: usize = 246;
 
-/// The descriptors of a device, in the form in which they are sent.
+/// The descriptors of a device, as they are sent.
 #[derive(Drop)]
 pub struct DescriptorList {
     count: u8,
@@ -53,7 +53,7 @@ impl Eq for DescriptorList {
 }
 
 impl DescriptorList {
-    /// No descriptors.
+    /// Returns an empty list.
     pub fn new() -> Self
         ensures { result ≡ [] }
     {
@@ -63,7 +63,7 @@ impl DescriptorList {
         }
     }
 
-    /// How many bytes of descriptors there is room for.
+    /// Returns the number of bytes that are left for descriptors.
     pub fn room(&self) -> usize
         ensures { result + length (descriptors_bytes self.now) ≡ 246 }
     {
@@ -79,7 +79,7 @@ impl DescriptorList {
         self.count += 1;
     }
 
-    /// The descriptors, lent.
+    /// Borrows the descriptors.
     pub fn lent(&self) -> DeviceDescriptors<'_>
         ensures { result ≡ self.now }
     {

@@ -13,7 +13,7 @@ use crate::cursor::Cursor;
 use crate::values::DeviceDescriptor;
 use std::marker::Model;
 
-/// Descriptors, lent from the message that they stand in. It is also an iterator over them.
+/// Descriptors, borrowed from their message. It is also an iterator over them.
 #[derive(Drop)]
 pub struct DeviceDescriptors<'a> {
     count: u8,
@@ -48,7 +48,7 @@ impl<'a> Eq for DeviceDescriptors<'a> {
 }
 
 impl<'a> DeviceDescriptors<'a> {
-    /// So many descriptors, if the bytes are them and nothing else.
+    /// Returns `count` descriptors, if the bytes are exactly these.
     #[tactic(auto, using(crate::proofs::DescriptorLaws::are_descriptors))]
     pub(crate) fn read(count: u8, bytes: &'a [u8]) -> Option<Self>
         ensures { result ≡ descriptors_in count bytes.now }
@@ -63,7 +63,7 @@ impl<'a> DeviceDescriptors<'a> {
         Some(DeviceDescriptors { count, bytes })
     }
 
-    /// So many descriptors, which the bytes are known to be.
+    /// Returns `count` descriptors, which the bytes are known to be.
     pub(crate) fn known(count: u8, bytes: &'a [u8]) -> Self
         requires { AreDescriptors count bytes.now (unwrap_or (descriptors_in count bytes.now) []) }
         ensures { result ≡ unwrap_or (descriptors_in count bytes.now) [] }
@@ -71,7 +71,7 @@ impl<'a> DeviceDescriptors<'a> {
         DeviceDescriptors { count, bytes }
     }
 
-    /// The descriptors one after the other, as they are sent.
+    /// Returns the descriptors, as they are sent.
     pub fn as_bytes(&self) -> &'a [u8]
         ensures bytes { result.now ≡ descriptors_bytes self.now }
         ensures found { descriptors_in (length self.now) result.now ≡ Some self.now }
@@ -79,7 +79,7 @@ impl<'a> DeviceDescriptors<'a> {
         self.bytes
     }
 
-    /// How many descriptors are left.
+    /// Returns the number of descriptors left.
     pub fn len(&self) -> usize
         ensures count { result ≡ length self.now }
         ensures few { result ≤ 255 }
@@ -87,21 +87,21 @@ impl<'a> DeviceDescriptors<'a> {
         usize::from(self.count)
     }
 
-    /// The same as it is sent.
+    /// Returns the number of descriptors left, as it is sent.
     pub(crate) fn count(&self) -> u8
         ensures { result ≡ length self.now }
     {
         self.count
     }
 
-    /// Whether none is left.
+    /// Returns whether no descriptor is left.
     pub fn is_empty(&self) -> bool
         ensures { IsTrue result ↔ (self.now ≡ []) }
     {
         self.count == 0
     }
 
-    /// An iterator over the descriptors.
+    /// Returns an iterator over the descriptors.
     pub fn iter(&self) -> DeviceDescriptors<'a>
         ensures { result ≡ self.now }
     {

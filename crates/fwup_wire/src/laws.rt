@@ -1,20 +1,20 @@
-//! Round-trip laws: what is written reads back.
+//! Round-trip laws: encoded commands and answers read back.
 
 ghost use Rattle.std.specs.Prelude.{◌≡◌, ◌∷◌, []};
 ghost use Rattle.fwup_wire.specs.Laws.{ReadsAnswers, ReadsCommands, ReadsOnlyAnswers, ReadsOnlyCommands, WritesAnswers, WritesCommands};
 
 use crate::code::{command, completion, response, text_type};
 
-/// Request data are one command at most, which is the one that is read, and what is written reads back as the same
-/// command.
+/// Request data are at most one command, which `read` returns. An encoded command reads back as the
+/// same command.
 pub fn commands_read_back()
     ensures read { ReadsCommands }
     ensures only { ReadsOnlyCommands }
     ensures written { WritesCommands }
 {}
 
-/// Bytes are one answer to a command at most, which is the one that is read, and what is written reads back as the same
-/// answer.
+/// Bytes are at most one answer to a command, which `read_answer` returns. An encoded answer reads
+/// back as the same answer.
 #[tactic(auto, using(crate::proofs::Found::only_answer, crate::proofs::WrittenAnswers::writes_answers))]
 pub fn answers_read_back()
     ensures read { ReadsAnswers }
@@ -22,7 +22,7 @@ pub fn answers_read_back()
     ensures written { WritesAnswers }
 {}
 
-/// The commands of `code`, in the order of their values.
+/// Returns the commands of `code`, in the order of their values.
 pub fn command_codes() -> [u8; 13]
     ensures values { result ≡ 0x01 ∷ 0x02 ∷ 0x10 ∷ 0x13 ∷ 0x14 ∷ 0x15 ∷ 0x16 ∷ 0x17 ∷ 0x18 ∷ 0x1A ∷ 0x1B ∷ 0x1C ∷ 0x1D ∷ [] }
 {
@@ -43,7 +43,7 @@ pub fn command_codes() -> [u8; 13]
     ]
 }
 
-/// The completion codes of `code`, in the order of their values.
+/// Returns the completion codes of `code`, in the order of their values.
 pub fn completion_codes() -> [u8; 9]
     ensures values { result ≡ 0x80 ∷ 0x81 ∷ 0x82 ∷ 0x83 ∷ 0x84 ∷ 0x85 ∷ 0x88 ∷ 0x89 ∷ 0x8B ∷ [] }
 {
@@ -60,7 +60,7 @@ pub fn completion_codes() -> [u8; 9]
     ]
 }
 
-/// The text types of `code`, in the order of their values.
+/// Returns the text types of `code`, in the order of their values.
 pub fn text_types() -> [u8; 6]
     ensures values { result ≡ 0 ∷ 1 ∷ 2 ∷ 3 ∷ 4 ∷ 5 ∷ [] }
 {
@@ -74,8 +74,7 @@ pub fn text_types() -> [u8; 6]
     ]
 }
 
-/// What a device says of a component, as `code` has it: the two responses, and the response codes in the order of
-/// their values.
+/// Returns the two responses of `code`, and its response codes in the order of their values.
 pub fn response_codes() -> ([u8; 2], [u8; 4])
     ensures responses { result.0 ≡ 0 ∷ 1 ∷ [] }
     ensures codes { result.1 ≡ 0x00 ∷ 0x01 ∷ 0x02 ∷ 0x06 ∷ [] }

@@ -1,5 +1,5 @@
-//! The firmware update messages of PLDM (DSP0267 1.0, PLDM type 5): commands and their answers, read and written
-//! exactly. Reading lends texts and data from the message and copies none.
+//! The firmware update messages of PLDM (DSP0267 1.0, PLDM type 5): commands and their answers,
+//! read and written exactly. Reading borrows texts and data from the message and copies none.
 #![tactic(auto)]
 
 mod answer;

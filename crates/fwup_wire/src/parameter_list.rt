@@ -1,4 +1,4 @@
-//! Lists of components' parameters, put together.
+//! Builds lists of components' parameters.
 
 ghost use Rattle.std.specs.Prelude.{[], ◌+◌, ◌++◌, ◌≡◌, ◌<◌, ◌≤◌, ◌∷◌, length};
 ghost use Rattle.fwup_wire.specs.Parameters.{HasParametersWidths, all_parameters_bytes, parameters_bytes, parameters_size, text_head_bytes};
@@ -11,18 +11,18 @@ use arrayvec::ArrayVec;
 use pldm_base::{MAX_REPLY, Reply};
 use std::marker::Model;
 
-/// The most bytes of components that an answer to GetFirmwareParameters has room for: what is left of the longest answer
-/// behind its code, the capabilities, the number of components and the heads of both set texts.
+/// The most bytes of components in an answer to GetFirmwareParameters: the longest answer without
+/// its code, the capabilities, the number of components and the heads of both set texts.
 pub const MAX_PARAMETER_BYTES: usize = 241;
 
 /// A release date that isn't set.
 const UNSET_DATE: [u8; 8] = [0; 8];
 
-/// The activation methods of each component, two bytes: it activates itself. Then its capabilities during an update,
-/// four bytes: none.
+/// The activation methods of each component, two bytes: it activates itself. Then its capabilities
+/// during an update, four bytes: none.
 const METHODS: [u8; 6] = [2, 0, 0, 0, 0, 0];
 
-/// The parameters of a device's components, in the form in which they are sent.
+/// The parameters of a device's components, as they are sent.
 #[derive(Drop)]
 pub struct ParameterList {
     count: u16,
@@ -42,7 +42,7 @@ impl Model for ParameterList {
 }
 
 impl ParameterList {
-    /// No components.
+    /// Returns an empty list.
     pub fn new() -> Self
         ensures { result ≡ [] }
     {
@@ -52,7 +52,7 @@ impl ParameterList {
         }
     }
 
-    /// How many bytes of components there is room for.
+    /// Returns the number of bytes that are left for components.
     pub fn room(&self) -> usize
         ensures { result + length (all_parameters_bytes self.now) ≡ 241 }
     {
@@ -68,7 +68,7 @@ impl ParameterList {
         self.count += 1;
     }
 
-    /// The components, lent.
+    /// Borrows the components.
     pub fn lent(&self) -> Parameters<'_>
         ensures { result ≡ self.now }
     {
@@ -86,7 +86,8 @@ fn put_parameters(out: &mut ArrayVec<u8, MAX_PARAMETER_BYTES>, parameters: &Comp
     let _ = out.try_extend_from_slice(&bytes);
 }
 
-/// A component's parameters as they are sent: all other fields, then the bytes of both texts.
+/// Returns a component's parameters as they are sent: all other fields, then the bytes of both
+/// texts.
 fn written(parameters: &ComponentParameters<'_>) -> Reply
     requires { parameters_size (parameters_of parameters.now) ≤ 241 }
     ensures bytes { result.items ≡ parameters_bytes (parameters_of parameters.now) }
@@ -105,7 +106,8 @@ fn written(parameters: &ComponentParameters<'_>) -> Reply
     out
 }
 
-/// Appends the type and the length of a text whose bytes come later, and a release date that isn't set.
+/// Appends the type and the length of a text whose bytes come later, and a release date that isn't
+/// set.
 fn put_text_head(out: &mut Reply, text: &TypedText<'_>)
     requires room { length out.old.items + 10 ≤ MAX_REPLY }
     requires short { length text.now.bytes.now < 256 }

@@ -13,7 +13,8 @@ use crate::cursor::Cursor;
 use crate::values::ComponentParameters;
 use std::marker::Model;
 
-/// The parameters of a device's components, lent from the message that they stand in. It is also an iterator over them.
+/// The parameters of a device's components, borrowed from their message. It is also an iterator
+/// over them.
 #[derive(Drop)]
 pub struct Parameters<'a> {
     count: u16,
@@ -48,7 +49,7 @@ impl<'a> Eq for Parameters<'a> {
 }
 
 impl<'a> Parameters<'a> {
-    /// So many components, if the bytes are them and nothing else.
+    /// Returns `count` components, if the bytes are exactly these.
     #[tactic(auto, using(crate::proofs::ParameterLaws::are_parameters))]
     pub(crate) fn read(count: u16, bytes: &'a [u8]) -> Option<Self>
         ensures { result ≡ parameters_in count bytes.now }
@@ -63,7 +64,7 @@ impl<'a> Parameters<'a> {
         Some(Parameters { count, bytes })
     }
 
-    /// So many components, which the bytes are known to be.
+    /// Returns `count` components, which the bytes are known to be.
     pub(crate) fn known(count: u16, bytes: &'a [u8]) -> Self
         requires { AreParameters count bytes.now (unwrap_or (parameters_in count bytes.now) []) }
         ensures { result ≡ unwrap_or (parameters_in count bytes.now) [] }
@@ -71,7 +72,7 @@ impl<'a> Parameters<'a> {
         Parameters { count, bytes }
     }
 
-    /// The components one after the other, as they are sent.
+    /// Returns the components, as they are sent.
     pub fn as_bytes(&self) -> &'a [u8]
         ensures bytes { result.now ≡ all_parameters_bytes self.now }
         ensures found { parameters_in (length self.now) result.now ≡ Some self.now }
@@ -79,28 +80,28 @@ impl<'a> Parameters<'a> {
         self.bytes
     }
 
-    /// How many components are left.
+    /// Returns the number of components left.
     pub fn len(&self) -> usize
         ensures { result ≡ length self.now }
     {
         usize::from(self.count)
     }
 
-    /// The same as it is sent.
+    /// Returns the number of components left, as it is sent.
     pub(crate) fn count(&self) -> u16
         ensures { result ≡ length self.now }
     {
         self.count
     }
 
-    /// Whether none is left.
+    /// Returns whether no component is left.
     pub fn is_empty(&self) -> bool
         ensures { IsTrue result ↔ (self.now ≡ []) }
     {
         self.count == 0
     }
 
-    /// An iterator over the components.
+    /// Returns an iterator over the components.
     pub fn iter(&self) -> Parameters<'a>
         ensures { result ≡ self.now }
     {

@@ -1,9 +1,9 @@
-//! What several commands and answers hold.
+//! The values of several commands and answers.
 
 ghost use Rattle.std.specs.Prelude.{◌≡◌};
 ghost use Rattle.fwup_wire.specs.Fields.{flag_byte, flag_of};
 
-/// Names a component: what kind of component it is, and which of that kind.
+/// Names a component by its classification and its identifier.
 #[derive(Clone, Copy, PartialEq, Eq)]
 pub struct Key {
     /// The component's classification.
@@ -24,39 +24,41 @@ pub struct TypedText<'a> {
 /// One of the descriptors by which a package names the devices that it is for.
 #[derive(Clone, Copy, PartialEq, Eq)]
 pub struct DeviceDescriptor<'a> {
-    /// What the descriptor tells, as a PCI vendor ID.
+    /// The descriptor's type, for example a PCI vendor ID.
     pub kind: u16,
     /// The descriptor's data.
     pub bytes: &'a [u8],
 }
 
-/// The comparison stamp that isn't compared: an image whose component doesn't use one has it (DSP0267 1.0,
-/// "ComponentComparisonStamp").
+/// The comparison stamp that isn't compared: an image has it if its component doesn't use one
+/// (DSP0267 1.0, "ComponentComparisonStamp").
 pub const NO_STAMP: u32 = 0xFFFF_FFFF;
 
-/// What an image calls itself.
+/// The version of an image.
 #[derive(Clone, Copy, PartialEq, Eq)]
 pub struct Version<'a> {
-    /// The comparison stamp, by which a device tells older images from newer ones, or `NO_STAMP`.
+    /// The comparison stamp, by which a device distinguishes older images from newer ones, or
+    /// `NO_STAMP`.
     pub stamp: u32,
     /// The version text.
     pub text: TypedText<'a>,
 }
 
-/// What a device tells of one of its components: which it is, and which images of it there are.
+/// A device's parameters of one of its components: its key, and the versions of its images.
 #[derive(Clone, Copy, PartialEq, Eq)]
 pub struct ComponentParameters<'a> {
     /// The component.
     pub key: Key,
-    /// Which of several components of this classification in the device.
+    /// The index among several components of this classification in the device.
     pub index: u8,
-    /// The version of the image that runs.
+    /// The version of the active image.
     pub active: Version<'a>,
-    /// The version of the image that was applied and isn't active yet; stamp 0, type 0 and no bytes where there is none.
+    /// The version of the image that was applied and isn't active yet; stamp 0, type 0 and no bytes
+    /// if there is none.
     pub pending: Version<'a>,
 }
 
-/// Where an entry stands in the component table.
+/// The place of an entry in the component table.
 #[derive(Clone, Copy, PartialEq, Eq)]
 pub enum TransferFlag {
     /// The first of several.
@@ -65,19 +67,19 @@ pub enum TransferFlag {
     Middle = 2,
     /// The last of several.
     End = 4,
-    /// The only one.
+    /// The only entry.
     StartAndEnd = 5,
 }
 
 impl TransferFlag {
-    /// The flag's byte in a message.
+    /// Returns the flag's byte in a message.
     pub fn byte(self) -> u8
         ensures { result ≡ flag_byte self }
     {
         self as u8
     }
 
-    /// The flag of this byte. The other values name none.
+    /// Returns the flag with this byte. The other values name none.
     pub fn from_byte(byte: u8) -> Option<Self>
         ensures { result ≡ flag_of byte }
     {

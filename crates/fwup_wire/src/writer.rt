@@ -1,4 +1,4 @@
-//! Writing the fields of a message one after the other.
+//! Writes the fields of a message in order.
 
 ghost use Rattle.std.specs.Prelude.{◌+◌, ◌++◌, ◌<◌, ◌≡◌, ◌≤◌, length};
 ghost use Rattle.arrayvec.specs.ArrayVec.{array_vec_len};

@@ -1,4 +1,4 @@
--- The numbers of control messages, in the words of DSP0236, section 12.
+-- The numbers of control messages (DSP0236, section 12).
 use Rattle.std.specs.Prelude.{ℕ, ◌==◌, if◌then◌else◌, Option, Some, None}
 use Rattle.mctp_ctl.specs.declared.codes.ControlCommand.{ControlCommand}
 use Rattle.mctp_ctl.specs.declared.codes.ControlCommand.TheVariants.{SetEndpointId, GetEndpointId, GetEndpointUuid, GetMctpVersionSupport, GetMessageTypeSupport}

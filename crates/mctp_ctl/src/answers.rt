@@ -1,4 +1,4 @@
-//! What an endpoint answers to a control message.
+//! The answers of an endpoint to control messages.
 
 ghost use Rattle.std.specs.Prelude.{◌≡◌, ◌≤◌, ◌++◌, length};
 ghost use Rattle.std.specs.Option.{option_map};
@@ -11,19 +11,19 @@ use crate::codes::{
 use arrayvec::ArrayVec;
 use uuid::Uuid;
 
-/// Who answers.
+/// The endpoint that answers.
 #[derive(Clone, Copy, PartialEq, Eq)]
 pub struct Endpoint {
     /// Its endpoint identifier, 8 to 254.
     pub eid: u8,
-    /// Its UUID, which Get Endpoint UUID tells.
+    /// Its UUID, which Get Endpoint UUID returns.
     pub uuid: Uuid,
 }
 
 /// The bytes of a control message that answers another, from its type byte on.
 pub type ControlAnswer = ArrayVec<u8, 32>;
 
-/// The Rq and D bits of a message's second byte where it is a request and no datagram.
+/// The Rq and D bits of a message's second byte, if it is a request and no datagram.
 const REQUEST: u8 = 0b10;
 
 /// The place of the Rq and D bits in a message's second byte.
@@ -35,19 +35,19 @@ const INSTANCE_MASK: u8 = 0x1F;
 /// The operation of Set Endpoint ID, in the low two bits of its first byte.
 const OPERATION_MASK: u8 = 0b11;
 
-/// Set Endpoint ID's operations up to this one set the identifier: 0 sets it and 1 forces it.
+/// The last operation of Set Endpoint ID that sets the identifier: 0 sets it and 1 forces it.
 const FORCE_EID: u8 = 1;
 
-/// The endpoint identifier that is none.
+/// The null endpoint identifier.
 const NULL_EID: u8 = 0x00;
 
-/// The endpoint identifier of every endpoint.
+/// The broadcast endpoint identifier.
 const BROADCAST_EID: u8 = 0xFF;
 
-/// Set Endpoint ID's status where the endpoint took the identifier; it has no pool of identifiers.
+/// Set Endpoint ID's status if the endpoint accepted the identifier; it has no pool of identifiers.
 const EID_ACCEPTED: u8 = 0x00;
 
-/// Set Endpoint ID's status where the endpoint kept the identifier that it has.
+/// Set Endpoint ID's status if the endpoint kept its own identifier.
 const EID_REJECTED: u8 = 0x10;
 
 /// The size of the pool of identifiers that an endpoint without a bridge has.
@@ -56,22 +56,23 @@ const NO_POOL: u8 = 0;
 /// Get Endpoint ID's type: a simple endpoint whose identifier is fixed.
 const STATIC_EID: u8 = 0x01;
 
-/// Get Endpoint ID's byte of its medium: it tells nothing.
+/// Get Endpoint ID's medium-specific byte: no information.
 const NO_MEDIUM: u8 = 0x00;
 
-/// The message type that asks for the version of MCTP itself.
+/// The message type that requests the version of MCTP itself.
 const MCTP_BASE: u8 = 0xFF;
 
-/// Version 1.3.1 of the base protocol in DSP0236's version number encoding: major, minor and update, each one decimal digit
-/// after the digit F, and no letter.
+/// Version 1.3.1 of the base protocol in DSP0236's version number encoding: major, minor and
+/// update, each one decimal digit after the digit F, and no letter.
 const BASE_VERSION: [u8; 4] = [0xF1, 0xF3, 0xF1, 0x00];
 
-/// The message type of PLDM, the one that an endpoint supports beside control messages.
+/// The message type of PLDM, the only one that an endpoint supports in addition to control
+/// messages.
 const PLDM: u8 = 0x01;
 
-/// The answer to a control message (DSP0236, section 12): the message's instance identifier and command,
-/// a completion code, and where that is 0 the command's fields. There is none to a message of less than
-/// three bytes or of another type, to one with Rq clear, and to a datagram (D set).
+/// Returns the answer to a control message (DSP0236, section 12): the message's instance identifier
+/// and command, a completion code and, if the code is 0, the command's fields. Returns `None` if
+/// the message has less than three bytes or another type, has Rq clear, or is a datagram (D set).
 pub fn answer(endpoint: &Endpoint, message: &[u8]) -> Option<ControlAnswer>
     ensures { option_map (λ v. v.items) result ≡ answer_of endpoint.now message.now }
 {
@@ -89,7 +90,7 @@ pub fn answer(endpoint: &Endpoint, message: &[u8]) -> Option<ControlAnswer>
     Some(out)
 }
 
-/// Appends the completion code and what follows it.
+/// Appends the completion code and the fields after it.
 fn push_completion(endpoint: &Endpoint, command: u8, fields: &[u8], out: &mut ControlAnswer)
     requires { length out.old.items ≤ 3 }
     ensures { out.new.items ≡ out.old.items ++ completion_of endpoint.now command fields.now }
@@ -155,7 +156,7 @@ fn push_endpoint_uuid(endpoint: &Endpoint, fields: &[u8], out: &mut ControlAnswe
     let _ = out.try_extend_from_slice(endpoint.uuid.as_bytes());
 }
 
-/// Get MCTP Version Support: one version of the base protocol, 1.3.1, and no other type's.
+/// Get MCTP Version Support: version 1.3.1 of the base protocol, and no version of another type.
 fn push_mctp_version(fields: &[u8], out: &mut ControlAnswer)
     requires { length out.old.items ≤ 3 }
     ensures { out.new.items ≡ out.old.items ++ get_mctp_version_support fields.now }
@@ -173,7 +174,7 @@ fn push_mctp_version(fields: &[u8], out: &mut ControlAnswer)
     let _ = out.try_extend_from_slice(&BASE_VERSION);
 }
 
-/// Get Message Type Support: PLDM, beside control messages, which are never listed.
+/// Get Message Type Support: PLDM. Control messages are never listed.
 fn push_message_types(fields: &[u8], out: &mut ControlAnswer)
     requires { length out.old.items ≤ 3 }
     ensures { out.new.items ≡ out.old.items ++ get_message_type_support fields.now }

@@ -17,7 +17,7 @@ pub enum ControlCommand {
     GetEndpointUuid,
     /// Get MCTP Version Support, 0x04: the versions of one message type.
     GetMctpVersionSupport,
-    /// Get Message Type Support, 0x05: the message types beside control messages.
+    /// Get Message Type Support, 0x05: the message types other than control messages.
     GetMessageTypeSupport,
 }
 
@@ -37,10 +37,10 @@ impl ControlCommand {
     }
 }
 
-/// The request was taken.
+/// The request was carried out.
 pub const SUCCESS: u8 = 0x00;
 
-/// A field of the request holds a value that it may not hold.
+/// A field of the request holds an invalid value.
 pub const ERROR_INVALID_DATA: u8 = 0x02;
 
 /// The request is too short or too long.

@@ -40,7 +40,7 @@ more_at u r n body rest (suc j) p e some h later =
     let sum2 : n + suc (length rest) ≡ n + 1 + length rest = omega arith in
     rw (sum, sum2) (later j h)
 
--- where more than one piece is left, there is room for another
+-- if more than one piece is left, there is room for another
 some_left : (u : «Unit») (fuel : ℕ) (bytes : List ℕ) → bytes_of u < length bytes → length bytes ≤ bytes_of u * suc fuel → 0 < fuel
 some_left u zero bytes more le = absurd (omega (arith, more, le))
 some_left u (suc fuel) bytes more le = omega arith
@@ -95,7 +95,7 @@ cause_later u ps age k p s q l lt c =
     let same : k % 4 ≡ k = omega arith in
     rw (s, q, l, same, eq-eqb k k refl, ne_eqb k MAX_PACKETS (λ e. absurd (omega (arith, e))), c) refl
 
--- what comes of a packet that is not dropped
+-- the outcome of a packet that isn't dropped
 taken : (u : «Unit») (held : Option Held) (p : PacketOf) (m : MessageOf) (qs : List PacketOf) (last : Bool) → cause_of u held p ≡ None → p.head.eom ≡ last → packets_with held p ≡ qs → (last ≡ true → message_of p.head qs ≡ m)
     → (feed_outcome u held p ≡ (if last then outcomes.Whole m else outcomes.Open)) × (held_after u held p ≡ (if last then None else Some (record { packets = qs; age = 0 })))
 taken u held p m qs true c e j h = (rw (c, j, e, h refl) refl, rw (c, e) refl)
@@ -107,14 +107,14 @@ message_again u m h lawful r =
     ap (λ x. record { dest = x.dest; source = x.source; to = x.to; tag = x.tag; bytes = bodies (pieces u m) }) r
     ∙ ap (λ b. record { dest = m.dest; source = m.source; to = m.to; tag = m.tag; bytes = b }) (pieces_bodies u MAX_PACKETS (message_route m) 0 m.bytes (omega arith) (omega (arith, lawful.1)))
 
--- what is known of a message's piece i
+-- facts about piece i of a message
 pub piece_at : (u : «Unit») (m : MessageOf) (i : ℕ) (p : PacketOf) → IsMessage u m → slice_get (pieces u m) i ≡ Some p → IsPieceAt u (message_route m) i (length (pieces u m)) p
 piece_at u m i p lawful h =
     let sum : 0 + i ≡ i = omega arith in
     let all : 0 + length (pieces u m) ≡ length (pieces u m) = omega arith in
     rw (sum, all) at (pieces_at u MAX_PACKETS (message_route m) 0 m.bytes i p (omega (arith, lawful.1)) h)
 
--- a piece that joins those before it
+-- a piece that is appended to those before it
 pub piece_taken : (u : «Unit») (held : Option Held) (m : MessageOf) (i : ℕ) (p : PacketOf) → IsMessage u m → slice_get (pieces u m) i ≡ Some p → base_of held p.head ≡ take i (pieces u m) → cause_of u held p ≡ None
     → (feed_outcome u held p ≡ (if i + 1 == length (pieces u m) then outcomes.Whole m else outcomes.Open))
     × (held_after u held p ≡ (if i + 1 == length (pieces u m) then None else held_first_pieces u m (i + 1) 0))

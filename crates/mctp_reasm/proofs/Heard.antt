@@ -1,4 +1,4 @@
--- Which packets an inbox hears, by their spelling.
+-- The packets that an inbox receives, by their encoded form.
 use Rattle.std.proofs.Common.{◌≡◌, ◌∙◌, ◌<◌, ◌≤◌, ℕ, Bool, true, false, length, Some, None, refl, ap}
 use Rattle.mctp_wire.specs.declared.layout.Packet.{Packet}
 use Rattle.mctp_wire.specs.declared.unit.Unit.{«Unit»}

@@ -1,4 +1,4 @@
--- Lemmas on what is held.
+-- Lemmas on held packets.
 use Rattle.std.proofs.Common.{◌≡◌, ◌≢◌, ◌+◌, ◌*◌, ◌==◌, ◌≤◌, ◌∙◌, ℕ, zero, suc, Bool, false, List, [], ◌∷◌, ◌++◌, Some, length, drop, refl, sym, ap, arith, append_assoc, append-nil}
 use Rattle.mctp_wire.specs.declared.unit.Unit.{«Unit»}
 use Rattle.mctp_wire.specs.Units.{bytes_of}
@@ -9,7 +9,7 @@ use Rattle.mctp_wire.specs.declared.layout.Head.{Head}
 use Rattle.mctp_reasm.specs.Pieces.{PacketOf, Route, bodies, piece, route_of}
 use Rattle.mctp_reasm.specs.Held.{AreFirstPieces, AreOpenPieces, IsHeld, IsOfHeldMessage, held_of, open_pieces, packets_of}
 
--- so many are held
+-- `count` packets are held
 pub opened_count : (u : «Unit») (count : ℕ) (r : Route) (n : ℕ) (bytes : List ℕ) → length (open_pieces u count r n bytes) ≡ count
 unfolding open_pieces
 opened_count u zero r n bytes = refl
@@ -36,7 +36,7 @@ piece_from d o t n to som eom last seq body s q e = rw (s, q, e) refl
 pub piece_is : (p : PacketOf) (r : Route) (n : ℕ) (last : Bool) → r ≡ route_of p.head → p.head.som ≡ (n == 0) → p.head.seq ≡ n → p.head.eom ≡ last → p ≡ piece r n last p.body
 piece_is p r n last is s q e = rw is (piece_from p.head.dest p.head.source p.head.tag n p.head.to p.head.som p.head.eom last p.head.seq p.body s q e)
 
--- what a buffer holds, as a list
+-- the packets of a buffer, as a list
 packets_held : (u : «Unit») (r : Route) (xs : List ℕ) (count age : ℕ) → packets_of (held_of u r xs count age) ≡ open_pieces u count r 0 xs
 unfolding open_pieces
 packets_held u r xs zero age = refl
@@ -90,7 +90,7 @@ opened_first : (u : «Unit») (count : ℕ) (r : Route) (xs : List ℕ) → leng
 unfolding open_pieces
 opened_first u count r xs e = opened_open u (suc count) r 0 xs e
 
--- what the fields hold is a beginning of a message
+-- the fields hold a beginning of a message
 pub held_lawful : (u : «Unit») (r : Route) (xs : List ℕ) (count age : ℕ) → length xs ≡ bytes_of u * count → count ≤ MAX_PACKETS → age ≤ 8 → IsHeld u (held_of u r xs count age)
 held_lawful u r xs zero age e le young = tt
 held_lawful u r xs (suc count) age e le young =
@@ -108,7 +108,7 @@ opened_route : (u : «Unit») (count : ℕ) (r : Route) (xs : List ℕ) (h : Hea
 unfolding open_pieces
 opened_route u count r xs h same = same
 
--- a packet of what is held has its route
+-- a packet of the held message has its route
 pub held_route : (u : «Unit») (r : Route) (xs : List ℕ) (count age : ℕ) (h : Head) → count ≢ 0 → IsOfHeldMessage (packets_of (held_of u r xs count age)) h → r ≡ route_of h
 held_route u r xs zero age h some same = absurd (some refl)
 held_route u r xs (suc count) age h some same = opened_route u count r xs h (rw (packets_held u r xs (suc count) age) at same)

@@ -1,4 +1,4 @@
--- What an inbox holds stays on its routes.
+-- The packets that an inbox holds stay on its routes.
 use Rattle.std.proofs.Common.{◌≡◌, ◌+◌, ℕ, zero, suc, Bool, true, false, not, ◌&&◌, ◌∙◌, if◌then◌else◌, List, [], ◌∷◌, ◌++◌, ◌==◌, map, get_or, slice_set, Option, Some, None, refl, sym, arith, inl, inr}
 use Rattle.mctp_wire.specs.declared.unit.Unit.{«Unit»}
 use Rattle.std.proofs.lemmas.Bool.Decides.{eqb_tells}

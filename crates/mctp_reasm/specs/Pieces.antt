@@ -30,7 +30,7 @@ pub record PacketOf : Type 0 where
 abbrev pub packet_of : Head → List ℕ → PacketOf
 packet_of h body = record { head = h; body = body }
 
--- what all packets of a message have in common
+-- the common fields of all packets of a message
 pub record Route : Type 0 where
   pub dest : ℕ
   pub source : ℕ
@@ -48,7 +48,7 @@ abbrev pub piece : Route → ℕ → Bool → List ℕ → PacketOf
 piece r n last body =
     record { head = record { dest = r.dest; source = r.source; som = n == 0; eom = last; seq = n; to = r.to; tag = r.tag }; body = body }
 
--- at most so many pieces, from number n on: the bytes cut at the unit
+-- at most `most` pieces, from number n on: the bytes cut at the unit
 unfoldable pub pieces_from : «Unit» → ℕ → Route → ℕ → List ℕ → List PacketOf
 pieces_from u zero r n bytes = []
 pieces_from u (suc most) r n bytes =

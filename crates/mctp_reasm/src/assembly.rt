@@ -14,8 +14,9 @@ use std::marker::Model;
 /// Sequence numbers are counted modulo this.
 const SEQUENCE_NUMBERS: u8 = 4;
 
-/// The ticks that an assembly waits for its next packet: as long as a packet may be under way, so that what is held
-/// can't meet a message of a later use of the tag. In the tick after them it ends.
+/// The ticks that an assembly waits for its next packet. A packet is under way for as long at most,
+/// so a held packet can't meet a message that uses the tag later. The assembly ends in the tick
+/// after them.
 const PATIENCE: u8 = 8;
 
 /// The packets of one message that have come so far, and the ticks since the last of them, 0 to 8.
@@ -68,7 +69,7 @@ impl Assembly {
         self.unit
     }
 
-    /// Forgets what is held.
+    /// Drops the held packets.
     pub fn clear(&mut self)
         ensures { self.new ≡ record self.old { held = None } }
     {
@@ -77,7 +78,7 @@ impl Assembly {
         self.bytes.clear();
     }
 
-    /// One tick passes. In the ninth after the last packet nothing is held any more.
+    /// Counts a tick. In the ninth after the last packet the held packets are dropped.
     pub fn tick(&mut self)
         ensures { self.new ≡ record self.old { held = held_tick self.old.held } }
     {
@@ -91,7 +92,7 @@ impl Assembly {
         }
     }
 
-    /// How many packets are held.
+    /// Returns the number of held packets.
     #[tactic(auto, using(crate::proofs::Opened::held))]
     fn count(&self) -> u8
         ensures count { result ≡ length (packets_of self.now.held) }
@@ -116,7 +117,8 @@ impl Assembly {
         next_cause(self.unit, count, packet)
     }
 
-    /// Whether `feed` may be called: the packet starts a message, nothing is held, or the packet is of what is held.
+    /// Returns whether `feed` may be called: the packet starts a message, nothing is held, or the
+    /// packet is of the held message.
     pub fn is_for(&self, packet: &Packet<'_>) -> bool
         ensures { (result ≡ true) ↔ ((packet.now.head.som ≡ true) ⊎ IsOfHeldMessage (packets_of self.now.held) packet.now.head) }
     {
@@ -126,7 +128,7 @@ impl Assembly {
         self.is_same(packet)
     }
 
-    /// Whether the packet is of the message that is held, or nothing is held.
+    /// Returns whether the packet is of the held message, or nothing is held.
     #[tactic(auto, using(crate::proofs::Opened::held))]
     fn is_same(&self, packet: &Packet<'_>) -> bool
         ensures { (result ≡ true) ↔ IsOfHeldMessage (packets_of self.now.held) packet.now.head }
@@ -140,11 +142,12 @@ impl Assembly {
         self.to == packet.head.to && self.tag == packet.head.tag
     }
 
-    /// Hears a packet (DSP0236, section 8): one that starts a message ends what was held and is held itself; one that
-    /// goes on must be the next of what is held. The message is whole with the packet that has EOM set.
+    /// Takes a packet (DSP0236, section 8). A packet that starts a message replaces the held
+    /// packets. Any other packet must be the next of the held message. The packet with EOM set
+    /// completes the message.
     ///
-    /// The packet's route must be that of what is held, unless nothing is held or the packet starts a message: there is
-    /// one assembly for each source, tag and TO.
+    /// The packet's route must be that of the held message, unless nothing is held or the packet
+    /// starts a message: there is one assembly for each source, tag and TO.
     pub fn feed(&mut self, packet: &Packet<'_>) -> Fed
         requires body { (1 ≤ length packet.now.body.now) × (length packet.now.body.now ≤ bytes_of self.old.unit) }
         requires tag { packet.now.head.tag ≤ 7 }
@@ -161,7 +164,8 @@ impl Assembly {
         }
     }
 
-    /// Hears a packet as `feed` does. A message that it makes whole is written into `whole`, which else stays as it is.
+    /// Takes a packet as `feed` does. Writes a message that the packet completes into `whole`,
+    /// which otherwise is left as it is.
     pub(crate) fn take(&mut self, packet: &Packet<'_>, whole: &mut Message) -> Taken
         requires body { (1 ≤ length packet.now.body.now) × (length packet.now.body.now ≤ bytes_of self.old.unit) }
         requires tag { packet.now.head.tag ≤ 7 }
@@ -240,7 +244,7 @@ fn start_cause(unit: Unit, packet: &Packet<'_>) -> Option<DropCause>
     None
 }
 
-/// The first cause to drop a packet that comes after so many.
+/// Returns the first cause to drop a packet that comes after `count` packets.
 fn next_cause(unit: Unit, count: u8, packet: &Packet<'_>) -> Option<DropCause>
     ensures cause { result ≡ next_cause unit count (packet_of packet.now.head packet.now.body.now) }
     ensures number { IfNone result ((packet.now.head.seq ≡ count % 4) × (count ≢ MAX_PACKETS)) }

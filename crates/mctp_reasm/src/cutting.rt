@@ -27,7 +27,8 @@ fn piece_of(message: &Message, number: u8, last: bool, body: &[u8]) -> RawPacket
     packet
 }
 
-/// The packet of one piece of a message, counted from 0, as `split` cuts it; none where the message has no such piece.
+/// Returns the packet of piece `number` of a message, counted from 0, as `split` cuts it; `None` if
+/// the message has no such piece.
 #[tactic(auto, using(crate::proofs::Cuts::cuts))]
 pub fn piece_at(unit: Unit, message: &Message, number: u8) -> Option<RawPacket>
     ensures { option_map (λ p. p.items) result ≡ slice_get (map spelling_of (pieces unit message.now)) number }

@@ -1,4 +1,5 @@
-//! The messages that a node hears from a peer, put together from their packets (DSP0236, section 8).
+//! The messages that a node receives from a peer, assembled from their packets (DSP0236, section
+//! 8).
 
 ghost use Rattle.std.specs.Prelude.{◌≡◌, ◌≤◌, None, Some, false, length, map, true};
 ghost use Rattle.mctp_reasm.specs.Held.{IsOfHeldMessage, KeepsMessageUnlessWhole, held_tick, packets_of, fed_of};
@@ -14,8 +15,8 @@ use std::marker::Model;
 /// Tags of a direction: the tag of a message has three bits (DSP0236).
 pub const TAGS: usize = 8;
 
-/// The assemblies of the messages that a node hears from one peer, one a tag: of that peer's requests (TO set), or of its
-/// replies (TO clear).
+/// The assemblies of the messages that a node receives from one peer, one for each tag: of that
+/// peer's requests (TO set), or of its replies (TO clear).
 #[derive(Drop)]
 pub struct Inbox {
     unit: Unit,
@@ -36,8 +37,8 @@ impl Model for Inbox {
 }
 
 impl Inbox {
-    /// The inbox of the endpoint `own` in a network with this transmission unit, which holds nothing: it hears requests
-    /// of `peer` where `to` is set, and else replies.
+    /// Returns an empty inbox of the endpoint `own` in a network with this transmission unit. It
+    /// receives requests of `peer` if `to` is set, otherwise replies.
     pub fn new(unit: Unit, own: u8, peer: u8, to: bool) -> Inbox
         ensures { result ≡ record { unit = unit; own = own; peer = peer; to = to; held = none_held } }
     {
@@ -73,22 +74,24 @@ impl Inbox {
         self.own
     }
 
-    /// The endpoint identifier of the peer that it hears.
+    /// The endpoint identifier of the peer.
     pub fn peer(&self) -> u8
         ensures { result ≡ self.now.peer }
     {
         self.peer
     }
 
-    /// Whether a packet is for this node: it goes to it, comes from its peer, and TO is set where requests are heard.
+    /// Returns whether a packet is for this inbox: it goes to this node, comes from its peer, and
+    /// TO is set exactly if the inbox receives requests.
     fn is_for(&self, head: &Head) -> bool
         ensures { result ≡ is_for self.now.own self.now.peer self.now.to head.now }
     {
         head.dest == self.own && head.source == self.peer && head.to == self.to
     }
 
-    /// Whether a packet is for this node: its body fits the transmission unit, it goes to this node's endpoint and comes from
-    /// its peer, and TO is set where requests are heard.
+    /// Returns whether a packet is for this inbox: its body fits the transmission unit, it goes to
+    /// this node's endpoint and comes from its peer, and TO is set exactly if the inbox receives
+    /// requests.
     #[tactic(auto, using(crate::proofs::Heard::heard))]
     pub fn accepts(&self, packet: &Packet<'_>) -> bool
         requires read { IsRead packet.now }
@@ -103,8 +106,8 @@ impl Inbox {
         self.is_for(&packet.head)
     }
 
-    /// Feeds a packet for this node to the assembly of its tag, and tells what came of it. A message that it makes whole is
-    /// written into `whole`, which else stays as it is.
+    /// Feeds a packet for this node to the assembly of its tag, and returns the outcome. Writes a
+    /// message that the packet completes into `whole`, which otherwise is left as it is.
     #[tactic(auto, using(crate::proofs::Routes::routes))]
     pub fn feed(&mut self, packet: &Packet<'_>, whole: &mut Message) -> Taken
         requires mine { is_for self.old.own self.old.peer self.old.to packet.now.head ≡ true }
@@ -126,7 +129,7 @@ impl Inbox {
     }
 }
 
-/// A tick passes for each of these.
+/// Counts a tick for each assembly.
 fn tick_all(places: &mut [Assembly])
     ensures { places.new ≡ map assembly_after_tick places.old }
 {

@@ -46,8 +46,8 @@ impl Message {
     ghost use Rattle.mctp_wire.specs.Units.{message_limit};
     ghost use Rattle.mctp_wire.specs.declared.unit.TheConstants.{MAX_MESSAGE};
 
-    /// A message of these bytes in a network with this transmission unit, its type byte first, under a tag of 0 to 7.
-    /// `to` is set where its sender owns the tag, as that of a request does.
+    /// Returns a message of these bytes in a network with this transmission unit, with the type
+    /// byte first, under a tag of 0 to 7. `to` is set if the sender owns the tag, as in a request.
     ///
     /// # Errors
     /// `Empty` for no byte and `TooLong` for more bytes than `MAX_PACKETS` packets carry.

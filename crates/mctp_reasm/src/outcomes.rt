@@ -1,4 +1,4 @@
-//! What comes of a packet that an assembly hears.
+//! The outcome of a packet that an assembly takes.
 
 use crate::messages::Message;
 use thiserror::Error;
@@ -6,13 +6,13 @@ use thiserror::Error;
 /// Why an assembly drops a packet (DSP0236, "Dropped packets").
 #[derive(Clone, Copy, Debug, PartialEq, Eq, Error)]
 pub enum DropCause {
-    /// It goes on with a message, and none is open.
+    /// It continues a message, and none is open.
     #[error("NoStart")]
     NoStart,
-    /// Its sequence number isn't the one that follows.
+    /// Its sequence number isn't the next.
     #[error("Sequence")]
     Sequence,
-    /// Its message goes on after it, and its body isn't a whole transmission unit.
+    /// It isn't the last of its message, and its body isn't a whole transmission unit.
     #[error("Unit")]
     Unit,
     /// It starts a message, and its sequence number isn't 0.
@@ -23,10 +23,10 @@ pub enum DropCause {
     FifthPacket,
 }
 
-/// What comes of a packet that an assembly hears.
+/// The outcome of a packet that an assembly takes.
 #[derive(PartialEq, Eq, Drop)]
 pub enum Fed {
-    /// The packet was taken; its message goes on.
+    /// The packet was taken, and its message isn't complete.
     Open,
     /// The packet ends this message.
     Whole(Message),
@@ -34,10 +34,10 @@ pub enum Fed {
     Dropped(DropCause),
 }
 
-/// What comes of a packet, as `Fed` has it, where a message that the packet ends is written elsewhere.
+/// The outcome of a packet, as `Fed`, if a completed message is written elsewhere.
 #[derive(Clone, Copy, Debug, PartialEq, Eq)]
 pub enum Taken {
-    /// The packet was taken; its message goes on.
+    /// The packet was taken, and its message isn't complete.
     Open,
     /// The packet ends a message, which was written.
     Whole,

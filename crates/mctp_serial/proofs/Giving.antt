@@ -1,4 +1,4 @@
--- Each packet that a reader gives is that of a frame.
+-- Each packet that a reader returns is the packet of a frame.
 use Rattle.std.proofs.Common.{◌≡◌, ◌∙◌, ℕ, ◌+◌, ◌*◌, ◌<◌, ◌≤◌, ◌&&◌, Bool, true, false, nat_le, if◌then◌else◌, List, [], ◌∷◌, ◌++◌, length, Some, None, refl, sym, ap, subst, inl, inr, arith, append_assoc, append-nil, length-append}
 use Rattle.std.proofs.lemmas.Bool.{cases_eq, eq-eqb, leb-true, ne_eqb}
 use Rattle.mctp_wire.specs.Units.{bytes_of}
@@ -14,7 +14,7 @@ use Rattle.mctp_serial.specs.declared.stage.Stage.TheVariants as stages
 use Rattle.mctp_serial.proofs.Framing.{data_is}
 use Rattle.mctp_serial.proofs.Streams.{unit_after}
 
--- the bytes of a frame, up to the data, and up to what the reader has of it
+-- the bytes of a frame up to the data, and the data that the reader has
 abbrev begun_with : ReaderOf → List ℕ → List ℕ
 begun_with r bytes = FLAG ∷ 1 ∷ r.count ∷ (data_of r.packet ++ bytes)
 
@@ -28,7 +28,7 @@ part_of stages.Low r = begun_with r (r.high ∷ [])
 part_of stages.Closing r = begun_with r (r.high ∷ r.low ∷ [])
 part_of s r = []
 
--- what holds of the byte count
+-- the bounds of the byte count
 abbrev IsCounted : Stage → ReaderOf → Type 0
 IsCounted stages.Filling r = (length r.packet < r.count) × (r.count ≤ HEAD_SIZE + bytes_of r.unit)
 IsCounted stages.Escaped r = (length r.packet < r.count) × (r.count ≤ HEAD_SIZE + bytes_of r.unit)
@@ -37,7 +37,7 @@ IsCounted stages.Low r = (length r.packet ≡ r.count) × (1 ≤ r.count) × (r.
 IsCounted stages.Closing r = (length r.packet ≡ r.count) × (1 ≤ r.count) × (r.count ≤ HEAD_SIZE + bytes_of r.unit)
 IsCounted s r = Prim.Unit {0}
 
--- a reader, of which this is the stage, has read what the stream ends with
+-- a reader with this stage has read the end of the stream
 record EndsWithPart (s : Stage) (r : ReaderOf) (stream : List ℕ) : Type 0 where
   before : List ℕ
   parts : stream ≡ before ++ part_of s r
@@ -83,7 +83,7 @@ seeks r b stream = elim (cases_eq b 0x7E) [
   | inr other ↦ rw (ne_eqb b 0x7E other) (lost r (stream ++ b ∷ []))
 ]
 
--- a byte of the packet, of which the data so far ends with `bytes`
+-- a byte of the packet; the data so far end with `bytes`
 with_byte : (r : ReaderOf) (b : ℕ) (stream before bytes : List ℕ) → data_of_byte b ≡ bytes → stream ≡ before ++ begun_with r bytes
     → length r.packet < r.count → r.count ≤ HEAD_SIZE + bytes_of r.unit → HasRead (reader_with r b) stream
 with_byte r b stream before bytes spelled is few fits =
@@ -149,7 +149,7 @@ steps (b ∷ bytes) r stream h =
     subst (HasRead (reader_after (reader_after_byte r b) bytes)) (append_assoc stream (b ∷ []) bytes)
     (steps bytes (reader_after_byte r b) (stream ++ b ∷ []) (step r.stage r b stream h))
 
--- what a reader gives
+-- facts about a packet that a reader returns
 record GivesPacket (s : Stage) (r : ReaderOf) (b : ℕ) (packet : List ℕ) : Type 0 where
   closing : s ≡ stages.Closing
   flag : b ≡ 0x7E

@@ -1,6 +1,7 @@
--- In reading order: the published check value (CheckValue), loops over bytes (Steps), what is written is a frame and the only one
--- (Framing), a frame is read back (Reading), a stream in two parts (Streams), each packet that is given was framed (Giving), a reader
--- recovers after noise (Recovering).
+-- In reading order: the published check value (CheckValue), loops over bytes (Steps), a written
+-- frame is a frame and the only one (Framing), a frame is read back (Reading), a stream in two
+-- parts (Streams), each packet that is returned was framed (Giving), a reader recovers after noise
+-- (Recovering).
 mod CheckValue
 mod Framing
 mod Giving

@@ -19,7 +19,7 @@ record Read : Type 0 where
 abbrev read : ReaderOf → List ℕ → Read
 read r bytes = record { reader = reader_after r bytes; packets = packets_in r bytes }
 
--- reading on after a byte that gives nothing
+-- reading on after a byte that returns no packet
 read_quietly : (r s : ReaderOf) (b : ℕ) (bs : List ℕ) → reader_after_byte r b ≡ s → packet_after_byte r b ≡ None → read r (b ∷ bs) ≡ read s bs
 unfolding reader_after packets_in
 read_quietly r s b bs to quiet = rw (to, quiet) refl
@@ -31,7 +31,7 @@ filling r count done = record r { stage = stages.Filling; count = count; packet 
 abbrev at_high : ReaderOf → (count : ℕ) → List ℕ → ReaderOf
 at_high r count done = record r { stage = stages.High; count = count; packet = done }
 
--- a byte of a packet, as it stands in a frame, is one byte more
+-- the data of a byte of a packet in a frame are read as one byte more
 takes_one : (r : ReaderOf) (count : ℕ) (done : List ℕ) (b : ℕ) (tail : List ℕ)
     → read (filling r count done) (data_of_byte b ++ tail) ≡ read (reader_with (filling r count done) b) tail
 takes_one r count done b tail = elim (cases_eq b 0x7E) [

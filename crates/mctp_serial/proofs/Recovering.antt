@@ -14,7 +14,7 @@ use Rattle.mctp_serial.specs.declared.stage.Stage.TheVariants as stages
 use Rattle.mctp_serial.proofs.Reading.{reads_frame_law}
 use Rattle.mctp_serial.proofs.Streams.{either, packets_in_append, reader_after_append, unit_after}
 
--- After the last byte of a frame but the flag: a flag here brings a reader where the next begins a frame.
+-- After the last byte of a frame but the flag: after a flag here, the next flag begins a frame.
 abbrev IsBeforeFlag : Stage → Type 0
 IsBeforeFlag stages.High = ⊥
 IsBeforeFlag stages.Low = ⊥
@@ -60,8 +60,8 @@ low_passes stages.High r b h = absurd h
 low_passes stages.Low r b h = tt
 low_passes stages.Closing r b h = either (b == 0x7E) (λ q. IsBeforeFlag q.stage) (reader_at stages.Idle r) (reader_at stages.Lost r) tt tt
 
--- After the data, of which `left` bytes of the packet are still to come: neither byte of the check sequence ends the packet that
--- the reader is in.
+-- After the data, if `left` bytes of the packet are still to come: neither byte of the check
+-- sequence ends the packet that the reader is in.
 abbrev IsPast : Stage → ReaderOf → (left : ℕ) → Type 0
 IsPast stages.Opened r left = ⊥
 IsPast stages.Revised r left = ⊥
@@ -140,7 +140,7 @@ escape_passes stages.Opened r b left flag second h = absurd h
 escape_passes stages.Revised r b left flag second h = absurd h
 escape_passes stages.Escaped r b left flag second h = absurd h
 
--- a byte of the packet, as it stands in the data
+-- a byte of the packet, as it is in the data
 byte_passes : (r : ReaderOf) (b left : ℕ) → Passes r (suc left) → Passes (reader_after r (data_of_byte b)) left
 unfolding reader_after
 byte_passes r b left h = elim (cases_eq b 0x7E) [
@@ -166,15 +166,15 @@ rest_readies r packet whole h =
     rw (reader_after_append r (data_of packet) (end_of whole))
     (end_readies (reader_after r (data_of packet)) (check_of whole / 256) (check_of whole % 256) (data_passes packet r h))
 
--- a byte that isn't escaped, where a byte count is looked for
+-- a byte that isn't escaped, if a byte count is expected
 counted_passes : (r : ReaderOf) (b : ℕ) (c d : Bool) → b ≢ 0x7E → b ≢ 0x7D → (c ≡ true → 1 ≤ b)
     → Passes (if c && d then reader_before_data r b else reader_at stages.Lost r) 124
 counted_passes r b true true other plain some = (omega (arith, some refl), (λ e. plain (omega (arith, e))), (λ e. other (omega (arith, e))))
 counted_passes r b true false other plain some = tt
 counted_passes r b false d other plain some = tt
 
--- A reader takes the byte count 126 for a flag, and the packet for a frame: its second byte is taken for a byte count, which can
--- be neither 125, as a byte that isn't escaped, nor 126.
+-- A reader takes the byte count 126 for a flag, and the packet for a frame. It takes the packet's
+-- second byte for a byte count, which can be neither 125, if it isn't escaped, nor 126.
 revised_passes : (r : ReaderOf) (b : ℕ) → Passes (reader_after (reader_at stages.Revised r) (data_of_byte b)) 124
 unfolding reader_after
 revised_passes r b = elim (cases_eq b 0x7E) [
@@ -232,7 +232,7 @@ closing_readies r packet =
     either (length packet == 0x7E) (λ q. IsReadyAfter q (data_of packet ++ end_of packet)) (reader_at stages.Idle r) (reader_at stages.Lost r)
     (rest_readies (reader_at stages.Idle r) packet packet tt) (rest_readies (reader_at stages.Lost r) packet packet tt)
 
--- A frame brings a reader where the next begins a frame.
+-- After a frame, the next flag begins a frame.
 frame_readies : (s : Stage) (r : ReaderOf) (packet : List ℕ) → (s ≢ stages.Revised) ⊎ (r.unit ≡ units.U64)
     → (IsReady s → IsReadyAfter (reader_from s r 0x7E) (1 ∷ counted_rest packet)) → IsReadyAfter (reader_from s r 0x7E) (1 ∷ counted_rest packet)
 unfolding reader_after

@@ -1,4 +1,4 @@
--- What a turn of a loop over bytes does.
+-- The effect of a turn of a loop over bytes.
 use Rattle.std.proofs.Common.{◌≡◌, ◌∙◌, ℕ, ◌+◌, ◌-◌, ◌*◌, ◌<◌, ◌≤◌, ◌==◌, ◌||◌, Bool, true, false, List, [], ◌∷◌, ◌++◌, length, get_or, drop, drop-cons, refl, sym, ap, arith, append_assoc, append-nil, length-append, zero, suc, add-one, inl, inr}
 use Rattle.std.proofs.lemmas.List.{drop_all}
 use Rattle.std.proofs.lemmas.Bool.{cases_eq, ne_eqb}

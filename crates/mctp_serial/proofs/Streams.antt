@@ -23,7 +23,7 @@ packets_in_append r (x ∷ xs) ys =
     ap (packets_with (packet_after_byte r x)) (packets_in_append (reader_after_byte r x) xs ys)
     ∙ packets_with_append (packet_after_byte r x) (packets_in (reader_after_byte r x) xs) (packets_in (reader_after (reader_after_byte r x) xs) ys)
 
--- a property of two readers, of which a test chooses one
+-- a property of two readers, one of which a test chooses
 pub either : (c : Bool) (P : ReaderOf → Type 0) (a b : ReaderOf) → P a → P b → P (if c then a else b)
 either c P a b first second = cond_both c a b P (λ _. first) (λ _. second)
 

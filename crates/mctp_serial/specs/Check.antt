@@ -1,5 +1,5 @@
--- The frame check sequence (DSP0253): the 16-bit FCS of RFC 1662, begun with FFFF, and not
--- complemented at the end.
+-- The frame check sequence (DSP0253): the 16-bit FCS of RFC 1662, with the start value FFFF, and
+-- not complemented at the end.
 use Rattle.std.specs.Prelude.{ℕ, ◌/◌, ◌%◌, ◌==◌, if◌then◌else◌, List, [], ◌∷◌, length}
 use Rattle.std.specs.Int.RustNames.{bit_xor}
 
@@ -18,6 +18,6 @@ check_after c [] = c
 check_after c (b ∷ bs) = check_after (check_after_byte c b) bs
 
 -- The check sequence of a packet's frame: over the revision, the byte count and the packet, before
--- any byte of it is escaped.
+-- bytes are escaped.
 abbrev pub check_of : List ℕ → ℕ
 check_of packet = check_after 0xFFFF (1 ∷ length packet ∷ packet)

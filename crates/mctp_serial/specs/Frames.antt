@@ -23,20 +23,20 @@ HasFrameAt u packet = (1 ≤ length packet) × (length packet ≤ HEAD_SIZE + by
 
 -- The grammar.
 
--- these bytes are the data of a frame for one byte of its packet
+-- `bytes` are the data of a frame for one byte of its packet
 abbrev pub IsByteData : List ℕ → ℕ → Type 0
 IsByteData bytes b =
     ((b ≡ FLAG) × (bytes ≡ ESCAPE ∷ 0x5E ∷ [])) ⊎ (((b ≡ ESCAPE) × (bytes ≡ ESCAPE ∷ 0x5D ∷ []))
     ⊎ ((b ≢ FLAG) × (b ≢ ESCAPE) × (bytes ≡ b ∷ [])))
 
--- these bytes are the data of a frame for a packet
+-- `bytes` are the data of a frame for a packet
 abbrev pub IsData : List ℕ → List ℕ → Type 0
 IsData bytes [] = bytes ≡ []
 IsData bytes (b ∷ packet) =
     (first : List ℕ) × (rest : List ℕ)
     × (bytes ≡ first ++ rest) × IsByteData first b × IsData rest packet
 
--- These bytes are a frame, and this is its packet.
+-- `bytes` are a frame of `packet`.
 pub record IsFrame (bytes packet : List ℕ) : Type 0 where
   pub escaped : List ℕ
   pub high : ℕ

@@ -9,7 +9,7 @@ use Rattle.mctp_serial.specs.Reader.{ReaderOf, new_reader, packet_after_byte, pa
 use Rattle.mctp_serial.specs.declared.stage.Stage.{Stage}
 use Rattle.mctp_serial.specs.declared.stage.Stage.TheVariants as stages
 
--- The published check value of a CRC of these parameters (CRC-16/MCRF4XX).
+-- The published check value of the CRC with these parameters (CRC-16/MCRF4XX).
 abbrev pub HasCheckValue : Type 0
 HasCheckValue = check_after 0xFFFF (codes "123456789") ≡ 0x6F91
 
@@ -30,8 +30,8 @@ IsReady stages.Filling = Prim.Unit {0}
 IsReady stages.Lost = Prim.Unit {0}
 IsReady s = ⊥
 
--- A reader for which a flag begins a frame gives the packet of a frame once, and is between frames
--- again.
+-- A reader for which a flag begins a frame returns the packet of a frame once, and is between
+-- frames again.
 abbrev pub ReadsFrame : Type 0
 ReadsFrame =
     (r : ReaderOf) (packet : List ℕ) → IsReady r.stage → HasFrameAt r.unit packet
@@ -45,8 +45,8 @@ pub record EndsWithFrame (stream packet : List ℕ) : Type 0 where
   pub whole : IsFrame frame packet
   pub parts : stream ≡ before ++ frame
 
--- Each packet that a new reader gives, over any bytes, is the packet of a frame with which the
--- bytes so far end.
+-- Each packet that a new reader returns, over any bytes, is the packet of a frame that the bytes so
+-- far end with.
 abbrev pub GivesFramed : Type 0
 GivesFramed =
     (u : «Unit») (bytes : List ℕ) (b : ℕ) (packet : List ℕ)
@@ -57,16 +57,16 @@ GivesFramed =
 abbrev pub TakesNoFlagAsCount : ReaderOf → Type 0
 TakesNoFlagAsCount r = (r.stage ≢ stages.Revised) ⊎ (r.unit ≡ units.U64)
 
--- Of two frames in a row, a reader in any state gives at least the packet of the second, last, and
--- is between frames again. It may not take the flag that begins the first for a byte count.
+-- Of two frames in a row, a reader in any state returns at least the packet of the second, last,
+-- and is between frames again. It may not take the flag that begins the first for a byte count.
 abbrev pub LosesOneFrame : Type 0
 LosesOneFrame =
     (r : ReaderOf) (p q : List ℕ) → TakesNoFlagAsCount r → HasFrameAt r.unit p → HasFrameAt r.unit q
     → (packets_in r (frame_of p ++ frame_of q) ≡ packets_in r (frame_of p) ++ q ∷ [])
     × ((reader_after r (frame_of p ++ frame_of q)).stage ≡ stages.Idle)
 
--- Of three frames in a row, a reader in any state gives at least the packet of the third, last, and
--- is between frames again.
+-- Of three frames in a row, a reader in any state returns at least the packet of the third, last,
+-- and is between frames again.
 abbrev pub LosesTwoFrames : Type 0
 LosesTwoFrames =
     (r : ReaderOf) (o p q : List ℕ)

@@ -28,7 +28,7 @@ HasDataRoom stages.Filling held count = held < count
 HasDataRoom stages.Escaped held count = held < count
 HasDataRoom s held count = Prim.Unit {0}
 
--- besides, the byte count is of a packet that fits the unit
+-- also, the byte count is of a packet that fits the unit
 abbrev pub IsBounded : «Unit» → Stage → (held count : ℕ) → Type 0
 IsBounded u s held count = (count ≤ HEAD_SIZE + bytes_of u) × HasDataRoom s held count
 
@@ -52,7 +52,7 @@ reader_before_data r count = record r { stage = stages.Filling; count = count; p
 abbrev pub reader_seeking : ReaderOf → ℕ → ReaderOf
 reader_seeking r b = if b == FLAG then reader_at stages.Opened r else reader_at stages.Lost r
 
--- the reader, of which this is the stage, after a byte
+-- the reader with this stage, after a byte
 abbrev pub reader_from : Stage → ReaderOf → ℕ → ReaderOf
 reader_from stages.Idle r b = reader_seeking r b
 reader_from stages.Opened r b =
@@ -71,24 +71,24 @@ reader_from stages.Closing r b =
     if b == FLAG then reader_at stages.Idle r else reader_at stages.Lost r
 reader_from stages.Lost r b = reader_seeking r b
 
--- the packet, where one is given
+-- the packet, if one is returned
 abbrev pub packet_if : Bool → List ℕ → Option (List ℕ)
 packet_if given packet = if given then Some packet else None
 
--- the packet that the reader, of which this is the stage, gives with a byte
+-- the packet that the reader with this stage returns for a byte
 abbrev pub packet_from : Stage → ReaderOf → ℕ → Option (List ℕ)
 packet_from stages.Closing r b =
     packet_if ((b == FLAG) && (check_of r.packet == r.high * 256 + r.low)) r.packet
 packet_from s r b = None
 
--- The reader after a byte, and the packet that it gives with it.
+-- The reader after a byte, and the packet that it returns for the byte.
 abbrev pub reader_after_byte : ReaderOf → ℕ → ReaderOf
 reader_after_byte r b = reader_from r.stage r b
 
 abbrev pub packet_after_byte : ReaderOf → ℕ → Option (List ℕ)
 packet_after_byte r b = packet_from r.stage r b
 
--- The reader after these bytes, and the packets that it gives with them.
+-- The reader after these bytes, and the packets that it returns for them.
 unfoldable pub reader_after : ReaderOf → List ℕ → ReaderOf
 reader_after r [] = r
 reader_after r (b ∷ bs) = reader_after (reader_after_byte r b) bs

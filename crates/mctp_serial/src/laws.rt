@@ -14,21 +14,22 @@ pub fn frames_are_unique()
     ensures only { HasOneFrame }
 {}
 
-/// A reader between frames gives the packet of a frame once, and no other packet, and is between
-/// frames again. So does a reader in any other state in which a flag begins a frame.
+/// A reader between frames, or in any other state in which a flag begins a frame, returns the
+/// packet of a frame once and no other packet. Then it is between frames again.
 pub fn frames_are_read_back()
     ensures read { ReadsFrame }
 {}
 
-/// Each packet that a new reader gives, over any bytes, is the packet of a frame with which the
-/// bytes so far end.
+/// Each packet that a new reader returns, over any bytes, is the packet of a frame that the bytes
+/// so far end with.
 pub fn what_is_given_was_framed()
     ensures framed { GivesFramed }
 {}
 
-/// A reader in any state gives the packet of the second of two frames in a row (`one`). Only at a
-/// unit of 128, after a flag and a revision, it may take the flag that begins the first frame for a
-/// byte count. Then it gives that of the third at the latest (`two`).
+/// A reader in any state returns the packet of the second of two frames in a row (`one`). The
+/// exception is at a unit of 128, after a flag and a revision: the reader may take the flag that
+/// begins the first frame for a byte count. Then it returns the packet of the third frame at the
+/// latest (`two`).
 pub fn recovers_after_noise()
     ensures one { LosesOneFrame }
     ensures two { LosesTwoFrames }

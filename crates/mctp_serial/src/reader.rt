@@ -60,7 +60,7 @@ impl Reader {
         self.packet.as_slice()
     }
 
-    /// Reads one byte. Returns whether it ends a frame, whose packet is then `packet`.
+    /// Reads one byte. Returns whether it ends a frame; if so, `packet` is the frame's packet.
     pub fn feed(&mut self, byte: u8) -> bool
         ensures reader { self.new ≡ reader_after_byte self.old byte }
         ensures given { packet_after_byte self.old byte ≡ packet_if result self.new.packet }

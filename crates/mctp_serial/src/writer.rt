@@ -13,7 +13,7 @@ pub(crate) const FLAG: u8 = 0x7E;
 /// The byte that begins an escape sequence (DSP0253).
 pub(crate) const ESCAPE: u8 = 0x7D;
 
-/// The distance of an escaped byte from the byte that it stands for (DSP0253).
+/// The distance of an escaped byte from the original byte (DSP0253).
 pub(crate) const ESCAPE_STEP: u8 = 0x20;
 
 /// The revision of the serial binding (DSP0253).
@@ -49,7 +49,7 @@ fn push_data(frame: &mut SerialFrame, packet: &[u8])
     }
 }
 
-/// Writes the frame of a packet of 1 to 132 bytes in place of what `frame` holds (DSP0253).
+/// Writes the frame of a packet of 1 to 132 bytes to `frame`, replacing its content (DSP0253).
 #[tactic(auto, using(crate::proofs::Steps::steps))]
 pub fn write(packet: &[u8], frame: &mut SerialFrame)
     requires { HasFrame packet.now }

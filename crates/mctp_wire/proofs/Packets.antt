@@ -14,7 +14,7 @@ bit-read : (n : ℕ) (b : Bool) → n ≡ bit b → n == 1 ≡ b
 bit-read n true e = rw e refl
 bit-read n false e = rw e refl
 
--- each field stands where it is read
+-- each field is read from its place
 pub head_of-flags_of : (h : Head) → IsHead h → head_of h.dest h.source (flags_of h) ≡ h
 head_of-flags_of h small =
     let s = bit-lt h.som in
@@ -30,7 +30,7 @@ head_of-flags_of h small =
       (let q : flags_of h % 8 ≡ h.tag = omega arith in q),
     ) refl
 
--- what is read of a packet is its head and its body
+-- a packet reads as its head and its body
 pub packet_of-packet : ReadsPackets
 packet_of-packet u (version ∷ dest ∷ source ∷ flags ∷ rest) h body (one, to_dest, from_source, fourth, small, same, some, fits) =
     let at_least_one : 1 ≤ length rest = rw same some in

@@ -1,4 +1,4 @@
--- What the spelling of a packet reads as, and that it reads as the bytes that the packet was read from.
+-- Reading the encoded form of a packet gives the same result as reading the original bytes.
 use Rattle.std.proofs.Common.{◌≡◌, ◌<◌, ◌≤◌, ◌%◌, ◌==◌, ℕ, Bool, true, false, not, nat_lt, ne_eqb, if◌then◌else◌, List, ◌∷◌, length, Ok, Err, refl, ap, arith}
 use Rattle.std.proofs.lemmas.Bool.{le-ltb, lt-ltb}
 use Rattle.mctp_wire.specs.declared.fault.WireFault.TheVariants.{Version, Empty, TooLong}
@@ -13,7 +13,8 @@ use Rattle.mctp_wire.proofs.Packets.{head_of-flags_of}
 some_body : (n : ℕ) → 1 ≤ n → (n == 0) ≡ false
 some_body n some = ne_eqb n 0 (λ e. absurd (omega (arith, e, some)))
 
--- a spelling reads as the packet's head and body where the body fits the unit, and else it is too long
+-- the encoded form reads as the packet's head and body if the body fits the unit; otherwise it is
+-- too long
 pub spelling_fits : (u : «Unit») (p : Packet) → IsRead p → length p.body.now ≤ bytes_of u → packet_of u (spelling p) ≡ Ok (p.head, p.body.now)
 unfolding spelling
 spelling_fits u p r fits =
@@ -23,7 +24,7 @@ pub spelling_long : (u : «Unit») (p : Packet) → IsRead p → bytes_of u < le
 unfolding spelling
 spelling_long u p r long = rw (some_body (length p.body.now) r.some, lt-ltb (bytes_of u) (length p.body.now) long) refl
 
--- what bytes are that read as a packet
+-- facts about bytes that read as a packet
 record ReadsAs (b c : Bool) (h : Head) (body : List ℕ) (p : Head × List ℕ) : Type 0 where
   one : b ≡ false
   some : c ≡ false
@@ -37,7 +38,7 @@ reads_as false true d h body p is = absurd (cc)
 reads_as false false true h body p is = absurd (cc)
 reads_as false false false h body p is = let same : p ≡ (h, body) = cc in record { one = refl; some = refl; head = ap (λ q. q.0) same; same = ap (λ q. q.1) same }
 
--- they read as the spelling does
+-- they read as the encoded form does
 alike_by : (v : «Unit») (version dest source flags : ℕ) (body : List ℕ) (h : Head) (b : List ℕ) → not (version % 16 == 1) ≡ false → (length body == 0) ≡ false
     → h ≡ head_of dest source flags → b ≡ body → packet_of v (version ∷ dest ∷ source ∷ flags ∷ body) ≡ packet_of v (packet_bytes h b)
 alike_by v version dest source flags body h b one some head same =

@@ -1,4 +1,4 @@
--- The transmission unit of a network, and how long its messages are.
+-- The transmission unit of a network, and the size of its messages.
 use Rattle.std.specs.Prelude.{ℕ, ◌*◌}
 use Rattle.mctp_wire.specs.declared.unit.TheConstants.{MAX_PACKETS}
 use Rattle.mctp_wire.specs.declared.unit.Unit.{«Unit»}

@@ -1,4 +1,4 @@
-//! One packet, read and written.
+//! Reads and writes one packet.
 
 ghost use Rattle.std.specs.Prelude.{◌≡◌, ◌<◌, ◌≤◌, length, IfOk, IfErr, ℕ, List, IsOk};
 ghost use Rattle.std.specs.Result.{result_map_both};
@@ -9,7 +9,7 @@ use crate::fault::WireFault;
 use crate::layout::{Head, MAX_BODY, Packet, RawPacket};
 use crate::unit::Unit;
 
-/// The version of MCTP's header that this is.
+/// The version of MCTP's header that this crate reads and writes.
 const HEADER_VERSION: u8 = 1;
 
 /// The low bits of the first byte, which hold the version. The others are reserved.

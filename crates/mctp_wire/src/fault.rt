@@ -2,7 +2,7 @@
 
 use thiserror::Error;
 
-/// Why bytes are no packet: the first of these, in this order, that holds.
+/// Why bytes are no packet: the first fault in this order.
 #[derive(Clone, Copy, Debug, PartialEq, Eq, Error)]
 pub enum WireFault {
     /// Fewer bytes than a head has.

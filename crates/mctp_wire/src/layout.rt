@@ -1,4 +1,4 @@
-//! What a packet is made of (DSP0236, section 8.1).
+//! The parts of a packet (DSP0236, section 8.1).
 
 ghost use Rattle.std.specs.Prelude.{◌≡◌};
 
@@ -32,7 +32,7 @@ pub struct Head {
     pub tag: u8,
 }
 
-/// A packet that was read, whose body is lent by the bytes.
+/// A packet that was read. Its body is borrowed from the bytes.
 #[derive(Clone, Copy, PartialEq, Eq)]
 pub struct Packet<'a> {
     /// The head.
@@ -44,7 +44,7 @@ pub struct Packet<'a> {
 /// The bytes of one packet, as they go over a medium: a head and a body.
 pub type RawPacket = ArrayVec<u8, MAX_PACKET>;
 
-/// The same bytes once more: a packet for a second place.
+/// Returns a copy of the packet.
 pub fn copy_of(packet: &RawPacket) -> RawPacket
     ensures { result.items ≡ packet.now.items }
 {

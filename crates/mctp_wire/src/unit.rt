@@ -1,15 +1,15 @@
-//! How much one packet carries, and how much one message.
+//! The sizes of packets and messages.
 
 ghost use Rattle.std.specs.Prelude.{◌≡◌, ◌≤◌};
 ghost use Rattle.mctp_wire.specs.Units.{bytes_of};
 
 use crate::layout::MAX_BODY;
 
-/// The most packets of a message: their sequence numbers, which are counted modulo 4 (DSP0236, section 8.1), are then
-/// all different.
+/// The most packets of a message. Their sequence numbers, which are counted modulo 4 (DSP0236,
+/// section 8.1), then all differ.
 pub const MAX_PACKETS: usize = 4;
 
-/// The most bytes of a message, its type byte included, whatever the transmission unit: what its packets carry.
+/// The most bytes of a message, with its type byte, at any transmission unit.
 pub const MAX_MESSAGE: usize = MAX_PACKETS * MAX_BODY;
 
 /// The transmission unit of a network: the most bytes of a packet's body, which all its nodes share (DSP0236, section 8.3).

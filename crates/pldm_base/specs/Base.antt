@@ -1,11 +1,12 @@
--- The base commands of DSP0240, a definition a command: what a terminus answers, and its identifier afterwards.
+-- The base commands of DSP0240, one definition for each command: the terminus' answer, and its
+-- identifier afterwards.
 use Rattle.std.specs.Prelude.{[], ◌+◌, ◌==◌, ◌^◌, ◌||◌, ◌∷◌, List, if◌then◌else◌, suc, zero, ℕ}
 use Rattle.std.specs.List.{list_any}
 use Rattle.pldm_base.specs.Codes.{invalid_data, invalid_length, invalid_type_in_request, success, unsupported_command}
 use Rattle.pldm_base.specs.declared.terminus.Role.{Role}
 use Rattle.pldm_base.specs.declared.terminus.Role.TheVariants.{Agent, Device}
 
--- bit k of a byte, which is set where the number stands in the list
+-- bit k of a byte, which is set if the number is in the list
 abbrev pub bit_where : List ℕ → ℕ → ℕ → ℕ
 bit_where numbers n k = if list_any (λ x. x == n) numbers then 2 ^ k else 0
 
@@ -16,7 +17,7 @@ byte_of_bits numbers n =
     + bit_where numbers (n + 4) 4 + bit_where numbers (n + 5) 5 + bit_where numbers (n + 6) 6
     + bit_where numbers (n + 7) 7
 
--- so many bytes of bits, of the numbers from n on: number n is bit n mod 8 of byte n / 8
+-- `size` bytes of bits, for the numbers from n on: number n is bit n mod 8 of byte n / 8
 abbrev pub bits_from : ℕ → ℕ → List ℕ → List ℕ
 bits_from n zero numbers = []
 bits_from n (suc size) numbers = byte_of_bits numbers n ∷ bits_from (n + 8) size numbers
@@ -61,7 +62,8 @@ get_commands_reply role (pldm_type ∷ _ ∷ _ ∷ _ ∷ _ ∷ []) =
     else invalid_type_in_request ∷ []
 get_commands_reply role _ = invalid_length ∷ []
 
--- what a terminus of this role and with this identifier answers to a base command: the code and the fields
+-- the answer of a terminus with this role and this identifier to a base command: the code and the
+-- fields
 abbrev pub base_reply : Role → ℕ → ℕ → List ℕ → List ℕ
 base_reply role tid command fields =
     if command == 1 then set_tid_reply fields

@@ -11,13 +11,14 @@ abbrev pub bit : Bool → ℕ
 bit true = 1
 bit false = 0
 
--- what a head's small fields may hold: five bits of instance identifier, six bits of PLDM type
+-- the ranges of a head's small fields: five bits of instance identifier, six bits of PLDM type
 abbrev pub IsPldmHead : PldmHead → Type 0
 IsPldmHead h = (h.instance ≤ 31) × (h.pldm_type ≤ 63)
 
--- The bytes are a PLDM message with this head and body. The first byte is the message type of PLDM. The second holds
--- Rq in bit 7, D in bit 6, which is clear, a reserved bit that may hold anything, and the instance identifier. The
--- third holds the header version in bits 7 and 6, which is 0, and the PLDM type.
+-- The bytes are a PLDM message with this head and body. The first byte is the message type of PLDM.
+-- The second holds Rq in bit 7, D in bit 6, which is clear, a reserved bit with any value, and the
+-- instance identifier. The third holds the header version in bits 7 and 6, which is 0, and the PLDM
+-- type.
 abbrev pub IsPldm : List ℕ → PldmHead → List ℕ → Type 0
 IsPldm (kind ∷ flags ∷ version_and_type ∷ command ∷ rest) h body =
     (kind ≡ 1)
@@ -26,7 +27,7 @@ IsPldm (kind ∷ flags ∷ version_and_type ∷ command ∷ rest) h body =
     × (command ≡ h.command) × (rest ≡ body)
 IsPldm _ h body = ⊥
 
--- what reading gives: the head and the body of a PLDM message, or the first fault.
+-- the result of reading: the head and the body of a PLDM message, or the first fault
 abbrev pub pldm_of : List ℕ → Result (PldmHead × List ℕ) PldmFault
 pldm_of (kind ∷ flags ∷ version_and_type ∷ command ∷ body) =
     if not (kind == 1) then Err NotPldm
@@ -57,10 +58,10 @@ IsFirstPldmFault bytes HeaderVersion =
 abbrev pub pldm_bytes : PldmHead → List ℕ → List ℕ
 pldm_bytes h body = 1 ∷ (128 * bit h.rq + h.instance) ∷ h.pldm_type ∷ h.command ∷ body
 
--- what is written is a PLDM message with that head and that body
+-- an encoded message is a PLDM message with that head and that body
 abbrev pub WritesMessages : Type 0
 WritesMessages = (h : PldmHead) (body : List ℕ) → IsPldmHead h → IsPldm (pldm_bytes h body) h body
 
--- bytes are a PLDM message with one head and one body at most, and those are what is read
+-- bytes are a PLDM message with at most one head and body, which reading returns
 abbrev pub ReadsMessages : Type 0
 ReadsMessages = (bytes : List ℕ) (h : PldmHead) (body : List ℕ) → IsPldm bytes h body → pldm_of bytes ≡ Ok (h, body)

@@ -1,4 +1,4 @@
--- What a message carries after its header.
+-- The bytes of a message after its header.
 use Rattle.std.specs.Prelude.{ℕ, ◌-◌}
 use Rattle.mctp_wire.specs.declared.unit.Unit.{«Unit»}
 use Rattle.mctp_wire.specs.Units.{message_limit}

@@ -11,19 +11,20 @@ use arrayvec::ArrayVec;
 use byteorder::{ByteOrder, LittleEndian};
 use mctp_wire::MAX_MESSAGE;
 
-/// The most bytes of an answer, code included, and of request data: what the longest message holds after its header.
+/// The most bytes of an answer with its code, and of request data: the longest message without its
+/// header.
 pub const MAX_REPLY: usize = MAX_MESSAGE - HEADER_SIZE;
 
-/// SetTID: gives the terminus its identifier.
+/// SetTID: sets the terminus' identifier.
 pub const SET_TID: u8 = 0x01;
 
-/// GetTID: asks for the terminus' identifier.
+/// GetTID: requests the terminus' identifier.
 pub const GET_TID: u8 = 0x02;
 
-/// GetPLDMTypes: asks which PLDM types the terminus has.
+/// GetPLDMTypes: requests the PLDM types of the terminus.
 pub const GET_PLDM_TYPES: u8 = 0x04;
 
-/// GetPLDMCommands: asks which commands of a PLDM type the terminus has.
+/// GetPLDMCommands: requests the terminus' commands of a PLDM type.
 pub const GET_PLDM_COMMANDS: u8 = 0x05;
 
 /// The PLDM types 0 and 5: bit n is set for type n (DSP0240, "GetPLDMTypes").
@@ -38,11 +39,11 @@ const DEVICE_COMMANDS: u32 = 0x3C19_0006;
 /// The firmware update commands that the update agent takes, 0x15 to 0x18.
 const AGENT_COMMANDS: u32 = 0x01E0_0000;
 
-/// The completion code of an answer and what follows it.
+/// The completion code of an answer and the fields after it.
 pub type Reply = ArrayVec<u8, MAX_REPLY>;
 
-/// The answer to a base command with these request data. Only a SetTID that is answered `SUCCESS` changes the
-/// identifier.
+/// Returns the answer to a base command with these request data. Only a SetTID that is answered
+/// `SUCCESS` changes the identifier.
 pub fn answer_base(tid: &mut Tid, role: Role, command: u8, fields: &[u8]) -> Reply
     ensures reply { result.items ≡ base_reply role tid.old command fields.now }
     ensures tid { tid.new ≡ tid_after tid.old command fields.now }
@@ -56,8 +57,8 @@ pub fn answer_base(tid: &mut Tid, role: Role, command: u8, fields: &[u8]) -> Rep
     }
 }
 
-/// The reply of this completion code and nothing else (DSP0240, "PLDM completion codes"): that of each command that isn't
-/// carried out, and of one that has nothing to tell.
+/// Returns the reply of this completion code and nothing else (DSP0240, "PLDM completion codes"):
+/// for a command that isn't carried out, or that has no answer fields.
 pub fn code_alone(code: u8) -> Reply
     ensures { result.items ≡ code ∷ [] }
 {
@@ -66,7 +67,7 @@ pub fn code_alone(code: u8) -> Reply
     reply
 }
 
-/// The answer of a command that was carried out: the code and these fields.
+/// Returns the answer of a command that was carried out: the code and the fields.
 fn success(fields: &[u8]) -> Reply
     requires { length fields.now ≤ 251 }
     ensures { result.items ≡ 0 ∷ fields.now }
@@ -124,7 +125,7 @@ fn get_commands(role: Role, fields: &[u8]) -> Reply
     }
 }
 
-/// The answer with 32 bytes of bits, of which all but the first 32 bits are 0.
+/// Returns the answer with 32 bytes of bits, of which all but the first 32 bits are 0.
 fn command_bits(commands: u32) -> Reply
     ensures { result.items ≡ 0 ∷ (little_bytes 4 commands ++ replicate 28 0) }
 {

@@ -1,4 +1,4 @@
-//! The header of a PLDM message, read and written.
+//! Reads and writes the header of a PLDM message.
 
 ghost use Rattle.std.specs.Prelude.{◌≡◌, ◌≤◌, IfErr, IfOk, IsOk, List, length, ℕ};
 ghost use Rattle.std.specs.Result.{result_map_both};
@@ -34,7 +34,7 @@ const INSTANCE_MASK: u8 = 0x1F;
 /// The place of the two bits of header version in the third byte.
 const VERSION_SHIFT: u32 = 6;
 
-/// The header version that this is.
+/// The header version that this crate reads and writes.
 const HEADER_VERSION: u8 = 0;
 
 /// The six bits of a PLDM type, the third byte's lowest.
@@ -56,7 +56,7 @@ pub struct PldmHead {
 /// The bytes of one PLDM message.
 pub type RawMessage = ArrayVec<u8, MAX_MESSAGE>;
 
-/// Why bytes are no PLDM message: the first of these that holds.
+/// Why bytes are no PLDM message: the first fault in this order.
 #[derive(Clone, Copy, Debug, PartialEq, Eq, Error)]
 pub enum PldmFault {
     /// There are less than four bytes.
@@ -73,8 +73,8 @@ pub enum PldmFault {
     HeaderVersion,
 }
 
-/// Reads a PLDM message into its head and its body. The reserved bit of the second byte isn't looked at. Bytes that
-/// are no PLDM message are refused by the first fault that holds.
+/// Reads a PLDM message into its head and its body. The reserved bit of the second byte is ignored.
+/// Bytes that are no PLDM message are refused with the first fault that holds.
 pub fn decode(bytes: &[u8]) -> Result<(PldmHead, &[u8]), PldmFault>
     ensures found { IfOk result (λ m. IsPldm bytes.now m.0 m.1.now) }
     ensures only { (head : PldmHead) (body : List ℕ) → IsPldm bytes.now head body → IsOk result }

@@ -1,4 +1,4 @@
-//! Round-trip laws: what is written reads back.
+//! Round-trip laws: an encoded message reads back.
 
 ghost use Rattle.std.specs.Prelude.{◌≡◌, ◌∷◌, []};
 ghost use Rattle.pldm_base.specs.Header.{ReadsMessages, WritesMessages};
@@ -6,8 +6,8 @@ ghost use Rattle.pldm_base.specs.Header.{ReadsMessages, WritesMessages};
 use crate::base::{GET_PLDM_COMMANDS, GET_PLDM_TYPES, GET_TID, SET_TID};
 use crate::header::{TYPE_BASE, TYPE_FIRMWARE_UPDATE};
 
-/// What is written reads back as the same head and body: the written spelling is a PLDM message with them, and bytes
-/// are a message with one head and one body at most, those that are read.
+/// An encoded message reads back as the same head and body. Bytes are a PLDM message with at most
+/// one head and body, which `decode` returns.
 pub fn reads_back()
     ensures written { WritesMessages }
     ensures read { ReadsMessages }

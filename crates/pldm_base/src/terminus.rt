@@ -1,10 +1,10 @@
-//! What a terminus is to others: its role in a firmware update, and its identifier.
+//! A terminus: its role in a firmware update, and its identifier.
 
 ghost use Rattle.std.specs.Prelude.{◌↔◌, ◌≡◌, ◌≢◌, ◌≤◌, IsTrue, ℕ};
 
 use std::marker::Model;
 
-/// The terminus identifier that stands for none.
+/// The unassigned terminus identifier.
 const UNASSIGNED: u8 = 0x00;
 
 /// The terminus identifier that DSP0240 reserves.
@@ -43,7 +43,7 @@ impl Tid {
         Tid { value: UNASSIGNED }
     }
 
-    /// The identifier as GetTID tells it.
+    /// Returns the identifier as GetTID reports it.
     pub fn value(self) -> u8
         ensures value { result ≡ self }
         ensures range { result ≤ 254 }
@@ -58,7 +58,7 @@ impl Tid {
         value != UNASSIGNED && value != RESERVED
     }
 
-    /// Gives the terminus an identifier.
+    /// Sets the terminus' identifier.
     pub(crate) fn assign(&mut self, value: u8)
         requires not_none { value ≢ 0 }
         requires not_reserved { value ≢ 255 }

@@ -96,7 +96,7 @@ message_in m _ = m
 open_tag : (c : CallerState) (o : Open) → IsOpen c o → o.message.tag ≡ o.tag
 open_tag c o h = ap (λ m. m.tag) h.message ∙ (ap (λ n. n % 8) h.identifier ∙ sym h.tag)
 
--- a sending sets the rest
+-- sending sets the rest
 sent_rest : (c : CallerState) (o : Option Open) (m : MessageOf) → IsCaller c → IfSome o (IsOpen c) → (caller_tick_for c o).1 ≡ CallTickOf.Send m → (m.tag < 8) × (rest_at (caller_tick_for c o).0 m.tag ≡ 40)
 unfolding message_in
 sent_rest c None m h open_is e = absurd (cc)
@@ -127,7 +127,7 @@ outlast c s m ss h e =
     let rest = sent.1 in
     (sent.0, omega (arith, kept, rest))
 
--- how each rest changes
+-- the change of each rest
 set_at : (rests : List ℕ) (t u : ℕ) → t < 8 → AreRests rests → get_or (slice_set rests t 40) u 0 ≡ (if u == t then 40 else get_or rests u 0)
 set_at rests t u lt h = elim (eqb_tells u t) [
   | inl same ↦ rw same.0 (ap (λ v. get_or (slice_set rests t 40) v 0) same.1 ∙ rest_set rests t lt h)
@@ -187,7 +187,7 @@ repeat c pldm_type command body n young =
     let before = open_after first (open_request c.number pldm_type command m) n refl refl young in
     ap (λ x. (caller_tick_for (after_ticks n first) x).1) before ∙ tick_says (after_ticks n first) (record { tag = c.number % 8; identifier = c.number; pldm_type = pldm_type; command = command; message = m; age = n })
 
--- the rests after so many requests, one begun and answered in each tick
+-- the rests after some requests, numbered from n on, one begun and answered in each tick
 rounds : ℕ → ℕ → List ℕ → List ℕ
 rounds zero n rests = rests
 rounds (suc zero) n rests = slice_set rests (n % 8) 40

@@ -1,4 +1,4 @@
--- What is true of each caller stays true.
+-- The invariant of a caller is kept.
 use Rattle.std.proofs.Common.{◌≡◌, ◌≢◌, ◌∙◌, ◌+◌, ◌%◌, ◌≤◌, ◌<◌, ℕ, Bool, true, false, List, Option, Some, None, IfSome, drop, length, slice_set, ◌⊎◌, inl, inr, true≢false, refl, sym, ap, arith}
 use Rattle.std.proofs.lemmas.Bool.Decides.{eqb_tells}
 use Rattle.mctp_reasm.specs.Pieces.{MessageOf}
@@ -66,7 +66,7 @@ sent_is c o h open_is young due =
       };
     }
 
--- an open request that waits on
+-- an open request that keeps waiting
 waits_is : (c : CallerState) (o : Open) → IsCaller c → IsOpen c o → o.age + 1 ≤ 17 → (o.age + 1) % 6 ≡ o.age % 6 + 1 → IsCaller (record c { rests = rests_after_tick c.rests; asked = Some (open_after_tick o) })
 waits_is c o h open_is young waits =
     let low : o.tag < 8 = rw open_is.tag (below_8 ((c.number + 31) % 32)) in
@@ -85,7 +85,7 @@ waits_is c o h open_is young waits =
       };
     }
 
--- a request that is sent again, waits on or is given up
+-- a request that is sent again, keeps waiting or is given up
 pub bool_cases : (b : Bool) → (b ≡ true) ⊎ (b ≡ false)
 bool_cases true = inl refl
 bool_cases false = inr refl

@@ -7,7 +7,7 @@ use Rattle.mctp_reasm.specs.Pieces.{MessageOf}
 use Rattle.pldm_exch.specs.Kept.{AreKeptAnswers, AreKeptFrom, AskedOf, IsKeptAnswer, KeptAnswer, answerer_tick, asked_by_kept, identifier_of, kept_as, kept_at, kept_tick, kept_with, none_kept}
 use Rattle.pldm_exch.specs.Laws.{AnswersAreKept, AnswersStayLawful, KeptChange, RepeatsAnswerTheRequest, kept_after}
 
--- what is true of all kept answers stays true
+-- the invariant of all kept answers is kept
 pub none_are : AreKeptAnswers none_kept
 none_are = record { places = refl; each = (tt, (tt, (tt, (tt, (tt, (tt, (tt, (tt, tt)))))))) }
 
@@ -51,7 +51,7 @@ keep_are kept m h = put_are kept m (identifier_of m) refl h
 pub stay_lawful : AnswersStayLawful
 stay_lawful = record { first = none_are; keep = keep_are; tick = tick_are }
 
--- what comes again
+-- the repeated answer
 answer_in : MessageOf → AskedOf → MessageOf
 answer_in m (AskedOf.Again answer) = answer
 answer_in m AskedOf.New = m
@@ -79,7 +79,7 @@ repeats kept request answer h e =
     let sum : 0 + request.tag ≡ request.tag = omega arith in
     again_as request.tag (kept_at kept request.tag) (identifier_of request) answer (rw sum at (kept_from 0 request.tag kept h.each)) e
 
--- how long an answer is kept
+-- the time for which an answer is kept
 tick_at : (kept : List (Option KeptAnswer)) (t : ℕ) → kept_at (answerer_tick kept) t ≡ kept_tick (kept_at kept t)
 tick_at [] t = refl
 tick_at (k ∷ ks) zero = refl

@@ -1,4 +1,4 @@
--- Rows of the ends, from what is known of a packet.
+-- The outcomes at the ends, from facts about a packet.
 use Rattle.std.proofs.Common.{◌≡◌, ℕ, Bool, true, false, if◌then◌else◌, List, Option, Some, None, Result, Ok, Err, refl, sym}
 use Rattle.mctp_reasm.specs.Held.{Held}
 use Rattle.mctp_reasm.specs.Inboxes.{feed_outcome_at, held_with, packet_for}
@@ -12,7 +12,7 @@ use Rattle.pldm_exch.specs.Kept.{AskedOf, KeptAnswer, asked_for}
 use Rattle.pldm_exch.specs.Ends.{AnsweringOf, AskingOf}
 use Rattle.pldm_exch.specs.Sides.{TakerRow, answering_row, asker_answered, asking_after, asking_row, reply_in_row, requests_in, taker_asked, taker_read}
 
--- what answers nothing changes nothing
+-- a message that answers nothing changes nothing
 closed_none : (c : CallerState) (o : Open) (body : Option (List ℕ)) → None ≡ (closed_by c o body).1 → (closed_by c o body).0 ≡ c
 closed_none c o None e = refl
 closed_none c o (Some body) e = absurd (cc)
@@ -21,7 +21,7 @@ heard_none : (c : CallerState) (o : Option Open) (m : MessageOf) → None ≡ (a
 heard_none c None m e = refl
 heard_none c (Some o) m e = closed_none c o (answer_body o m) e
 
--- a whole message at the node that asks
+-- a complete message at the node that asks
 whole_reply : (a : AskingOf) (bytes : List ℕ) (p : PacketOf) (m : MessageOf) → Some p ≡ packet_for a.unit a.own a.peer false bytes
     → outcomes.Whole m ≡ feed_outcome_at a.unit a.replies p
     → asking_row a bytes ≡ asker_answered (held_with a.unit a.replies p) (answer_outcome a.caller m).0 (answer_outcome a.caller m).1
@@ -48,7 +48,7 @@ whole_after a bytes p m found whole =
     rw (whole_reply a bytes p m found whole)
     (after_is a (held_with a.unit a.replies p) (answer_outcome a.caller m).0 (answer_outcome a.caller m).1 (heard_none a.caller a.caller.asked m))
 
--- a whole message at the node that answers
+-- a complete message at the node that answers
 pub whole_request : (t : AnsweringOf) (bytes : List ℕ) (p : PacketOf) (m : MessageOf) → Some p ≡ packet_for t.unit t.own t.peer true bytes
     → outcomes.Whole m ≡ feed_outcome_at t.unit t.requests p
     → answering_row t bytes ≡ taker_read (held_with t.unit t.requests p) t.kept m (pldm_of m.bytes)
@@ -66,7 +66,7 @@ read_in : (requests : List (Option Held)) (kept : List (Option KeptAnswer)) (m :
 read_in requests kept m (Ok r) = read_if r.0.rq requests m (taker_asked requests m r.0 r.1 (asked_for kept m)) (asked_in requests m r.0 r.1 (asked_for kept m))
 read_in requests kept m (Err fault) = refl
 
--- what the node that answers holds of requests then
+-- the held packets of requests at the node that answers, afterwards
 pub whole_requests : (t : AnsweringOf) (bytes : List ℕ) (p : PacketOf) (m : MessageOf) → Some p ≡ packet_for t.unit t.own t.peer true bytes
     → outcomes.Whole m ≡ feed_outcome_at t.unit t.requests p → record t { requests = requests_in (answering_row t bytes) } ≡ record t { requests = held_with t.unit t.requests p }
 whole_requests t bytes p m found whole =

@@ -1,6 +1,6 @@
--- One direction's requests, as the node that asks keeps them. DSP0240 pairs an answer with its request by the instance
--- identifier; each request also has a tag of its own (DSP0236), and both are free again only when nothing of the
--- request can be left.
+-- One direction's requests, as the node that asks keeps them. DSP0240 pairs an answer with its
+-- request by the instance identifier, and each request has a tag of its own (DSP0236). Both are
+-- used again only when nothing of the request can be left.
 use Rattle.std.specs.Prelude.{◌≡◌, ◌≤◌, ℕ, ◌+◌, ◌%◌, ◌==◌, ◌&&◌, ◌||◌, not, Bool, true, false, if◌then◌else◌, List, drop, get_or, slice_set, Option, Some, None, IfSome, is_none, Result, Ok, Err}
 use Rattle.mctp_reasm.specs.Pieces.{MessageOf}
 use Rattle.pldm_base.specs.Header.{IsPldm, pldm_bytes, pldm_of}
@@ -23,8 +23,8 @@ pub record Open : Type 0 where
 abbrev pub request_of_open : Open → ℕ × List ℕ
 request_of_open o = (o.command, drop 4 o.message.bytes)
 
--- the node that asks and its peer; the number of the next request, counted modulo 32; the rest of each tag; the open
--- request; whether the last request was answered, or there was none
+-- the node that asks and its peer; the number of the next request, modulo 32; the rest of each tag;
+-- the open request; whether the last request was answered, or there was none
 pub record CallerState : Type 0 where
   pub own : ℕ
   pub peer : ℕ
@@ -33,7 +33,7 @@ pub record CallerState : Type 0 where
   pub asked : Option Open
   pub answered : Bool
 
--- what an answer brings: the command that it answers, and its body
+-- an answer: the command of its request, and its body
 pub record ReplyInOf : Type 0 where
   pub command : ℕ
   pub reply : List ℕ
@@ -62,7 +62,7 @@ last_tag c = last_identifier c % 8
 abbrev pub is_quiet : CallerState → Bool
 is_quiet c = is_none c.asked && (c.answered || (rest_at c (last_tag c) == 0))
 
--- A request may begin where it is quiet and the next tag has rested.
+-- A request may begin if the caller is quiet and the next tag has rested.
 abbrev pub may_begin : CallerState → Bool
 may_begin c = is_quiet c && (rest_at c (next_tag c) == 0)
 
@@ -99,23 +99,24 @@ begin_outcome c pldm_type command body =
 abbrev pub caller_after_abandon : CallerState → CallerState
 caller_after_abandon c = record c { asked = None }
 
--- the head is that of an answer to this request: Rq is clear, and identifier, type and command are the request's
+-- the head is that of an answer to this request: Rq is clear, and identifier, type and command are
+-- the request's
 abbrev pub is_answer_head : Open → PldmHead → Bool
 is_answer_head o h =
     not h.rq && (h.instance == o.identifier) && (h.pldm_type == o.pldm_type) && (h.command == o.command)
 
--- the body of what was read, where it is an answer to this request
+-- the body of what was read, if it is an answer to this request
 abbrev pub answer_in : Open → Result (PldmHead × List ℕ) PldmFault → Option (List ℕ)
 answer_in o (Ok m) = if is_answer_head o m.0 then Some m.1 else None
 answer_in o (Err fault) = None
 
--- the body of a message, where it is an answer to this request: TO is clear, the tag is the request's, and the bytes
--- are a PLDM message with the head of an answer to it
+-- the body of a message, if it is an answer to this request: TO is clear, the tag is the request's,
+-- and the bytes are a PLDM message with the head of an answer to it
 abbrev pub answer_body : Open → MessageOf → Option (List ℕ)
 answer_body o m = if not m.to && (m.tag == o.tag) then answer_in o (pldm_of m.bytes) else None
 
--- the message is an answer to this request, with this body: TO and Rq are clear, and tag, identifier, type and command
--- are the request's
+-- the message is an answer to this request, with this body: TO and Rq are clear, and tag,
+-- identifier, type and command are the request's
 abbrev pub IsAnswerTo : Open → MessageOf → List ℕ → Type 0
 IsAnswerTo o m body =
     (m.to ≡ false) × (m.tag ≡ o.tag)
@@ -131,11 +132,12 @@ abbrev pub answer_outcome_for : CallerState → Option Open → MessageOf → Ca
 answer_outcome_for c None m = (c, None)
 answer_outcome_for c (Some o) m = closed_by c o (answer_body o m)
 
--- A message is heard: an answer to the open request closes it, and any other message changes nothing.
+-- A message arrives: an answer to the open request closes it, and any other message changes
+-- nothing.
 abbrev pub answer_outcome : CallerState → MessageOf → CallerState × Option ReplyInOf
 answer_outcome c m = answer_outcome_for c c.asked m
 
--- what a tick asks of the node: nothing, or that this message is sent again; or the open request was given up
+-- the result of a tick: nothing, this message is sent again, or the open request was given up
 pub data CallTickOf : Type 0 where
   Nothing : CallTickOf
   Send : (message : MessageOf) → CallTickOf
@@ -158,27 +160,27 @@ caller_tick_for c (Some o) =
     else if o.age + 1 == 18 then (record c { rests = rests_after_tick c.rests; asked = None }, CallTickOf.GaveUp)
     else (record c { rests = rests_after_tick c.rests; asked = Some (open_after_tick o) }, CallTickOf.Nothing)
 
--- A tick: all rests fall, and the open request grows older. At 6 and at 12 ticks the same message is sent again, and
--- its tag rests anew; at 18 the request is given up without an answer.
+-- A tick: all rests fall, and the open request grows older. At 6 and at 12 ticks the same message
+-- is sent again, and its tag's rest starts again; at 18 the request is given up without an answer.
 abbrev pub caller_tick : CallerState → CallerState × CallTickOf
 caller_tick c = caller_tick_for c c.asked
 
--- what it asks, without the message
+-- the result without the message
 abbrev pub tick_word : CallTickOf → CallTick
 tick_word CallTickOf.Nothing = ticks.Nothing
 tick_word (CallTickOf.Send m) = ticks.Send
 tick_word CallTickOf.GaveUp = ticks.GaveUp
 
--- what it asks, where the message is that of the request which is open then
+-- the result with the message of the request which is open afterwards
 abbrev pub tick_of : CallTick → Option Open → CallTickOf
 tick_of ticks.Nothing o = CallTickOf.Nothing
 tick_of ticks.Send None = CallTickOf.Nothing
 tick_of ticks.Send (Some o) = CallTickOf.Send o.message
 tick_of ticks.GaveUp o = CallTickOf.GaveUp
 
--- what is true of each open request: it is the last that began, it is at most 17 ticks old and unanswered, its message
--- is that of a request with this identifier, type and command, and its tag rests 40 ticks less those since its last
--- sending
+-- the invariant of an open request: it is the last that began, it is at most 17 ticks old and
+-- unanswered, its message is that of a request with this identifier, type and command, and its tag
+-- rests 40 ticks less those since its last sending
 pub record IsOpen (c : CallerState) (o : Open) : Type 0 where
   pub tag : o.tag ≡ last_tag c
   pub identifier : o.identifier ≡ last_identifier c
@@ -187,7 +189,7 @@ pub record IsOpen (c : CallerState) (o : Open) : Type 0 where
   pub message : o.message ≡ request_message c.own c.peer o.identifier o.pldm_type o.command (drop 4 o.message.bytes)
   pub rest : rest_at c o.tag + o.age % 6 ≡ 40
 
--- what is true of each caller
+-- the invariant of a caller
 pub record IsCaller (c : CallerState) : Type 0 where
   pub number : c.number ≤ 31
   pub rests : AreRests c.rests

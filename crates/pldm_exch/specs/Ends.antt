@@ -6,14 +6,15 @@ use Rattle.mctp_reasm.specs.Inboxes.{none_held}
 use Rattle.pldm_exch.specs.Caller.{CallerState, caller_tick, new_caller}
 use Rattle.pldm_exch.specs.Kept.{KeptAnswer, answerer_tick, none_kept}
 
--- The node that asks: the ticks that it is still deaf, its requests, and for each tag what it holds of a reply.
+-- The node that asks: the ticks for which it is still deaf, its requests, and for each tag the held
+-- packets of a reply.
 pub record AskerOf : Type 0 where
   pub deaf : ℕ
   pub caller : CallerState
   pub replies : List (Option Held)
 
--- The node that answers: the ticks that it is still deaf, and for each tag the answer that it keeps and what it holds of
--- a request.
+-- The node that answers: the ticks for which it is still deaf, and for each tag its kept answer and
+-- the held packets of a request.
 pub record TakerOf : Type 0 where
   pub deaf : ℕ
   pub kept : List (Option KeptAnswer)
@@ -27,8 +28,9 @@ asker_new own peer deaf = record { deaf = deaf; caller = new_caller own peer; re
 abbrev pub taker_new : (deaf : ℕ) → TakerOf
 taker_new deaf = record { deaf = deaf; kept = none_kept; requests = none_held }
 
--- What a node has to ask a peer: the network's transmission unit, its own endpoint and the peer's, its requests and what
--- it holds of replies. For how long it is deaf is a matter of the node, which has one such count for all its peers.
+-- The state of a node that asks a peer: the network's transmission unit, its own endpoint and the
+-- peer's, its requests, and the held packets of replies. The node itself counts for how long it is
+-- deaf, once for all its peers.
 pub record AskingOf : Type 0 where
   pub unit : «Unit»
   pub own : ℕ
@@ -36,8 +38,8 @@ pub record AskingOf : Type 0 where
   pub caller : CallerState
   pub replies : List (Option Held)
 
--- What a node has to answer a peer: the network's transmission unit, its own endpoint and the peer's, its kept answers and
--- what it holds of requests.
+-- The state of a node that answers a peer: the network's transmission unit, its own endpoint and
+-- the peer's, its kept answers, and the held packets of requests.
 pub record AnsweringOf : Type 0 where
   pub unit : «Unit»
   pub own : ℕ
@@ -59,10 +61,10 @@ asking_new u own peer = record { unit = u; own = own; peer = peer; caller = new_
 abbrev pub answering_new : «Unit» → (own peer : ℕ) → AnsweringOf
 answering_new u own peer = record { unit = u; own = own; peer = peer; kept = none_kept; requests = none_held }
 
--- A tick passes: what is held grows older, and so do the requests.
+-- A tick: held packets grow older, and so do the requests.
 abbrev pub asking_older : AskingOf → AskingOf
 asking_older a = record a { caller = (caller_tick a.caller).0; replies = map held_tick a.replies }
 
--- A tick passes: what is held and what is kept grow older.
+-- A tick: held packets and kept answers grow older.
 abbrev pub answering_older : AnsweringOf → AnsweringOf
 answering_older t = record t { kept = answerer_tick t.kept; requests = map held_tick t.requests }

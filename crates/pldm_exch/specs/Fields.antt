@@ -1,4 +1,4 @@
--- What the fields of an open request stand for.
+-- The meaning of an open request's fields.
 use Rattle.pldm_exch.specs.Caller.{Open}
 use Rattle.pldm_exch.specs.declared.caller.OpenRequest.{OpenRequest}
 

@@ -1,4 +1,4 @@
--- The rests of the eight tags: so many ticks until each may be used again.
+-- The rests of the eight tags: for each, the ticks until it may be used again.
 use Rattle.std.specs.Prelude.{◌≡◌, ◌≤◌, ℕ, ◌-◌, List, length, map, replicate}
 use Rattle.std.specs.List.{AllByRecursion}
 

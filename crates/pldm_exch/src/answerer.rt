@@ -1,4 +1,4 @@
-//! Answers that are kept for requests that come again.
+//! Answers that are kept for repeated requests.
 
 ghost use Rattle.std.specs.Prelude.{◌≡◌};
 ghost use Rattle.pldm_exch.specs.Kept.{AreKeptAnswers, answerer_tick, asked_of, kept_tick, kept_with, none_kept, asked_for};
@@ -23,16 +23,16 @@ impl Model for Answer {
     ghost view = { λ a. record { identifier = a.identifier; reply = a.reply; age = a.age } };
 }
 
-/// What a request asks for.
+/// Whether a request is new or repeated.
 #[derive(Clone, Copy, PartialEq, Eq)]
 pub enum Asked<'k> {
-    /// It is new: it is to be taken, and its answer to be kept.
+    /// The request is new: the node takes it, and keeps its answer.
     New,
-    /// It came again: this answer, which was kept, is to be sent again, and nothing else is to be done.
+    /// The request was repeated: the node sends this kept answer again, and does nothing else.
     Again(&'k Message),
 }
 
-/// The kept answers of one direction: at most one a tag, each for 24 ticks.
+/// The kept answers of one direction: at most one for each tag, each for 24 ticks.
 #[derive(Drop)]
 pub struct Answerer {
     places: [Option<Answer>; TAGS],
@@ -50,7 +50,7 @@ impl Model for Answerer {
 }
 
 impl Answerer {
-    /// No answer is kept.
+    /// Returns an answerer that keeps no answer.
     #[tactic(auto, using(crate::proofs::Keeping::keeping))]
     pub fn new() -> Answerer
         ensures { result ≡ none_kept }
@@ -60,8 +60,8 @@ impl Answerer {
         }
     }
 
-    /// Hears a request: its answer comes again exactly where its tag keeps one for its identifier. A message that is no
-    /// PLDM message has no identifier, and is new.
+    /// Takes a request. Returns `Asked::Again` exactly if its tag keeps an answer with its
+    /// identifier. A message that is no PLDM message has no identifier, and is new.
     #[tactic(auto, using(crate::proofs::Keeping::keeping))]
     pub fn on_request(&self, request: &Message) -> Asked<'_>
         ensures value { asked_of result ≡ asked_for self.now request.now }
@@ -79,8 +79,9 @@ impl Answerer {
         Asked::Again(&answer.reply)
     }
 
-    /// Keeps an answer, in the place of what its tag kept: its tag and its identifier are those of its request. A message
-    /// that is no PLDM message has no identifier, and isn't kept.
+    /// Keeps an answer under its tag, replacing the answer that the tag kept. The tag and the
+    /// identifier are those of the request. A message that is no PLDM message has no identifier,
+    /// and isn't kept.
     #[tactic(auto, using(crate::proofs::Keeping::keeping))]
     pub fn keep(&mut self, answer: &Message)
         ensures { self.new ≡ kept_with self.old answer.now }
@@ -95,7 +96,7 @@ impl Answerer {
         });
     }
 
-    /// A tick passes. An answer is forgotten in the 25th tick after it was kept.
+    /// Counts a tick. An answer is dropped in the 25th tick after it was kept.
     #[tactic(auto, using(crate::proofs::Keeping::keeping))]
     pub fn tick(&mut self)
         ensures { self.new ≡ answerer_tick self.old }
@@ -104,7 +105,7 @@ impl Answerer {
     }
 }
 
-/// A tick passes for each of these places.
+/// Counts a tick for each place.
 fn age_all(places: &mut [Option<Answer>])
     ensures { places.new ≡ answerer_tick places.old }
 {
@@ -113,7 +114,7 @@ fn age_all(places: &mut [Option<Answer>])
     }
 }
 
-/// A tick passes for a place: what it keeps grows older, or is forgotten.
+/// Counts a tick for a place: its answer grows older, or is dropped.
 fn age(place: &mut Option<Answer>)
     ensures { place.new ≡ kept_tick place.old }
 {

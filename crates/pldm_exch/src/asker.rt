@@ -14,8 +14,8 @@ use mctp_wire::{Packet, Unit};
 use pldm_base::TYPE_FIRMWARE_UPDATE;
 use std::marker::Model;
 
-/// What a node has to ask one peer: its requests, and the assemblies of that peer's replies. A node that is deaf gives it
-/// neither packets nor ticks.
+/// The state of a node that asks one peer: its requests, and the assemblies of that peer's replies.
+/// A node that is deaf passes it neither packets nor ticks.
 #[derive(Drop)]
 pub struct Asker {
     caller: Caller,
@@ -34,8 +34,8 @@ impl Model for Asker {
 }
 
 impl Asker {
-    /// The end of the node `own` that asks the node `peer` in a network with this transmission unit, before its first
-    /// request.
+    /// Returns the asker of the node `own` for the peer `peer` in a network with this transmission
+    /// unit, before its first request.
     pub fn new(unit: Unit, own: u8, peer: u8) -> Asker
         ensures { result ≡ asking_new unit own peer }
     {
@@ -59,51 +59,51 @@ impl Asker {
         self.inbox.own()
     }
 
-    /// The endpoint identifier of the node that it asks.
+    /// The endpoint identifier of the peer.
     pub fn peer(&self) -> u8
         ensures { result ≡ self.now.peer }
     {
         self.inbox.peer()
     }
 
-    /// Whether a request waits for its reply.
+    /// Returns whether a request waits for its reply.
     pub fn is_open(&self) -> bool
         ensures { result ≡ is_some self.now.caller.asked }
     {
         self.caller.is_open()
     }
 
-    /// The command and the request data of the request that waits for its reply.
+    /// Returns the command and the request data of the request that waits for its reply.
     pub fn open_request(&self) -> Option<(u8, &[u8])>
         ensures { option_map {U = ℕ × List ℕ} (λ r. (r.0, r.1.now)) result ≡ option_map request_of_open self.now.caller.asked }
     {
         self.caller.open_request()
     }
 
-    /// The message of the request that waits for its reply.
+    /// Returns the message of the request that waits for its reply.
     pub fn open_message(&self) -> Option<&Message>
         ensures { option_map (λ m. m.now) result ≡ option_map (λ o. o.message) self.now.caller.asked }
     {
         self.caller.open_message()
     }
 
-    /// Whether nothing of the last request can come any more: none is open, and the last one was answered, or its tag has
-    /// rested.
+    /// Returns whether no packet of the last request can still arrive: no request is open, and the
+    /// last one was answered or its tag has rested.
     pub fn is_quiet(&self) -> bool
         ensures { result ≡ is_quiet self.now.caller }
     {
         self.caller.quiet()
     }
 
-    /// Whether a request may begin: it is quiet, and the next tag has rested.
+    /// Returns whether a request may begin: the asker is quiet, and the next tag has rested.
     pub fn can_begin(&self) -> bool
         ensures { result ≡ may_begin self.now.caller }
     {
         self.caller.can_begin()
     }
 
-    /// Begins a request of PLDM type 5 with request data that one message of the transmission unit holds, and gives out
-    /// the message to send.
+    /// Begins a request of PLDM type 5, and returns the message to send. The request data must fit
+    /// one message of the transmission unit.
     pub fn begin(&mut self, command: u8, body: &[u8]) -> Message
         requires may { may_begin self.old.caller ≡ true }
         requires body { length body.now ≤ reply_limit self.old.unit }
@@ -114,16 +114,16 @@ impl Asker {
         self.caller.begin(unit, TYPE_FIRMWARE_UPDATE, command, body)
     }
 
-    /// Gives the open request up: it isn't sent again, and its reply is dropped.
+    /// Abandons the open request: it isn't sent again, and its reply is dropped.
     pub fn abandon(&mut self)
         ensures { self.new ≡ record self.old { caller = caller_after_abandon self.old.caller } }
     {
         self.caller.abandon();
     }
 
-    /// Hears a packet: the command whose reply is learnt, if the packet makes the open request's reply whole. A message that
-    /// the packet makes whole is written into `message`, which else stays as it is; what is learnt is that message's body. A
-    /// packet that is none of the peer's replies changes nothing.
+    /// Takes a packet. Returns the command of the open request if the packet completes its reply.
+    /// Writes a message that the packet completes into `message`, which otherwise is left as it is;
+    /// the reply is that message's body. A packet that isn't of the peer's replies changes nothing.
     #[tactic(auto, using(crate::proofs::SideRows::rows))]
     pub fn on_reply(&mut self, packet: &Packet<'_>, message: &mut Message) -> Option<u8>
         requires read { IsRead packet.now }
@@ -143,8 +143,8 @@ impl Asker {
         Some(heard.command)
     }
 
-    /// A tick passes: what is held grows older, and the open request is sent again or given up. The message to send is the
-    /// open one's then.
+    /// Counts a tick: held packets grow older, and the open request is sent again or given up. The
+    /// message to send is that of the request which is open afterwards.
     pub fn tick(&mut self) -> CallTick
         ensures answer { result ≡ tick_word (caller_tick self.old.caller).1 }
         ensures message { tick_of result self.new.caller.asked ≡ (caller_tick self.old.caller).1 }

@@ -1,4 +1,4 @@
-//! One direction's requests.
+//! The requests of one direction.
 
 ghost use Rattle.std.specs.Prelude.{◌≡◌, ◌≤◌, ◌%◌, length, List, ℕ, IfSome, IsSome, IsSomeAnd, option_map, is_some, true};
 ghost use Rattle.pldm_base.specs.Limits.{reply_limit};
@@ -12,10 +12,10 @@ use mctp_wire::Unit;
 use pldm_base::{MAX_REPLY, PldmHead};
 use std::marker::Model;
 
-/// Requests of a direction are numbered modulo this: an instance identifier has five bits (DSP0240).
+/// The modulus of the requests' numbers: an instance identifier has five bits (DSP0240).
 const IDENTIFIERS: u8 = 32;
 
-/// The tag of the request that has this identifier.
+/// Returns the tag of the request with this identifier.
 fn tag_of(identifier: u8) -> u8
     ensures { result ≡ identifier % 8 }
 {
@@ -31,7 +31,7 @@ struct OpenRequest {
 }
 
 impl OpenRequest {
-    /// The body of a message, where it is an answer to this request.
+    /// Returns the body of a message if it is an answer to this request.
     fn answer_in<'m>(&self, message: &'m Message) -> Option<&'m [u8]>
         ensures value { option_map (λ b. b.now) result ≡ answer_body (open_of self.now) message.now }
         ensures found { IfSome result (λ b. IsAnswerTo (open_of self.now) message.now b.now) }
@@ -51,14 +51,14 @@ impl OpenRequest {
         }
     }
 
-    /// Whether the request is sent again at this age.
+    /// Returns whether the request is sent again at its age.
     fn is_due(&self) -> bool
         ensures { result ≡ sends_at self.now.age }
     {
         self.age == RETRY || self.age == 2 * RETRY
     }
 
-    /// Whether the head of a message is that of an answer to this request.
+    /// Returns whether the head of a message is that of an answer to this request.
     fn is_answered_by(&self, head: &PldmHead) -> bool
         ensures { result ≡ is_answer_head (open_of self.now) head.now }
     {
@@ -69,16 +69,16 @@ impl OpenRequest {
     }
 }
 
-/// What an answer brings.
+/// An answer to a request.
 #[derive(Clone, Copy, PartialEq, Eq)]
 pub struct ReplyIn<'m> {
-    /// The command that it answers.
+    /// The command of the request.
     pub command: u8,
-    /// What follows the header, where it lies in the message: the completion code and the fields.
+    /// The bytes after the header, borrowed from the message: the completion code and the fields.
     pub reply: &'m [u8],
 }
 
-/// What a tick asks of the node.
+/// The result of a tick.
 #[derive(Clone, Copy, Debug, PartialEq, Eq)]
 pub enum CallTick {
     /// Nothing is to be sent.
@@ -113,7 +113,7 @@ impl Model for Caller {
 }
 
 impl Caller {
-    /// The requests of the node `own` to the node `peer`, before the first.
+    /// Returns the caller of the node `own` for the peer `peer`, before its first request.
     #[tactic(auto, using(crate::proofs::Callers::callers))]
     pub fn new(own: u8, peer: u8) -> Caller
         ensures { result ≡ new_caller own peer }
@@ -128,7 +128,7 @@ impl Caller {
         }
     }
 
-    /// Whether a request is open: it waits for its answer.
+    /// Returns whether a request is open: it waits for its answer.
     pub fn is_open(&self) -> bool
         ensures value { result ≡ is_some self.now.asked }
         ensures lawful { IsCaller self.now }
@@ -136,7 +136,7 @@ impl Caller {
         self.asked.is_some()
     }
 
-    /// The command and the request data of the open request.
+    /// Returns the command and the request data of the open request.
     #[tactic(auto, using(crate::proofs::Callers::open_bytes))]
     pub fn open_request(&self) -> Option<(u8, &[u8])>
         ensures { option_map {U = ℕ × List ℕ} (λ r. (r.0, r.1.now)) result ≡ option_map request_of_open self.now.asked }
@@ -150,7 +150,7 @@ impl Caller {
         Some((open.head.command, body))
     }
 
-    /// The message of the open request.
+    /// Returns the message of the open request.
     pub fn open_message(&self) -> Option<&Message>
         ensures { option_map (λ m. m.now) result ≡ option_map (λ o. o.message) self.now.asked }
     {
@@ -160,8 +160,8 @@ impl Caller {
         Some(&open.message)
     }
 
-    /// Whether nothing of the last request can come any more: no request is open, and the last one was answered, or its
-    /// tag has rested.
+    /// Returns whether no packet of the last request can still arrive: no request is open, and the
+    /// last one was answered or its tag has rested.
     pub fn quiet(&self) -> bool
         ensures value { result ≡ is_quiet self.now }
         ensures lawful { IsCaller self.now }
@@ -170,7 +170,7 @@ impl Caller {
         self.asked.is_none() && (self.answered || self.rests.is_rested(tag_of(last)))
     }
 
-    /// The ticks until each of the eight tags may be used again.
+    /// Returns the ticks until each of the eight tags may be used again.
     pub fn rests(&self) -> &[u8; TAGS]
         ensures value { result.now ≡ self.now.rests }
         ensures lawful { IsCaller self.now }
@@ -178,7 +178,7 @@ impl Caller {
         self.rests.row()
     }
 
-    /// Whether a request may begin: it is quiet, and the next tag has rested.
+    /// Returns whether a request may begin: the caller is quiet, and the next tag has rested.
     pub fn can_begin(&self) -> bool
         ensures value { result ≡ may_begin self.now }
         ensures lawful { IsCaller self.now }
@@ -186,9 +186,10 @@ impl Caller {
         self.quiet() && self.rests.is_rested(tag_of(self.number))
     }
 
-    /// Begins a request of a PLDM type and a command, and gives out the message to send: request n (from 0) carries tag
-    /// n modulo 8 and identifier n modulo 32. It asks that a request may begin (`can_begin`), a type of at most 63 and a
-    /// body that one message of the transmission unit holds.
+    /// Begins a request of a PLDM type and a command, and returns the message to send. Request n
+    /// (from 0) has tag n modulo 8 and identifier n modulo 32. A request must be allowed to begin
+    /// (`can_begin`), the type must be at most 63, and the body must fit one message of the
+    /// transmission unit.
     #[tactic(auto, using(crate::proofs::Callers::callers))]
     pub fn begin(&mut self, unit: Unit, pldm_type: u8, command: u8, body: &[u8]) -> Message
         requires may { may_begin self.old ≡ true }
@@ -221,8 +222,9 @@ impl Caller {
         message
     }
 
-    /// Hears a message. Where it is an answer to the open request it closes that, and what it brings is given out: TO
-    /// and Rq are clear, and tag, identifier, type and command are the request's. Any other message changes nothing.
+    /// Takes a message. An answer to the open request closes the request and is returned: TO and Rq
+    /// are clear, and tag, identifier, type and command are the request's. Any other message
+    /// changes nothing.
     #[tactic(auto, using(crate::proofs::Callers::callers))]
     pub fn on_answer<'m>(&mut self, message: &'m Message) -> Option<ReplyIn<'m>>
         ensures answer { option_map (λ r. record { command = r.command; reply = r.reply.now }) result ≡ (answer_outcome self.old message.now).1 }
@@ -242,7 +244,7 @@ impl Caller {
         Some(ReplyIn { command, reply })
     }
 
-    /// Gives the open request up, if there is one: it isn't sent again, and its answer is dropped.
+    /// Abandons the open request, if there is one: it isn't sent again, and its answer is dropped.
     #[tactic(auto, using(crate::proofs::Callers::callers))]
     pub fn abandon(&mut self)
         ensures { self.new ≡ caller_after_abandon self.old }
@@ -250,8 +252,8 @@ impl Caller {
         let _ = self.asked.take();
     }
 
-    /// A tick passes. The open request is sent again 6 and 12 ticks after it began, and given up after 18. The message to
-    /// send is the open one's then.
+    /// Counts a tick. The open request is sent again 6 and 12 ticks after it began, and given up
+    /// after 18. The message to send is that of the request which is open afterwards.
     #[tactic(auto, using(crate::proofs::Callers::callers))]
     pub fn tick(&mut self) -> CallTick
         ensures answer { result ≡ tick_word (caller_tick self.old).1 }

@@ -1,5 +1,6 @@
-//! Exchanges of PLDM messages (DSP0240) between two nodes: the requests of one direction, which are repeated until they
-//! are answered, and the answers of the other, which are kept for requests that come again.
+//! Exchanges of PLDM messages (DSP0240) between two nodes: the requests of one direction, which are
+//! repeated until they are answered, and the answers of the other, which are kept for repeated
+//! requests.
 #![tactic(auto)]
 
 mod answerer;

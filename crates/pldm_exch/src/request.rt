@@ -8,7 +8,7 @@ use mctp_reasm::Message;
 use pldm_base::{MAX_REPLY, PldmHead};
 use std::marker::Model;
 
-/// A PLDM request as it came, which is to be answered, and the message in which it lies.
+/// A received PLDM request that is to be answered, and its message.
 #[derive(Drop)]
 pub struct Request<'m> {
     pub(crate) message: &'m Message,
@@ -27,7 +27,7 @@ impl<'m> Model for Request<'m> {
 }
 
 impl<'m> Request<'m> {
-    /// The request that lies in this message under this head, as `Brought::New` tells it.
+    /// Returns the request in this message with this head, which `Received::New` holds.
     pub fn new(message: &'m Message, head: PldmHead) -> Request<'m>
         requires { IsPldmHead head }
         ensures { result ≡ record { message = message.now; head = head; body = body_in (pldm_of message.now.bytes) } }
@@ -50,7 +50,8 @@ impl<'m> Request<'m> {
     }
 }
 
-/// What follows the header of a PLDM message, at most `MAX_REPLY` bytes; no byte of any other message.
+/// Returns the bytes after the header of a PLDM message, at most `MAX_REPLY`; for any other
+/// message, no bytes.
 pub fn body_of(message: &Message) -> &[u8]
     ensures body { result.now ≡ body_in (pldm_of message.now.bytes) }
     ensures short { length result.now ≤ MAX_REPLY }
@@ -61,15 +62,17 @@ pub fn body_of(message: &Message) -> &[u8]
     }
 }
 
-/// What a packet brings to the node that answers, which lays the message that it speaks of beside it.
+/// The outcome of a packet at the node that answers. The message that it names is in a place of its
+/// own.
 #[derive(Clone, Copy, PartialEq, Eq)]
 pub enum Received {
-    /// Nothing is to be done.
+    /// There is nothing to do.
     Nothing,
-    /// A request came again: its kept answer lies there, which is to be sent again, and nothing else is to be done.
+    /// A request was repeated. The message is its kept answer: the node sends it again, and does
+    /// nothing else.
     Again,
-    /// A new request with this head lies there: it is to be answered.
+    /// The message is a new request with this head, which is to be answered.
     New(PldmHead),
-    /// A whole message that is no PLDM request lies there.
+    /// The message is complete and no PLDM request.
     Strays,
 }

@@ -25,7 +25,7 @@ impl Model for Rests {
 }
 
 impl Rests {
-    /// All tags may be used.
+    /// Returns rests of 0: all tags may be used.
     #[tactic(auto, using(crate::proofs::Resting::rests))]
     pub fn new() -> Rests
         ensures { result ≡ no_rests }
@@ -33,7 +33,7 @@ impl Rests {
         Rests { row: [0; TAGS] }
     }
 
-    /// The row of the rests, one a tag.
+    /// Returns the rests, one for each tag.
     pub fn row(&self) -> &[u8; TAGS]
         ensures value { result.now ≡ self.now }
         ensures lawful { AreRests self.now }
@@ -41,7 +41,7 @@ impl Rests {
         &self.row
     }
 
-    /// A tag is used now.
+    /// Starts the rest of a tag, which is used now.
     #[tactic(auto, using(crate::proofs::Resting::rests))]
     pub fn start(&mut self, tag: u8)
         requires tag { tag < 8 }
@@ -50,7 +50,7 @@ impl Rests {
         self.row[tag as usize] = RETIRE;
     }
 
-    /// A tick passes.
+    /// Counts a tick.
     #[tactic(auto, using(crate::proofs::Resting::rests))]
     pub fn tick(&mut self)
         ensures { self.new ≡ rests_after_tick self.old }
@@ -58,7 +58,7 @@ impl Rests {
         fall(self.row.as_mut_slice());
     }
 
-    /// Whether a tag may be used.
+    /// Returns whether a tag may be used.
     pub fn is_rested(&self, tag: u8) -> bool
         requires tag { tag < 8 }
         ensures value { result ≡ (get_or self.now tag 0 == 0) }
@@ -67,7 +67,7 @@ impl Rests {
     }
 }
 
-/// Each of these rests falls by one, until it is 0.
+/// Lowers each rest by one, down to 0.
 fn fall(rests: &mut [u8])
     ensures { rests.new ≡ rests_after_tick rests.old }
 {

@@ -15,8 +15,8 @@ use mctp_wire::{Packet, Unit};
 use pldm_base::{MAX_REPLY, PldmHead};
 use std::marker::Model;
 
-/// What a node has to answer one peer: the answers that it keeps, and the assemblies of that peer's requests. A node that
-/// is deaf gives it neither packets nor ticks.
+/// The state of a node that answers one peer: the answers that it keeps, and the assemblies of that
+/// peer's requests. A node that is deaf passes it neither packets nor ticks.
 #[derive(Drop)]
 pub struct Taker {
     answerer: Answerer,
@@ -35,8 +35,8 @@ impl Model for Taker {
 }
 
 impl Taker {
-    /// The end of the node `own` that answers the node `peer` in a network with this transmission unit, before its first
-    /// answer.
+    /// Returns the taker of the node `own` for the peer `peer` in a network with this transmission
+    /// unit, before its first answer.
     pub fn new(unit: Unit, own: u8, peer: u8) -> Taker
         ensures { result ≡ answering_new unit own peer }
     {
@@ -60,16 +60,16 @@ impl Taker {
         self.inbox.own()
     }
 
-    /// The endpoint identifier of the node that it answers.
+    /// The endpoint identifier of the peer.
     pub fn peer(&self) -> u8
         ensures { result ≡ self.now.peer }
     {
         self.inbox.peer()
     }
 
-    /// Hears a packet, and tells what is to be done if the packet makes a message whole: what the answer speaks of is written
-    /// into `message`, which stays as it is where nothing is to be done. A packet that is none of the peer's requests changes
-    /// nothing.
+    /// Takes a packet, and returns the outcome. Writes the message that the outcome names into
+    /// `message`, which is left as it is if there is nothing to do. A packet that isn't of the
+    /// peer's requests changes nothing.
     #[tactic(auto, using(crate::proofs::SideRows::rows))]
     pub fn on_request(&mut self, packet: &Packet<'_>, message: &mut Message) -> Received
         requires read { IsRead packet.now }
@@ -86,7 +86,8 @@ impl Taker {
         self.read(message)
     }
 
-    /// What a whole message brings: its kept answer takes its place where it came again.
+    /// Returns the outcome of a complete message. If the request was repeated, its kept answer
+    /// replaces the message.
     #[tactic(auto, using(crate::proofs::SideRows::rows))]
     fn read(&self, message: &mut Message) -> Received
         ensures brought { received_of result message.new ≡ received_in (taker_read self.now.requests self.now.kept message.old (pldm_of message.old.bytes)) }
@@ -105,8 +106,9 @@ impl Taker {
         Received::New(head)
     }
 
-    /// Answers a new request with a completion code and fields of at most `MAX_REPLY` bytes: the message to send, which is
-    /// kept. That the message fits the transmission unit is the node's to see to.
+    /// Answers a new request with a completion code and fields of at most `MAX_REPLY` bytes. Keeps
+    /// the answer and returns it for sending. The node ensures that the message fits the
+    /// transmission unit.
     pub fn answer(&mut self, request: &Request<'_>, reply: &[u8]) -> Message
         requires { length reply.now ≤ MAX_REPLY }
         ensures answer { result ≡ reply_message request.now.message request.now.head reply.now }
@@ -117,7 +119,7 @@ impl Taker {
         answer
     }
 
-    /// A tick passes: what is held and what is kept grow older.
+    /// Counts a tick: held packets and kept answers grow older.
     pub fn tick(&mut self)
         ensures { self.new ≡ answering_older self.old }
     {
@@ -126,7 +128,7 @@ impl Taker {
     }
 }
 
-/// The reply to a request, as a message.
+/// Returns the reply to a request, as a message.
 fn reply_to(request: &Message, head: &PldmHead, reply: &[u8]) -> Message
     requires reply { length reply.now ≤ MAX_REPLY }
     requires head { IsPldmHead head.now }

@@ -1,4 +1,4 @@
--- Where a session gets into AllApplied from, row by row.
+-- The cases in which a session gets into AllApplied.
 use Rattle.std.specs.Prelude.{Bool, Err, List, Ok, Result, [], false, if◌then◌else◌, nat_lt, true, ◌&&◌, ◌||◌, ◌==◌, ◌∷◌, ◌≡◌, ℕ, map}
 use Rattle.std.proofs.Common.{refl}
 use Rattle.mctp_wire.specs.declared.unit.Unit.{«Unit»}
@@ -15,13 +15,13 @@ use Rattle.ua_core.specs.declared.planned.Planned.{Planned}
 use Rattle.ua_core.specs.declared.state.Cause.{Cause}
 use Rattle.ua_core.specs.declared.state.Cause.TheVariants as causes
 
--- the row leads there
+-- the case leads to AllApplied
 abbrev LeadsToAll : ServeRow → Type 0
 LeadsToAll (ServeRow.Move g a) = IsAllApplied g
 LeadsToAll (ServeRow.Record t) = t.todo ≡ []
 LeadsToAll _ = ⊥
 
--- after a record nothing is left to do
+-- after a record that leads there, nothing is left to do
 nothing_left : (t : TaskOf) (todo : List Planned) → IsAllApplied (task_after t todo) → todo ≡ []
 nothing_left t [] h = refl
 nothing_left t (i ∷ is) h = absurd h
@@ -32,7 +32,7 @@ leads_by s (ServeRow.Move g a) out h = h
 leads_by s (ServeRow.Say a) out h = out h
 leads_by s (ServeRow.Give bytes) out h = out h
 
--- two rows that don't lead there
+-- two cases that don't lead there
 leads_both : (b : Bool) (r q : ServeRow) → (LeadsToAll r → ⊥) → (LeadsToAll q → ⊥) → LeadsToAll (if b then r else q) → ⊥
 leads_both true r q x y h = x h
 leads_both false r q x y h = y h
@@ -90,7 +90,7 @@ not_all_applied : (g : Stage) → IsElsewhere g → IsAllApplied g → ⊥
 not_all_applied (Stage.AllApplied j) x h = x
 not_all_applied g x h = h
 
--- what an answer brings is another stage
+-- an answer leads to another stage
 abbrev LeadsElsewhere : SessionLearnRow → Type 0
 LeadsElsewhere SessionLearnRow.Stay = Prim.Unit {0}
 LeadsElsewhere (SessionLearnRow.Go g) = IsElsewhere g

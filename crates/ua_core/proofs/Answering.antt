@@ -1,4 +1,4 @@
--- Each command of a device is answered by what reads as an answer to it.
+-- The reply to each command of a device reads as an answer to it.
 use Rattle.std.proofs.Common.{◌≡◌, ◌==◌, ◌&&◌, ℕ, Bool, true, false, if◌then◌else◌, nat_lt, List, Some, refl}
 use Rattle.mctp_wire.specs.declared.unit.Unit.{«Unit»}
 use Rattle.fw_package.specs.Choice.{component_at}
@@ -9,7 +9,7 @@ use Rattle.fwup_wire.specs.Values.{CommandOf}
 use Rattle.ua_core.specs.Serve.{ServeRow, agent_answer, answer_by, apply_row, data_of, data_row, is_bad_length, is_past_end, refusal_row, transfer_row, verify_row, window}
 use Rattle.ua_core.specs.Session.{SessionOf, Stage}
 
--- what a row answers reads as an answer to this command
+-- the answer of a case reads as an answer to this command
 abbrev Reads : ℕ → ServeRow → Type 0
 Reads command row = answer_in command (answer_bytes (answer_by row)) ≡ Some (answer_by row)
 

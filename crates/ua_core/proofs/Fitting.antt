@@ -1,4 +1,4 @@
--- What a session answers fits a message of its network, row by row.
+-- A session's answers fit a message of its network, case by case.
 use Rattle.std.proofs.Common.{◌&&◌, ◌+◌, ◌-◌, ◌==◌, ◌||◌, ◌≡◌, ◌≤◌, ℕ, Bool, List, arith, drop, false, if◌then◌else◌, length, nat_lt, refl, replicate, take, true}
 use Rattle.std.proofs.lemmas.Bool.{ltb-false}
 use Rattle.std.proofs.lemmas.List.{length-append, length-replicate, length-take}
@@ -14,11 +14,11 @@ use Rattle.fwup_wire.specs.declared.transfers.TheConstants.{MIN_TRANSFER}
 use Rattle.ua_core.specs.Serve.{ServeRow, agent_answer, answer_by, apply_row, data_of, data_row, is_bad_length, is_past_end, refusal_row, transfer_row, verify_row, window}
 use Rattle.ua_core.specs.Session.{SessionOf, Stage}
 
--- what a row answers fits a message
+-- the answer of a case fits a message
 abbrev Fits : «Unit» → ServeRow → Type 0
 Fits unit row = length (answer_bytes (answer_by row)) ≤ reply_limit unit
 
--- a code alone does
+-- a code alone fits
 alone : (unit : «Unit») → 1 ≤ reply_limit unit
 alone unit = fits_each unit 1 (omega arith)
 
@@ -29,7 +29,7 @@ either unit false x y hx hy = hy
 taken_few : (n : ℕ) (xs : List ℕ) → length (take n xs) ≤ n
 taken_few n xs = rw (length-take n xs) (omega arith)
 
--- so many bytes are served as were asked for
+-- the served piece has the requested length
 window_length : (image : List ℕ) (offset size : ℕ) → length (window image offset size) ≡ size
 window_length image offset size =
     let few = taken_few size (drop offset image) in

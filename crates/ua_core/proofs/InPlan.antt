@@ -16,7 +16,7 @@ use Rattle.ua_core.specs.Session.{JobOf, SessionOf, Stage, TaskOf}
 use Rattle.ua_core.specs.declared.planned.Planned.{Planned}
 use Rattle.ua_core.specs.declared.state.Cause.TheVariants as causes
 
--- what a row brings stands in the plan
+-- the stage of a case is in the plan
 abbrev RowInPlan : PackageText → ServeRow → Type 0
 RowInPlan p (ServeRow.Move g a) = IsStageInPlan p g
 RowInPlan p (ServeRow.Record t) = IsTask p t
@@ -86,7 +86,7 @@ numbers_indexed : (p : PackageText) (devices : List ParametersOf) (is : List Pla
 numbers_indexed p devices [] = refl
 numbers_indexed p devices (i ∷ is) = ap (λ rest. i.component ∷ rest) (numbers_indexed p devices is)
 
--- what an answer brings stands in the plan
+-- the stage after an answer is in the plan
 abbrev LearntInPlan : PackageText → SessionLearnRow → Type 0
 LearntInPlan p SessionLearnRow.Stay = Prim.Unit {0}
 LearntInPlan p (SessionLearnRow.Go g) = IsStageInPlan p g
@@ -117,7 +117,7 @@ next_in : (p : PackageText) (j : JobOf) (left todo : List Planned) → IsPlanned
 next_in p j [] todo h all x = update_in p j todo h x
 next_in p j (i ∷ is) todo h all x = (h, All-head (IsOfPlan j) i is all, All-tail (IsOfPlan j) i is all, x)
 
--- a component that is to be done joins those to do
+-- a component to do is added to those to do
 passed_in : (j : JobOf) (i : Planned) (todo : List Planned) (b : Bool) → IsOfPlan j i → All (IsOfPlan j) todo
     → All (IsOfPlan j) (if b then todo ++ i ∷ [] else todo)
 passed_in j i todo true h x = All-push (IsOfPlan j) todo i x h

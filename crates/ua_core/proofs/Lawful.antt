@@ -1,4 +1,4 @@
--- The laws, row by row.
+-- The laws, case by case.
 use Rattle.std.specs.Prelude.{Bool, IsSome, List, [], false, if◌then◌else◌, nat_lt, true, ◌&&◌, ◌++◌, ◌==◌, ◌∷◌, ◌≡◌, ℕ}
 use Rattle.std.proofs.Common.{refl, subst, sym, append-nil}
 use Rattle.mctp_wire.specs.declared.unit.Unit.{«Unit»}
@@ -42,7 +42,7 @@ learns_by s (SessionLearnRow.Go g) = refl
 pub learns_no_record : LearnsNoRecord
 learns_no_record p s a = learns_by s (learn_row p s.stage a)
 
--- two rows that leave the session as it is
+-- two cases that leave the session as it is
 stands_both : (s : SessionOf) (b : Bool) (r q : ServeRow) → after_by s r ≡ s → after_by s q ≡ s → after_by s (if b then r else q) ≡ s
 stands_both s true r q x y = x
 stands_both s false r q x y = y
@@ -66,7 +66,7 @@ stands_in unit p s g c h = refl
 pub wish_stands : WishStands
 wish_stands p s c h = stands_in s.unit p s s.stage c h
 
--- two rows that record nothing
+-- two cases that record nothing
 nothing_both : (s : SessionOf) (b : Bool) (r q : ServeRow) → recorded_with s r ≡ [] → recorded_with s q ≡ []
     → recorded_with s (if b then r else q) ≡ []
 nothing_both s true r q x y = x
@@ -78,7 +78,7 @@ data_nothing unit s image offset size =
     (if is_past_end image offset size then refusal_row 0x82 else ServeRow.Give (window image offset size)) refl
     (nothing_both s (is_past_end image offset size) (refusal_row 0x82) (ServeRow.Give (window image offset size)) refl refl)
 
--- only in Apply a record is made
+-- a record is made only in Apply
 nothing_in : (unit : «Unit») (p : PackageText) (s : SessionOf) (g : Stage) (c : CommandOf) → (IsApplying g → ⊥)
     → recorded_with s (serve_row unit p g c) ≡ []
 nothing_in unit p s (Stage.Download t) (CommandOf.RequestFirmwareData offset size) h =
@@ -101,7 +101,7 @@ nothing_in unit p s g c h = refl
 pub records_in_apply : RecordsInApply
 records_in_apply p s c h = nothing_in s.unit p s s.stage c h
 
--- and there at every good ApplyComplete
+-- and in Apply at every good ApplyComplete
 pub records_good_apply : RecordsGoodApply
 records_good_apply p s t methods is =
     subst (λ g. recorded_with s (serve_row s.unit p g (CommandOf.ApplyComplete 0 methods)) ≡ record_of s t ∷ []) (sym is) refl

@@ -1,4 +1,4 @@
--- Zeros behind zeros.
+-- Zeros after zeros.
 use Rattle.std.specs.Prelude.{[], replicate, ◌+◌, ◌++◌, ◌∷◌, ◌≡◌, ℕ}
 use Rattle.std.proofs.lemmas.List.{replicate-append-replicate}
 

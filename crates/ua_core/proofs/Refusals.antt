@@ -1,4 +1,4 @@
--- A command that is answered by a refusal takes the row of one.
+-- A command that is answered by a refusal has a refusing case.
 use Rattle.std.proofs.Common.{◌≡◌, ◌==◌, ◌&&◌, ℕ, Bool, true, false, if◌then◌else◌, nat_lt, List, ap}
 use Rattle.mctp_wire.specs.declared.unit.Unit.{«Unit»}
 use Rattle.fw_package.specs.Choice.{component_at}
@@ -9,7 +9,7 @@ use Rattle.ua_core.specs.Serve.{ServeRow, after_by, answer_by, apply_row, data_o
 use Rattle.ua_core.specs.Session.{Stage, TaskOf}
 use Rattle.ua_core.specs.declared.state.Cause.TheVariants as causes
 
--- what refuses does nothing else
+-- a refusal has no other effect
 abbrev IsRefusal : ServeRow → Type 0
 IsRefusal r = (code : ℕ) → answer_by r ≡ AnswerOf.Refused code → r ≡ refusal_row code
 

@@ -1,4 +1,4 @@
--- Pieces put behind each other.
+-- Consecutive pieces.
 use Prim.Native.Nat.{suc, zero}
 use Rattle.std.specs.Prelude.{List, [], length, replicate, take, ◌+◌, ◌++◌, ◌-◌, ◌∷◌, ◌≡◌, ℕ}
 use Rattle.std.proofs.Common.{ap, arith, refl}

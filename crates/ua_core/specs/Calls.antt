@@ -5,11 +5,11 @@ use Rattle.mctp_wire.specs.declared.unit.Unit.{«Unit»}
 use Rattle.ua_core.specs.Session.{SessionOf, Stage, TimedOf, at_stage, is_free_state, state_of}
 use Rattle.ua_core.specs.declared.state.Cause.TheVariants as causes
 
--- a session as it is made, on a network of this unit
+-- a new session on a network with this unit
 abbrev pub new_session : «Unit» → TimedOf
 new_session unit = record { session = record { unit = unit; stage = Stage.Idle; number = 0; records = [] }; idle = 0 }
 
--- no update is under way
+-- no update is in progress
 abbrev pub is_free : SessionOf → Bool
 is_free s = is_free_state (state_of s.stage)
 
@@ -17,17 +17,17 @@ is_free s = is_free_state (state_of s.stage)
 abbrev pub agent_started : SessionOf → ℕ → SessionOf
 agent_started s number = record { unit = s.unit; stage = Stage.Query; number = number; records = s.records }
 
--- a cancel changes something
+-- whether a cancel changes the session
 abbrev pub may_cancel : Stage → Bool
 may_cancel Stage.Idle = false
 may_cancel Stage.Cancelling = false
 may_cancel _ = true
 
--- where a cancel leads
+-- the session after a cancel
 abbrev pub agent_cancelled : SessionOf → SessionOf
 agent_cancelled s = if may_cancel s.stage then at_stage s Stage.Cancelling else s
 
--- where an activation leads, if it is time for one
+-- the stage after an activation, if it is allowed
 abbrev pub activated_stage : Stage → Option Stage
 activated_stage (Stage.AllApplied j) = Some (Stage.Activate j)
 activated_stage _ = None
@@ -35,7 +35,7 @@ activated_stage _ = None
 abbrev pub agent_activated : SessionOf → Option SessionOf
 agent_activated s = option_map (at_stage s) (activated_stage s.stage)
 
--- where it leads that the device gave no answer
+-- the stage after the device gave no answer
 abbrev pub silent_stage : Stage → Stage
 silent_stage Stage.Cancelling = Stage.Idle
 silent_stage _ = Stage.Failed causes.Silent
@@ -43,11 +43,11 @@ silent_stage _ = Stage.Failed causes.Silent
 abbrev pub agent_silent : SessionOf → SessionOf
 agent_silent s = at_stage s (silent_stage s.stage)
 
--- the stages that time ends
+-- the stages that time out
 abbrev pub times_out : Stage → Bool
 times_out g = not (is_free_state (state_of g))
 
--- where it leads that nothing moved for too long
+-- the stage after a time-out
 abbrev pub timeout_stage : Stage → Stage
 timeout_stage Stage.Cancelling = Stage.Idle
 timeout_stage g = if times_out g then Stage.Failed causes.TimeOut else g
@@ -55,13 +55,13 @@ timeout_stage g = if times_out g then Stage.Failed causes.TimeOut else g
 abbrev pub agent_timeout : SessionOf → SessionOf
 agent_timeout s = at_stage s (timeout_stage s.stage)
 
--- a tick in which nothing moved: the 240th in a row ends the update
+-- an idle tick: the 240th in a row ends the update
 abbrev pub idle_ticked : TimedOf → TimedOf
 idle_ticked s =
     if not (times_out s.session.stage) then s
     else if s.idle + 1 == 240 then record { session = agent_timeout s.session; idle = 0 }
     else record { session = s.session; idle = s.idle + 1 }
 
--- what a restart leaves: the records and the number of the package
+-- the session after a restart: it keeps the records and the number of the package
 abbrev pub agent_restart : SessionOf → SessionOf
 agent_restart s = at_stage s Stage.Idle

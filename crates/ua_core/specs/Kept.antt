@@ -1,11 +1,11 @@
--- How a session is kept: what it held at earlier stages stays where it is and isn't looked at.
+-- The representation of a session: fields of earlier stages keep their values and are ignored.
 use Rattle.std.specs.Prelude.{List, ◌+◌, ◌≤◌, ℕ}
 use Rattle.ua_core.specs.Session.{JobOf, Stage}
 use Rattle.ua_core.specs.declared.planned.Planned.{Planned}
 use Rattle.ua_core.specs.declared.state.SessionState.{SessionState}
 use Rattle.ua_core.specs.declared.state.SessionState.TheVariants as states
 
--- the stage, put together from the state and from what stands beside it
+-- the stage, from the state and the other fields
 abbrev pub stage_of : SessionState → JobOf → Planned → List Planned → List Planned → ℕ → Stage
 stage_of states.Idle j i left todo made = Stage.Idle
 stage_of states.Query j i left todo made = Stage.Query
@@ -23,8 +23,8 @@ stage_of states.Done j i left todo made = Stage.Done
 stage_of states.Cancelling j i left todo made = Stage.Cancelling
 stage_of (states.Failed cause) j i left todo made = Stage.Failed cause
 
--- There is room for the records that this start may still make: eight of them until the components are passed, then one for
--- the component at hand and for each that comes after it.
+-- There is room for the records that this start may still make: eight of them until the components
+-- are passed, then one for the current component and for each that comes after it.
 abbrev pub HasRecordRoom : SessionState → (records rest made room : ℕ) → Type 0
 HasRecordRoom states.Query records rest made room = records + 8 ≤ room
 HasRecordRoom states.Params records rest made room = records + 8 ≤ room

@@ -1,4 +1,4 @@
--- What holds of every session, as the proof over a pair of agent and device needs it.
+-- The laws of every session that the proof over a pair of agent and device needs.
 use Rattle.std.specs.Prelude.{[], All, Contains, IsSome, List, Ok, Result, Some, length, map, take, ◌++◌, ◌∷◌, ◌≡◌, ◌+◌, ℕ}
 use Rattle.fw_package.specs.Choice.{component_at, plan_of, record_number}
 use Rattle.fw_package.specs.Package.{PackageText}
@@ -19,14 +19,14 @@ number_of i = i.component
 abbrev pub IsPlanned : PackageText → JobOf → Type 0
 IsPlanned p j = plan_of p j.chosen ≡ Ok (map number_of j.plan)
 
--- the component at hand and those to do are of the plan
+-- the component is one of the plan
 abbrev pub IsOfPlan : JobOf → Planned → Type 0
 IsOfPlan j i = Contains j.plan i
 
 abbrev pub IsTask : PackageText → TaskOf → Type 0
 IsTask p t = IsPlanned p t.job × IsOfPlan t.job t.at_hand × All (IsOfPlan t.job) t.todo
 
--- what holds at each stage
+-- the invariant of each stage
 abbrev pub IsStageInPlan : PackageText → Stage → Type 0
 IsStageInPlan p (Stage.Params j) = IsPlanned p j
 IsStageInPlan p (Stage.ClearOld j) = IsPlanned p j
@@ -44,7 +44,7 @@ IsStageInPlan p _ = Unit {0}
 abbrev pub ServesInPlan : Type 0
 ServesInPlan = (p : PackageText) (s : SessionOf) (c : CommandOf) → IsStageInPlan p s.stage → IsStageInPlan p (agent_after p s c).stage
 
--- and so does an answer
+-- an answer keeps the session in the plan
 abbrev pub LearnsInPlan : Type 0
 LearnsInPlan = (p : PackageText) (s : SessionOf) (a : Result AnswerOf Malformed) → IsStageInPlan p s.stage → IsStageInPlan p (agent_learn p s a).stage
 
@@ -62,7 +62,7 @@ abbrev pub PlanHasKeysOnce : Type 0
 PlanHasKeysOnce = (p : PackageText) (j : JobOf) (n m : ℕ) → IsPlanned p j → Contains (map number_of j.plan) n → Contains (map number_of j.plan) m
     → key_of (component_at p n) ≡ key_of (component_at p m) → n ≡ m
 
--- a stage that waits for nothing of the update's own
+-- a stage outside the steps of an update
 abbrev pub IsOutsideUpdate : Stage → Type 0
 IsOutsideUpdate Stage.Idle = Unit {0}
 IsOutsideUpdate Stage.Query = Unit {0}
@@ -71,7 +71,7 @@ IsOutsideUpdate Stage.Cancelling = Unit {0}
 IsOutsideUpdate (Stage.Failed _) = Unit {0}
 IsOutsideUpdate _ = ⊥
 
--- a command that leads to such a stage makes no record
+-- a command after which the session is in such a stage makes no record
 abbrev pub OutsideUpdateRecordsNothing : Type 0
 OutsideUpdateRecordsNothing = (p : PackageText) (s : SessionOf) (c : CommandOf) → IsOutsideUpdate (agent_after p s c).stage → (agent_after p s c).records ≡ s.records
 
@@ -79,7 +79,7 @@ OutsideUpdateRecordsNothing = (p : PackageText) (s : SessionOf) (c : CommandOf) 
 abbrev pub RecordsGrow : Type 0
 RecordsGrow = (p : PackageText) (s : SessionOf) (c : CommandOf) → (agent_after p s c).records ≡ s.records ++ recorded_by p s c
 
--- a record is made where the device applies the component at hand, and nowhere else
+-- the component being updated is being applied; only then does a command make a record
 abbrev pub IsApplying : Stage → Type 0
 IsApplying (Stage.Apply _) = Unit {0}
 IsApplying _ = ⊥
@@ -87,7 +87,7 @@ IsApplying _ = ⊥
 abbrev pub RecordsInApply : Type 0
 RecordsInApply = (p : PackageText) (s : SessionOf) (c : CommandOf) → (IsApplying s.stage → ⊥) → recorded_by p s c ≡ []
 
--- there it is made at every good ApplyComplete, of the component at hand
+-- in that stage every good ApplyComplete makes a record of the component being updated
 abbrev pub RecordsGoodApply : Type 0
 RecordsGoodApply = (p : PackageText) (s : SessionOf) (t : TaskOf) (methods : ℕ) → s.stage ≡ Stage.Apply t
     → recorded_by p s (CommandOf.ApplyComplete 0 methods) ≡ record_of s t ∷ []
@@ -101,22 +101,22 @@ abbrev pub IsAllApplied : Stage → Type 0
 IsAllApplied (Stage.AllApplied _) = Unit {0}
 IsAllApplied _ = ⊥
 
--- the component at hand is being applied, and none is left to do
+-- the component being updated is being applied, and none is left to do
 abbrev pub IsApplyingLast : Stage → Type 0
 IsApplyingLast (Stage.Apply t) = t.todo ≡ []
 IsApplyingLast _ = ⊥
 
--- a command leads to AllApplied from where the last component is applied, and from nowhere else
+-- a command takes the session to AllApplied only while the last component is being applied
 abbrev pub AppliesAll : Type 0
 AppliesAll = (p : PackageText) (s : SessionOf) (c : CommandOf) → (IsAllApplied s.stage → ⊥) → IsAllApplied (agent_after p s c).stage
     → IsApplyingLast s.stage
 
--- and no answer leads there
+-- no answer takes the session there
 abbrev pub LearnsAllAppliedNowhere : Type 0
 LearnsAllAppliedNowhere = (p : PackageText) (s : SessionOf) (a : Result AnswerOf Malformed) → (IsAllApplied s.stage → ⊥)
     → IsAllApplied (agent_learn p s a).stage → ⊥
 
--- while the session wishes a command, the device's commands leave it as it is
+-- while the session has a pending command, the device's commands leave it as it is
 abbrev pub WishStands : Type 0
 WishStands = (p : PackageText) (s : SessionOf) (c : CommandOf) → IsSome (agent_wish p s) → agent_after p s c ≡ s
 
@@ -132,12 +132,12 @@ RefusalsKeepTheSession = (p : PackageText) (s : SessionOf) (c : CommandOf) (code
 abbrev pub RefusalsRecordNothing : Type 0
 RefusalsRecordNothing = (p : PackageText) (s : SessionOf) (c : CommandOf) (code : ℕ) → IsRefusedByAgent p s c code → recorded_by p s c ≡ []
 
--- and the ticks for which nothing moved go on
+-- and the count of idle ticks continues
 abbrev pub RefusalsKeepSessionIdle : Type 0
 RefusalsKeepSessionIdle = (p : PackageText) (s : SessionOf) (idle : ℕ) (c : CommandOf) (code : ℕ) → IsRefusedByAgent p s c code
     → agent_idle p s idle c ≡ idle
 
--- pieces put behind each other continue the image: what stands past its end is cut off
+-- consecutive pieces continue the image: bytes past its end are cut off
 abbrev pub WindowContinues : Type 0
 WindowContinues = (image : List ℕ) (offset size : ℕ)
     → take (length image) (take offset image ++ window image offset size) ≡ take (offset + size) image

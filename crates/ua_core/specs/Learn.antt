@@ -1,4 +1,5 @@
--- What a session makes of an answer to the command that it wished. A row of the table goes somewhere or stays.
+-- A session's handling of an answer to its pending command. Each case changes the stage or keeps
+-- it.
 use Rattle.std.specs.Prelude.{Bool, Err, List, None, Ok, Option, Result, Some, [], if◌then◌else◌, map, ◌&&◌, ◌||◌, ◌++◌, ◌==◌, ◌∷◌, ℕ}
 use Rattle.fw_package.specs.Choice.{component_at, plan_of, record_number}
 use Rattle.fw_package.specs.Package.{ComponentOf, PackageText}
@@ -12,7 +13,8 @@ use Rattle.ua_core.specs.declared.planned.Planned.{Planned}
 use Rattle.ua_core.specs.declared.state.Cause.{Cause}
 use Rattle.ua_core.specs.declared.state.Cause.TheVariants as causes
 
--- what an answer does: nothing, as where the same command is asked again; or another stage, or another component
+-- the effect of an answer: nothing, if the same command is sent again; or another stage, or another
+-- component
 pub data SessionLearnRow : Type 0 where
   Stay : SessionLearnRow
   Go : (g : Stage) → SessionLearnRow
@@ -20,11 +22,11 @@ pub data SessionLearnRow : Type 0 where
 abbrev pub failure_row : Cause → SessionLearnRow
 failure_row cause = SessionLearnRow.Go (Stage.Failed cause)
 
--- a component of a plan, before the device told of its own
+-- a component of a plan, before the device's parameters are received
 abbrev pub unlearnt : ℕ → Planned
 unlearnt number = record { component = number; index = 0 }
 
--- Query: the first record for the device, and what it plans; or why there is nothing to send
+-- Query: the first record for the device, and its plan; or the cause if there is nothing to send
 abbrev pub planned : ℕ → Result (List ℕ) PlanFault → Result JobOf Cause
 planned chosen (Err _) = Err causes.Plan
 planned chosen (Ok []) = Err causes.NothingToUpdate
@@ -45,7 +47,7 @@ abbrev pub query_row : PackageText → Result AnswerOf Malformed → SessionLear
 query_row p (Ok (AnswerOf.QueryDeviceIdentifiers ds)) = SessionLearnRow.Go (first_stage (job_for p ds))
 query_row p a = failure_row causes.Answer
 
--- Params: the index of each component in the device, 0 where the device doesn't name it
+-- Params: the index of each component in the device, 0 if the device doesn't name it
 abbrev pub same_key : Key → Key → Bool
 same_key a b = (a.classification == b.classification) && (a.identifier == b.identifier)
 
@@ -67,7 +69,7 @@ clear_row j (Ok AnswerOf.CancelUpdate) = SessionLearnRow.Go (Stage.Request j)
 clear_row j (Ok (AnswerOf.Refused code)) = if code == 0x80 then SessionLearnRow.Go (Stage.Request j) else failure_row causes.Answer
 clear_row j a = failure_row causes.Answer
 
--- Request: the first component is next. A device that isn't ready is asked again
+-- Request: the first component is next. If the device isn't ready, the command is sent again
 abbrev pub first_pass : JobOf → List Planned → Stage
 first_pass j [] = Stage.Failed causes.NothingToUpdate
 first_pass j (i ∷ is) = Stage.Pass j i is []
@@ -77,8 +79,9 @@ request_row j (Ok AnswerOf.RequestUpdate) = SessionLearnRow.Go (first_pass j j.p
 request_row j (Ok (AnswerOf.Refused code)) = if code == 4 then SessionLearnRow.Stay else failure_row causes.Answer
 request_row j a = failure_row causes.Answer
 
--- Pass: the next component; after the last, the update of the first that is to be done. To do are those that can be updated,
--- and those that only their comparison stamp speaks against (codes 1 and 2) and whose update is forced.
+-- Pass: the next component; after the last, the update of the first component to do. A component is
+-- to do if it can be updated, or if only its comparison stamp prevents it (codes 1 and 2) and its
+-- update is forced.
 abbrev pub is_to_do : ComponentOf → ℕ → Bool
 is_to_do c code = (code == 0) || (((code == 1) || (code == 2)) && is_forced c)
 
@@ -98,20 +101,21 @@ pass_row p j i left todo (Ok (AnswerOf.PassComponentTable response)) =
     SessionLearnRow.Go (next_pass j left (with_passed (component_at p i.component) response.code i todo))
 pass_row p j i left todo a = failure_row causes.Answer
 
--- Update: the device takes the component or refuses it. One that isn't ready, or still ends what went before, is asked again
+-- Update: the device accepts the component or refuses it. If it isn't ready, or is still ending the
+-- previous step, the command is sent again
 abbrev pub update_row : TaskOf → Result AnswerOf Malformed → SessionLearnRow
 update_row t (Ok (AnswerOf.UpdateComponent response)) =
     if response.compatibility == 0 then SessionLearnRow.Go (Stage.Download t) else failure_row causes.Refused
 update_row t (Ok (AnswerOf.Refused code)) = if (code == 4) || (code == 0x84) then SessionLearnRow.Stay else failure_row causes.Answer
 update_row t a = failure_row causes.Answer
 
--- Activate: a device that still ends what went before is asked again
+-- Activate: if the device is still ending the previous step, the command is sent again
 abbrev pub activate_row : Result AnswerOf Malformed → SessionLearnRow
 activate_row (Ok (AnswerOf.ActivateFirmware _)) = SessionLearnRow.Go Stage.Done
 activate_row (Ok (AnswerOf.Refused code)) = if code == 0x84 then SessionLearnRow.Stay else failure_row causes.Answer
 activate_row a = failure_row causes.Answer
 
--- the row of each stage. Where nothing was wished, nothing is learnt
+-- the case of each stage. Without a pending command, the answer is ignored
 abbrev pub learn_row : PackageText → Stage → Result AnswerOf Malformed → SessionLearnRow
 learn_row p Stage.Query a = query_row p a
 learn_row p (Stage.Params j) a = params_row p j a
@@ -123,7 +127,7 @@ learn_row p (Stage.Activate _) a = activate_row a
 learn_row p Stage.Cancelling a = SessionLearnRow.Go Stage.Idle
 learn_row p _ a = SessionLearnRow.Stay
 
--- what a row does
+-- the effect of a case
 abbrev pub learn_by : SessionOf → SessionLearnRow → SessionOf
 learn_by s SessionLearnRow.Stay = s
 learn_by s (SessionLearnRow.Go g) = at_stage s g
@@ -131,7 +135,7 @@ learn_by s (SessionLearnRow.Go g) = at_stage s g
 abbrev pub agent_learn : PackageText → SessionOf → Result AnswerOf Malformed → SessionOf
 agent_learn p s a = learn_by s (learn_row p s.stage a)
 
--- and with the ticks for which nothing moved
+-- the count of idle ticks after a case
 abbrev pub idle_by : ℕ → SessionLearnRow → ℕ
 idle_by idle SessionLearnRow.Stay = idle
 idle_by idle (SessionLearnRow.Go _) = 0

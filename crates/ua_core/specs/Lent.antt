@@ -1,4 +1,4 @@
--- What a session reads from the package that it is lent.
+-- A session's reading of its borrowed package.
 use Rattle.std.specs.Prelude.{Bool, List, None, Option, Some, [], if◌then◌else◌, length, nat_lt, slice_index_or, suc, take, zero, ◌%◌, ◌/◌, ◌==◌, ℕ}
 use Rattle.std.specs.Borrow.{Bor}
 use Rattle.fw_package.specs.Package.{ComponentOf, PackageText}
@@ -6,16 +6,16 @@ use Rattle.fw_package.specs.Package.{DescriptorOf as DescriptorKnown, TextOf as 
 use Rattle.fwup_wire.specs.Values.{DeviceDescriptorOf, TypedTextOf, VersionOf}
 use Rattle.fwup_wire.specs.declared.values.Key.{Key}
 
--- the package that stands for none
+-- the package used if there is none
 abbrev pub no_package : PackageText
 no_package = record { header_size = 0; records = []; components = [] }
 
--- the package that is lent, if one is
+-- the borrowed package, if there is one
 abbrev pub borrowed_package : Option (Bor PackageText) → PackageText
 borrowed_package None = no_package
 borrowed_package (Some p) = p.now
 
--- the package of this number, from 1 on
+-- the package with this number, from 1 on
 abbrev pub package_at : List PackageText → ℕ → PackageText
 package_at packages zero = no_package
 package_at packages (suc n) = slice_index_or packages n no_package
@@ -28,7 +28,7 @@ is_forced c = (c.options % 2) == 1
 abbrev pub uses_stamp : ComponentOf → Bool
 uses_stamp c = ((c.options / 2) % 2) == 1
 
--- the comparison stamp as it is sent: all ones where it isn't used
+-- the comparison stamp as it is sent: all ones if it isn't used
 abbrev pub sent_stamp : ComponentOf → ℕ
 sent_stamp c = if uses_stamp c then c.stamp else 0xFFFFFFFF
 
@@ -36,11 +36,11 @@ sent_stamp c = if uses_stamp c then c.stamp else 0xFFFFFFFF
 abbrev pub sent_size : ComponentOf → ℕ
 sent_size c = if nat_lt 0xFFFFFFFF (length c.image) then 0xFFFFFFFF else length c.image
 
--- A text as it is sent: what a message carries of it. No planned text is longer.
+-- A text as it is sent: the bytes that a message carries. No planned text is longer.
 abbrev pub sent_text : TextKept → TypedTextOf
 sent_text t = record { text_type = t.kind; bytes = take 200 t.bytes }
 
--- what the component's new image calls itself
+-- the version of the component's new image
 abbrev pub sent_version : ComponentOf → VersionOf
 sent_version c = record { stamp = sent_stamp c; text = sent_text c.text }
 
@@ -48,6 +48,6 @@ sent_version c = record { stamp = sent_stamp c; text = sent_text c.text }
 abbrev pub key_of : ComponentOf → Key
 key_of c = record { classification = c.classification; identifier = c.identifier }
 
--- a device's descriptor, as a package is asked for it
+-- a device's descriptor, in the form that a package takes
 abbrev pub package_descriptor : DeviceDescriptorOf → DescriptorKnown
 package_descriptor d = record { kind = d.kind; bytes = d.bytes }

@@ -1,4 +1,4 @@
--- The device's commands to the agent (DSP0267 1.0): which row of the table one takes, and what it does.
+-- The device's commands to the agent (DSP0267 1.0): the case of each command, and its effect.
 use Rattle.std.specs.Prelude.{Bool, List, [], if◌then◌else◌, nat_lt, ◌&&◌, ◌||◌, ◌+◌, ◌++◌, ◌==◌, ◌∷◌, ◌-◌, drop, length, replicate, take, ℕ}
 use Rattle.fw_package.specs.Choice.{component_at}
 use Rattle.fw_package.specs.Package.{PackageText}
@@ -11,12 +11,12 @@ use Rattle.ua_core.specs.declared.planned.Planned.{Planned}
 use Rattle.ua_core.specs.declared.planned.Recorded.{Recorded}
 use Rattle.ua_core.specs.declared.state.Cause.TheVariants as causes
 
--- so many bytes of an image from an offset on, and zeros past its end
+-- bytes of an image from an offset on, with zeros past its end
 abbrev pub window : List ℕ → ℕ → ℕ → List ℕ
 window image offset size = take size (drop offset image) ++ replicate (size - length (take size (drop offset image))) 0
 
--- What a command does: an answer and nothing else; a piece of the image; another stage; or the record of the component at
--- hand, and what comes after it.
+-- The effect of a command: an answer and nothing else; a piece of the image; another stage; or the
+-- record of the component being updated, and the next component.
 pub data ServeRow : Type 0 where
   Say : (a : AnswerOf) → ServeRow
   Give : (bytes : List ℕ) → ServeRow
@@ -31,27 +31,28 @@ refusal_row code = ServeRow.Say (AnswerOf.Refused code)
 abbrev pub unexpected_row : ServeRow
 unexpected_row = refusal_row 0x88
 
--- a good result that was taken before is told again; another is not expected
+-- a good result that was received before is answered again; another is unexpected
 abbrev pub repeated_result_row : ℕ → AnswerOf → ServeRow
 repeated_result_row result a = if result == 0 then ServeRow.Say a else unexpected_row
 
--- a piece of so many bytes is too short or too long to be served
+-- the length of a piece is too short or too long to be served
 abbrev pub is_bad_length : «Unit» → ℕ → Bool
 is_bad_length unit size = nat_lt size MIN_TRANSFER || nat_lt (transfer_size unit) size
 
--- a piece of so many bytes from an offset on ends more than the smallest piece past the image's end
+-- the piece ends more than the smallest piece past the image's end
 abbrev pub is_past_end : List ℕ → ℕ → ℕ → Bool
 is_past_end image offset size = nat_lt (length image + MIN_TRANSFER) (offset + size)
 
--- RequestFirmwareData: a length that can be served (else INVALID_TRANSFER_LENGTH), not past the image's end (else
--- DATA_OUT_OF_RANGE)
+-- RequestFirmwareData: a length that can be served (otherwise INVALID_TRANSFER_LENGTH), not past
+-- the image's end (otherwise DATA_OUT_OF_RANGE)
 abbrev pub data_of : «Unit» → List ℕ → ℕ → ℕ → ServeRow
 data_of unit image offset size =
     if is_bad_length unit size then refusal_row 0x83
     else if is_past_end image offset size then refusal_row 0x82
     else ServeRow.Give (window image offset size)
 
--- while the device's answer to UpdateComponent is awaited, data are to be asked for again: RETRY_REQUEST_FW_DATA
+-- while the session waits for the device's answer to UpdateComponent, data must be requested again:
+-- RETRY_REQUEST_FW_DATA
 abbrev pub data_row : «Unit» → PackageText → Stage → ℕ → ℕ → ServeRow
 data_row unit p (Stage.Update _) offset size = refusal_row 0x89
 data_row unit p (Stage.Download t) offset size = data_of unit (component_at p t.at_hand.component).image offset size
@@ -78,7 +79,8 @@ apply_row (Stage.AllApplied _) result = repeated_result_row result AnswerOf.Appl
 apply_row (Stage.Activate _) result = repeated_result_row result AnswerOf.ApplyComplete
 apply_row _ result = unexpected_row
 
--- the row of each command. A device's other commands are none to the agent: ERROR_UNSUPPORTED_PLDM_CMD
+-- the case of each command. The agent doesn't support the other commands:
+-- ERROR_UNSUPPORTED_PLDM_CMD
 abbrev pub serve_row : «Unit» → PackageText → Stage → CommandOf → ServeRow
 serve_row unit p g (CommandOf.RequestFirmwareData offset size) = data_row unit p g offset size
 serve_row unit p g (CommandOf.TransferComplete result) = transfer_row g result
@@ -91,30 +93,30 @@ abbrev pub task_after : TaskOf → List Planned → Stage
 task_after t [] = Stage.AllApplied t.job
 task_after t (i ∷ is) = Stage.Update (record { job = t.job; at_hand = i; todo = is; made = t.made + 1 })
 
--- the record of the component at hand
+-- the record of the component being updated
 abbrev pub record_of : SessionOf → TaskOf → Recorded
 record_of s t = record { «package» = s.number; component = t.at_hand.component }
 
--- what a row answers
+-- the answer of a case
 abbrev pub answer_by : ServeRow → AnswerOf
 answer_by (ServeRow.Say a) = a
 answer_by (ServeRow.Give bytes) = AnswerOf.RequestFirmwareData bytes
 answer_by (ServeRow.Move _ a) = a
 answer_by (ServeRow.Record _) = AnswerOf.ApplyComplete
 
--- what a row makes of the session
+-- the session after a case
 abbrev pub after_by : SessionOf → ServeRow → SessionOf
 after_by s (ServeRow.Move g _) = at_stage s g
 after_by s (ServeRow.Record t) =
     record { unit = s.unit; stage = task_after t t.todo; number = s.number; records = s.records ++ record_of s t ∷ [] }
 after_by s _ = s
 
--- what it records
+-- the records after a case
 abbrev pub recorded_with : SessionOf → ServeRow → List Recorded
 recorded_with s (ServeRow.Record t) = record_of s t ∷ []
 recorded_with s _ = []
 
--- and what becomes of the ticks for which nothing moved
+-- the count of idle ticks after a case
 abbrev pub idle_after : ℕ → ServeRow → ℕ
 idle_after idle (ServeRow.Say _) = idle
 idle_after idle _ = 0

@@ -1,4 +1,4 @@
--- Where a session stands, and what it holds there.
+-- The stages of a session, and their data.
 use Rattle.std.specs.Prelude.{Bool, List, false, true, ℕ}
 use Rattle.mctp_wire.specs.declared.unit.Unit.{«Unit»}
 use Rattle.ua_core.specs.declared.planned.Planned.{Planned}
@@ -8,19 +8,21 @@ use Rattle.ua_core.specs.declared.state.Cause.TheVariants as causes
 use Rattle.ua_core.specs.declared.state.SessionState.{SessionState}
 use Rattle.ua_core.specs.declared.state.SessionState.TheVariants as states
 
--- what is fixed once the device is known: which of the package's records is for it, and the components to be sent
+-- the parts that are fixed once the device is known: the package's record for it, and the
+-- components to send
 pub record JobOf : Type 0 where
   pub chosen : ℕ
   pub plan : List Planned
 
--- the component at hand, those that are still to do, and how many this start has recorded
+-- the component being updated, those still to do, and the number that this start has recorded
 pub record TaskOf : Type 0 where
   pub job : JobOf
   pub at_hand : Planned
   pub todo : List Planned
   pub made : ℕ
 
--- Where a session stands. In Pass it tells the device of a component, some are left, and some are found to be done.
+-- The stage of a session. In Pass it passes a component to the device, with the components left to
+-- pass and those found to be done.
 pub data Stage : Type 0 where
   Idle : Stage
   Query : Stage
@@ -38,19 +40,20 @@ pub data Stage : Type 0 where
   Cancelling : Stage
   Failed : (cause : Cause) → Stage
 
--- a session: its network's transmission unit, where it stands, the number of the package that it was started with last, and its records
+-- a session: its network's transmission unit, its stage, the number of the package that it was last
+-- started with, and its records
 pub record SessionOf : Type 0 where
   pub unit : «Unit»
   pub stage : Stage
   pub number : ℕ
   pub records : List Recorded
 
--- the same, with the ticks for which nothing moved
+-- the same, with the count of idle ticks
 pub record TimedOf : Type 0 where
   pub session : SessionOf
   pub idle : ℕ
 
--- the state without what it holds
+-- the state without its data
 abbrev pub state_of : Stage → SessionState
 state_of Stage.Idle = states.Idle
 state_of Stage.Query = states.Query
@@ -68,7 +71,7 @@ state_of Stage.Done = states.Done
 state_of Stage.Cancelling = states.Cancelling
 state_of (Stage.Failed cause) = states.Failed cause
 
--- the states in which no update is under way
+-- the states with no update in progress
 abbrev pub is_free_state : SessionState → Bool
 is_free_state states.Idle = true
 is_free_state states.Done = true

@@ -1,4 +1,4 @@
--- Which command a session wishes to ask.
+-- A session's pending command.
 use Rattle.std.specs.Prelude.{None, Option, Some, true, if◌then◌else◌, length, ◌+◌, ◌==◌, ℕ}
 use Rattle.fw_package.specs.Choice.{component_at, record_at}
 use Rattle.fw_package.specs.Package.{PackageText}
@@ -11,7 +11,7 @@ use Rattle.ua_core.specs.Lent.{is_forced, key_of, sent_size, sent_text, sent_ver
 use Rattle.ua_core.specs.Session.{JobOf, SessionOf, Stage}
 use Rattle.ua_core.specs.declared.planned.Planned.{Planned}
 
--- the place of an entry in a table of so many, by how many come after it
+-- the flag of an entry in a table of `count` entries, `left` of which come after it
 abbrev pub flag_at : (left count : ℕ) → TransferFlag
 flag_at left count =
     if count == 1 then flags.StartAndEnd
@@ -30,7 +30,7 @@ request_wish unit p j =
       image_set = sent_text (record_at p j.chosen).set_text;
     })
 
--- PassComponentTable of a component of the plan, after which so many are left
+-- PassComponentTable of a component of the plan, after which the given number is left
 abbrev pub entry_wish : PackageText → JobOf → Planned → ℕ → CommandOf
 entry_wish p j i left =
     CommandOf.PassComponentTable (record {
@@ -51,7 +51,7 @@ offer_wish p i =
       force = is_forced (component_at p i.component);
     })
 
--- what each stage wishes
+-- the pending command of each stage
 abbrev pub stage_wish : «Unit» → PackageText → Stage → Option CommandOf
 stage_wish unit p Stage.Query = Some CommandOf.QueryDeviceIdentifiers
 stage_wish unit p (Stage.Params _) = Some CommandOf.GetFirmwareParameters
@@ -63,6 +63,6 @@ stage_wish unit p (Stage.Activate _) = Some (CommandOf.ActivateFirmware true)
 stage_wish unit p Stage.Cancelling = Some CommandOf.CancelUpdate
 stage_wish unit p _ = None
 
--- the command that a session wishes to ask
+-- the pending command of a session
 abbrev pub agent_wish : PackageText → SessionOf → Option CommandOf
 agent_wish p s = stage_wish s.unit p s.stage

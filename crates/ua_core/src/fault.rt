@@ -2,13 +2,13 @@
 
 use thiserror::Error;
 
-/// Why a session doesn't start: the first of these, in this order, that holds.
+/// Why a session doesn't start: the first fault in this order.
 #[derive(Clone, Copy, Debug, PartialEq, Eq, Error)]
 pub enum StartFault {
-    /// An update is under way.
+    /// An update is in progress.
     #[error("Busy")]
     Busy,
-    /// Memory was refused.
+    /// Memory could not be allocated.
     #[error("Memory")]
     Memory,
 }

@@ -1,5 +1,6 @@
-//! What a session reads from the package that it is lent. A component or a record that the package doesn't have reads as one
-//! without bytes; a session that is lent the package of its number never asks for such a one.
+//! A session's reading of its borrowed package. A component or a record that the package doesn't
+//! have reads as one without bytes; a session with the package of its number never reads such a
+//! one.
 
 ghost use Rattle.std.specs.Prelude.{◌≡◌, ◌<◌, ◌≤◌, IfSome, length, map, take};
 ghost use Rattle.std.specs.Result.{result_map_both};
@@ -17,7 +18,7 @@ use fw_package::{Component, Descriptor, Package};
 use fwup_wire::{DeviceDescriptors, Key, NO_STAMP, TypedText, Version};
 use std::marker::Model;
 
-/// The package that a session is lent, if there is one.
+/// The package that a session borrows, if there is one.
 #[derive(Drop)]
 pub struct Lent<'a> {
     package: Option<&'a Package<'a>>,
@@ -32,19 +33,19 @@ impl<'a> Model for Lent<'a> {
     ghost view = { λ l. borrowed_package l.package };
 }
 
-/// The most bytes of a text that a message carries. A plan has no longer one.
+/// The most bytes of a text in a message. A plan has no longer text.
 const TEXT_LIMIT: usize = 200;
 
-/// The most descriptors of a device: their number stands in one byte.
+/// The most descriptors of a device: their number is sent as one byte.
 const DESCRIPTOR_LIMIT: usize = 255;
 
-/// What stands behind the last descriptor.
+/// The descriptor that fills the places after the last one.
 const NO_DESCRIPTOR: Descriptor<'static> = Descriptor {
     kind: 0,
     bytes: &[],
 };
 
-/// A component that isn't there.
+/// The component used if there is none.
 const NO_COMPONENT: Component<'static> = Component {
     classification: 0,
     identifier: 0,
@@ -58,14 +59,14 @@ const NO_COMPONENT: Component<'static> = Component {
     image: &[],
 };
 
-/// A text that isn't there.
+/// The text used if there is none.
 const NO_TEXT: TypedText<'static> = TypedText {
     text_type: 0,
     bytes: &[],
 };
 
 impl<'a> Lent<'a> {
-    /// This package.
+    /// Returns the given package.
     pub fn some(package: &'a Package<'a>) -> Lent<'a>
         ensures { result ≡ «package».now }
     {
@@ -74,14 +75,14 @@ impl<'a> Lent<'a> {
         }
     }
 
-    /// No package.
+    /// Returns no package.
     pub fn none() -> Lent<'a>
         ensures { result ≡ no_package }
     {
         Lent { package: None }
     }
 
-    /// The package of this number, counted from 1; none where there is no such package.
+    /// Returns the package with this number, counted from 1; no package if there is none.
     pub fn of(packages: &'a [Package<'a>], number: usize) -> Lent<'a>
         ensures { result ≡ package_at packages.now number }
     {
@@ -94,7 +95,8 @@ impl<'a> Lent<'a> {
         }
     }
 
-    /// The record for the device with these descriptors, and its components, or why there is nothing to send.
+    /// Returns the record for the device with these descriptors, and its components, or the cause
+    /// if there is nothing to send.
     pub(crate) fn job_for(&self, descriptors: &DeviceDescriptors<'_>) -> Result<UpdateJob, Cause>
         ensures { result_map_both (λ j. record { chosen = j.chosen; plan = j.plan.items }) (λ e. e) result ≡ job_for self.now descriptors.now }
     {
@@ -107,7 +109,7 @@ impl<'a> Lent<'a> {
         planned(package, chosen)
     }
 
-    /// A component, found in one walk over the package's header.
+    /// Returns a component, found in one walk over the package's header.
     pub(crate) fn component(&self, number: usize) -> Component<'a>
         ensures { component_seen result ≡ component_at self.now number }
     {
@@ -117,21 +119,21 @@ impl<'a> Lent<'a> {
         }
     }
 
-    /// Whether a component's update is forced: option bit 0.
+    /// Returns whether a component's update is forced: option bit 0.
     pub(crate) fn is_forced(&self, component: usize) -> bool
         ensures { result ≡ is_forced (component_at self.now component) }
     {
         forces(self.component(component))
     }
 
-    /// The image of a component.
+    /// Returns the image of a component.
     pub(crate) fn image(&self, component: usize) -> &'a [u8]
         ensures { result.now ≡ (component_at self.now component).image }
     {
         self.component(component).image
     }
 
-    /// The set text of a record.
+    /// Returns the set text of a record.
     pub(crate) fn set_text(&self, number: usize) -> TypedText<'a>
         ensures value { typed_text_of result ≡ sent_text (record_at self.now number).set_text }
         ensures short { length result.bytes.now ≤ TEXT_LIMIT }
@@ -145,7 +147,7 @@ impl<'a> Lent<'a> {
     }
 }
 
-/// The number of the first record that is for the device with these descriptors.
+/// Returns the number of the first record for the device with these descriptors.
 fn record_for(package: &Package<'_>, descriptors: &DeviceDescriptors<'_>) -> Option<usize>
     ensures number { result ≡ record_number «package».now (map package_descriptor descriptors.now) }
     ensures there { IfSome result (λ n. n < length «package».now.records) }
@@ -154,7 +156,7 @@ fn record_for(package: &Package<'_>, descriptors: &DeviceDescriptors<'_>) -> Opt
     package.record_for(&known[..descriptors.len()])
 }
 
-/// The components of a record, if there are such that can be sent.
+/// Returns the components of a record, if there are some and they can be sent.
 fn planned(package: &Package<'_>, chosen: usize) -> Result<UpdateJob, Cause>
     requires { chosen < length «package».now.records }
     ensures { result_map_both (λ j. record { chosen = j.chosen; plan = j.plan.items }) (λ e. e) result ≡ planned chosen (plan_of «package».now chosen) }
@@ -171,7 +173,7 @@ fn planned(package: &Package<'_>, chosen: usize) -> Result<UpdateJob, Cause>
     })
 }
 
-/// A device's descriptors, as a package is asked for them: they stand in front.
+/// Returns a device's descriptors in the form that a package takes, at the front of the array.
 #[tactic(auto, using(crate::proofs::Known::known_step))]
 fn known<'a>(descriptors: &DeviceDescriptors<'a>) -> [Descriptor<'a>; DESCRIPTOR_LIMIT]
     ensures { map descriptor_of (take (length descriptors.now) result) ≡ map package_descriptor descriptors.now }
@@ -189,7 +191,7 @@ fn known<'a>(descriptors: &DeviceDescriptors<'a>) -> [Descriptor<'a>; DESCRIPTOR
     known
 }
 
-/// The key of a component.
+/// Returns the key of a component.
 pub(crate) fn key(component: Component<'_>) -> Key
     ensures { result ≡ key_of (component_seen component.entry) }
 {
@@ -199,7 +201,7 @@ pub(crate) fn key(component: Component<'_>) -> Key
     }
 }
 
-/// A component's version, as it is sent: its stamp only where option bit 1 says that it is used.
+/// Returns a component's version, as it is sent: its stamp only if option bit 1 is set.
 pub(crate) fn version<'a>(component: Component<'a>) -> Version<'a>
     ensures value { version_of result ≡ sent_version (component_seen component.entry) }
     ensures short { length result.text.bytes.now ≤ TEXT_LIMIT }
@@ -214,21 +216,21 @@ pub(crate) fn version<'a>(component: Component<'a>) -> Version<'a>
     }
 }
 
-/// Whether a component's update is forced: option bit 0.
+/// Returns whether a component's update is forced: option bit 0.
 pub(crate) fn forces(component: Component<'_>) -> bool
     ensures { result ≡ is_forced (component_seen component.entry) }
 {
     component.options % 2 == 1
 }
 
-/// The size of a component's image in bytes, as it is sent.
+/// Returns the size of a component's image in bytes, as it is sent.
 pub(crate) fn size(component: Component<'_>) -> u32
     ensures { result ≡ sent_size (component_seen component.entry) }
 {
     u32::try_from(component.image.len()).unwrap_or(u32::MAX)
 }
 
-/// A text of a package, as it is sent: no more than a message carries.
+/// Returns a text of a package, as it is sent: cut to the length that a message carries.
 #[tactic(auto, using(std::proofs::lemmas::List::take_min))]
 fn as_sent<'a>(text: fw_package::Text<'a>) -> TypedText<'a>
     ensures value { typed_text_of result ≡ sent_text (package_text_of text.entry) }

@@ -1,5 +1,5 @@
-//! The update agent's session with one device (DSP0267 1.0): one update, from the query to the activation, as a table of
-//! states. A session is lent the package whose components it sends.
+//! The update agent's session with one device (DSP0267 1.0): one update, from the query to the
+//! activation, as a table of states. A session borrows the package whose components it sends.
 #![tactic(auto)]
 
 mod fault;

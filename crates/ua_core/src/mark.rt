@@ -1,12 +1,12 @@
-//! What is seen of a session before and after a call.
+//! The observable part of a session before and after a call.
 
 use crate::state::SessionState;
 
-/// What is seen of a session at a moment.
+/// The observable part of a session at a moment.
 #[derive(Clone, Copy, PartialEq, Eq)]
 pub struct Mark {
-    /// Where it stands.
+    /// The session's state.
     pub state: SessionState,
-    /// How many records it has.
+    /// The number of its records.
     pub records: usize,
 }

@@ -6,7 +6,7 @@ ghost use Rattle.ua_core.specs.Serve.{window};
 use arrayvec::ArrayVec;
 use fwup_wire::MAX_TRANSFER;
 
-/// So many bytes of an image from an offset on, and zeros past its end.
+/// Returns `length` bytes of an image from `offset` on, with zeros past its end.
 pub fn piece(image: &[u8], offset: usize, length: usize) -> ArrayVec<u8, MAX_TRANSFER>
     requires { length ≤ MAX_TRANSFER }
     ensures { result.items ≡ window image.now offset length }
@@ -18,7 +18,7 @@ pub fn piece(image: &[u8], offset: usize, length: usize) -> ArrayVec<u8, MAX_TRA
     piece
 }
 
-/// The bytes from an offset on.
+/// Returns the bytes from an offset on.
 fn from(bytes: &[u8], offset: usize) -> &[u8]
     ensures { result.now ≡ drop offset bytes.now }
 {
@@ -28,7 +28,7 @@ fn from(bytes: &[u8], offset: usize) -> &[u8]
     &bytes[offset..]
 }
 
-/// Appends zeros until there are so many bytes.
+/// Appends zeros up to `length` bytes.
 #[tactic(auto, using(crate::proofs::Padding::one_more_zero))]
 fn pad(piece: &mut ArrayVec<u8, MAX_TRANSFER>, length: usize)
     requires most { length ≤ MAX_TRANSFER }

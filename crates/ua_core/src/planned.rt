@@ -10,33 +10,33 @@ use fw_package::PLAN_LIMIT;
 pub struct Planned {
     /// The component's number in the package, from 0 on.
     pub component: usize,
-    /// Which of several components of its classification it is in the device, by the device's own parameters; 0 until
-    /// they are learnt, and where they don't name it.
+    /// The index among several components of its classification in the device, from the device's
+    /// own parameters; 0 until they are received, and if they don't name the component.
     pub index: u8,
 }
 
 /// Components of a plan, in its order.
 pub type PlannedList = ArrayVec<Planned, PLAN_LIMIT>;
 
-/// What is fixed once the device is known.
+/// The parts of an update that are fixed once the device is known.
 #[derive(Drop)]
 pub struct UpdateJob {
     /// The number of the package's record for the device.
     pub chosen: usize,
-    /// The components to be sent.
+    /// The components to send.
     pub plan: PlannedList,
 }
 
 /// A component that a device applied.
 #[derive(Clone, Copy, PartialEq, Eq)]
 pub struct Recorded {
-    /// The number of the package, as `Session::start` was given it.
+    /// The number of the package, as given to `Session::start`.
     pub package: usize,
     /// The component's number in the package, from 0 on.
     pub component: usize,
 }
 
-/// Takes the first component off a list.
+/// Removes and returns the first component of a list.
 pub fn take_first(list: &mut PlannedList) -> Option<Planned>
     ensures { MatchOption result ((list.old.items ≡ []) × (list.new.items ≡ [])) (λ first. list.old.items ≡ first ∷ list.new.items) }
 {

@@ -1,4 +1,4 @@
-//! What is made of a device's answers about itself.
+//! The plan of an update, from a device's answers about itself.
 
 ghost use Rattle.std.specs.Prelude.{◌≡◌, ◌≤◌, length, map};
 ghost use Rattle.ua_core.specs.Learn.{index_of, unlearnt, with_index};
@@ -7,7 +7,7 @@ use crate::lent::{Lent, key};
 use crate::planned::{Planned, PlannedList};
 use fwup_wire::{Key, Parameters};
 
-/// The components of a plan, before the device told of its own.
+/// Returns the components of a plan, before the device's parameters are received.
 pub fn unlearnt(numbers: &[usize]) -> PlannedList
     requires { length numbers.now ≤ 8 }
     ensures { result.items ≡ map unlearnt numbers.now }
@@ -22,7 +22,7 @@ pub fn unlearnt(numbers: &[usize]) -> PlannedList
     plan
 }
 
-/// The components of a plan with the indexes under which the device has them.
+/// Returns the components of a plan with their indexes in the device.
 pub fn indexed(plan: &[Planned], lent: &Lent<'_>, devices: &Parameters<'_>) -> PlannedList
     requires { length plan.now ≤ 8 }
     ensures { result.items ≡ map (with_index lent.now devices.now) plan.now }
@@ -37,7 +37,7 @@ pub fn indexed(plan: &[Planned], lent: &Lent<'_>, devices: &Parameters<'_>) -> P
     learnt
 }
 
-/// The index under which the device has the component of this key, 0 where it names none.
+/// Returns the index of the component with this key in the device, 0 if the device doesn't name it.
 fn index_of(devices: &Parameters<'_>, key: Key) -> u8
     ensures { result ≡ index_of devices.now key }
 {

@@ -1,4 +1,4 @@
-//! A session, and what its user does with it.
+//! A session and its user's calls.
 
 ghost use Rattle.std.specs.Prelude.{◌≡◌, ◌<◌, ◌↔◌, if◌then◌else◌, false, true, length, IfErr, OnErr, OnOk, Some, None};
 ghost use Rattle.ua_core.specs.Calls.{agent_activated, agent_cancelled, agent_restart, agent_silent, agent_started, idle_ticked, is_free, may_cancel, new_session};
@@ -18,28 +18,32 @@ mod learning;
 mod serving;
 mod wishing;
 
-/// The agent's session with one device: an update under way, and the records of what the device applied. The calls that
-/// need its package are lent it. Only `start` takes memory.
+/// The agent's session with one device: an update in progress, and the records of the components
+/// that the device applied. The calls that need the session's package borrow it. Only `start`
+/// allocates memory.
 #[derive(Drop)]
 pub struct Session {
     /// The transmission unit of its network; it never changes.
     unit: Unit,
-    /// The state, and for how many ticks nothing moved in it.
+    /// The state, and the count of idle ticks in it.
     position: Position,
-    /// The number of the package that the update was started with, from 1 on; 0 before the first start. It counts in each state.
+    /// The number of the package that the update was started with, from 1 on; 0 before the first
+    /// start. It is used in each state.
     package: usize,
-    /// The package's record for the device, and the components to be sent. It counts from PARAMS to ACTIVATE.
+    /// The package's record for the device, and the components to send. It is used from PARAMS to
+    /// ACTIVATE.
     job: UpdateJob,
-    /// The component that is being passed, or updated. It counts from PASS to APPLY.
+    /// The component that is being passed, or updated. It is used from PASS to APPLY.
     at_hand: Planned,
-    /// Those that are still to be passed, behind the one at hand. They count in PASS.
+    /// The components to pass after the current one. They are used in PASS.
     left: PlannedList,
-    /// In PASS those that were passed and are to be updated; then those that are still to be updated, behind the one at hand. They
-    /// count from PASS to APPLY.
+    /// In PASS, the components that were passed and are to be updated. Later, the components to
+    /// update after the current one. They are used from PASS to APPLY.
     todo: PlannedList,
-    /// How many components of this update were recorded. It counts from UPDATE to APPLY.
+    /// The number of recorded components of this update. It is used from UPDATE to APPLY.
     made: u8,
-    /// What the device applied in all updates, in order. It counts in each state, and a restart keeps it.
+    /// The components that the device applied in all updates, in order. They are used in each
+    /// state, and a restart keeps them.
     records: Vec<Recorded>,
 }
 
@@ -65,7 +69,8 @@ impl Model for Session {
 }
 
 impl Session {
-    /// A session on a network of this transmission unit, without an update and without records.
+    /// Returns a session on a network with this transmission unit, without an update and without
+    /// records.
     pub fn new(alloc: Global, unit: Unit) -> Session
         ensures { result ≡ new_session unit }
     {
@@ -92,28 +97,30 @@ impl Session {
         self.unit
     }
 
-    /// Where the session stands.
+    /// Returns the session's state.
     pub fn state(&self) -> SessionState
         ensures { result ≡ state_of self.now.session.stage }
     {
         self.position.state
     }
 
-    /// The number of the package that the session was started with last, and 0 before the first start.
+    /// Returns the number of the package that the session was last started with, and 0 before the
+    /// first start.
     pub fn package(&self) -> usize
         ensures { result ≡ self.now.session.number }
     {
         self.package
     }
 
-    /// The components that the device applied, of all starts, in order.
+    /// Returns the components that the device applied, of all starts, in order.
     pub fn records(&self) -> &[Recorded]
         ensures { result.now ≡ self.now.session.records }
     {
         self.records.as_slice()
     }
 
-    /// What is seen of the session now, to be compared with a later moment by `happened`.
+    /// Returns the observable part of the session now, which `happened` compares with a later
+    /// moment.
     pub fn mark(&self) -> Mark
         ensures { result ≡ record { state = state_of self.now.session.stage; records = length self.now.session.records } }
     {
@@ -123,10 +130,12 @@ impl Session {
         }
     }
 
-    /// Starts an update with the package of this number. Memory is taken for its records, at most eight.
+    /// Starts an update with the package of this number. Allocates memory for its records, at most
+    /// eight.
     ///
     /// # Errors
-    /// `Busy` while an update is under way, else `Memory` where that memory is refused. Nothing has changed then.
+    /// `Busy` while an update is in progress, otherwise `Memory` if memory can't be allocated. Then
+    /// nothing has changed.
     pub fn start(&mut self, package: usize) -> Result<(), StartFault>
         ensures started { OnOk result (self.new ≡ record { session = agent_started self.old.session «package»; idle = 0 }) }
         ensures free { OnOk result (is_free self.old.session ≡ true) }
@@ -144,8 +153,8 @@ impl Session {
         Ok(())
     }
 
-    /// Cancels the update. Without one under way, an ended one included, the device is still asked to end what it has, save
-    /// in Idle.
+    /// Cancels the update. Without one in progress, and after one that ended, the device is still
+    /// requested to end its update, except in Idle.
     pub fn cancel(&mut self)
         ensures session { self.new.session ≡ agent_cancelled self.old.session }
         ensures idle { self.new.idle ≡ (if may_cancel self.old.session.stage then 0 else self.old.idle) }
@@ -156,10 +165,10 @@ impl Session {
         }
     }
 
-    /// Asks the device to activate what it applied.
+    /// Requests the device to activate the applied components.
     ///
     /// # Errors
-    /// `NotReady` in every state but AllApplied. Nothing has changed then.
+    /// `NotReady` in every state but AllApplied. Then nothing has changed.
     pub fn activate(&mut self) -> Result<(), NotReady>
         ensures ok { OnOk result (agent_activated self.old.session ≡ Some self.new.session) }
         ensures idle { OnOk result (self.new.idle ≡ 0) }
@@ -173,7 +182,7 @@ impl Session {
         Ok(())
     }
 
-    /// The device gave no answer to the command that was wished.
+    /// Handles that the device gave no answer to the pending command.
     pub fn silent(&mut self)
         ensures { self.new ≡ record { session = agent_silent self.old.session; idle = 0 } }
     {
@@ -184,7 +193,7 @@ impl Session {
         self.position.go(next);
     }
 
-    /// A tick passed. The 240th tick in a row in which nothing moved ends an update.
+    /// Counts an idle tick. The 240th consecutive idle tick ends an update.
     pub fn idle_tick(&mut self)
         ensures ticked { self.new ≡ idle_ticked self.old }
         ensures within { self.new.idle < 240 }
@@ -203,7 +212,7 @@ impl Session {
         self.position.go(next);
     }
 
-    /// What a restart of the agent leaves: the records stay, and no update is under way.
+    /// Restarts the session: its records stay, and no update is in progress.
     pub fn restart(&mut self)
         ensures { self.new ≡ record { session = agent_restart self.old.session; idle = 0 } }
     {

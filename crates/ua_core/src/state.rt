@@ -1,4 +1,4 @@
-//! Where a session stands.
+//! The states of a session.
 
 ghost use Rattle.std.specs.Prelude.{◌≡◌};
 ghost use Rattle.ua_core.specs.Session.{cause_number, is_failed_state, is_free_state};
@@ -11,7 +11,7 @@ pub enum Cause {
     /// The device gave no answer.
     #[error("Silent")]
     Silent = 1,
-    /// Nothing moved for as long as `IDLE_LIMIT`.
+    /// Nothing changed for `IDLE_LIMIT` ticks.
     #[error("TimeOut")]
     TimeOut = 2,
     /// The package has no record for the device.
@@ -20,28 +20,28 @@ pub enum Cause {
     /// The record's components can't be sent.
     #[error("Plan")]
     Plan = 4,
-    /// The package names no component for the device, or the device takes none.
+    /// The package names no component for the device, or the device accepts none.
     #[error("NothingToUpdate")]
     NothingToUpdate = 5,
-    /// The device answered with a code that isn't expected, or with bytes that are no answer.
+    /// The device answered with an unexpected code, or with bytes that are no answer.
     #[error("Answer")]
     Answer = 6,
     /// The device refused a component.
     #[error("Refused")]
     Refused = 7,
-    /// The device couldn't take the image.
+    /// The transfer of the image failed.
     #[error("Transfer")]
     Transfer = 8,
-    /// The device couldn't verify the image.
+    /// The device failed to verify the image.
     #[error("Verify")]
     Verify = 9,
-    /// The device couldn't apply the image.
+    /// The device failed to apply the image.
     #[error("Apply")]
     Apply = 10,
 }
 
 impl Cause {
-    /// The cause's number, from 1 on in the order of the causes.
+    /// Returns the cause's number, from 1 on in the order of the causes.
     pub fn number(self) -> u8
         ensures { result ≡ cause_number self }
     {
@@ -49,20 +49,20 @@ impl Cause {
     }
 }
 
-/// Where a session stands.
+/// A session's state.
 #[derive(Clone, Copy, Debug, PartialEq, Eq)]
 pub enum SessionState {
-    /// Nothing is under way.
+    /// No update is in progress.
     Idle,
-    /// Asks for the device's descriptors.
+    /// Requests the device's descriptors.
     Query,
-    /// Asks for the device's components.
+    /// Requests the device's components.
     Params,
-    /// Ends what an older update left.
+    /// Ends an earlier update of the device.
     ClearOld,
-    /// Asks for the update.
+    /// Requests the update.
     Request,
-    /// Tells the device of the components, one by one.
+    /// Passes the components to the device, one by one.
     Pass,
     /// Offers a component.
     Update,
@@ -72,20 +72,20 @@ pub enum SessionState {
     Verify,
     /// The device applies the image.
     Apply,
-    /// All that was to be done is applied and recorded.
+    /// All components to do are applied and recorded.
     AllApplied,
-    /// Asks for the activation.
+    /// Requests the activation.
     Activate,
-    /// The device activated what it applied.
+    /// The device activated the applied components.
     Done,
-    /// Asks the device to end the update.
+    /// Requests the device to end the update.
     Cancelling,
     /// The update failed.
     Failed(Cause),
 }
 
 impl SessionState {
-    /// Whether a session here may start an update.
+    /// Returns whether a session in this state may start an update.
     pub fn is_free(self) -> bool
         ensures { result ≡ is_free_state self }
     {
@@ -95,7 +95,7 @@ impl SessionState {
         )
     }
 
-    /// Whether a session here has failed.
+    /// Returns whether a session in this state has failed.
     pub(crate) fn is_failed(self) -> bool
         ensures { result ≡ is_failed_state self }
     {

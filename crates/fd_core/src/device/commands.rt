@@ -1,4 +1,4 @@
-//! How a device takes commands, one function a command.
+//! The device's handling of commands, one function for each command.
 
 ghost use Rattle.std.specs.Prelude.{◌≡◌, ◌≤◌, true, false};
 ghost use Rattle.fd_core.specs.Banks.{CountsFailure};
@@ -23,7 +23,7 @@ use fwup_wire::{
 };
 use pldm_base::completion::{ERROR, ERROR_INVALID_DATA, ERROR_NOT_READY};
 
-/// The seconds until the device asks for data, and that an activation takes: none to speak of.
+/// The seconds until the device requests data, and the seconds that an activation takes.
 const NO_TIME: u16 = 0;
 
 impl<B: Bank> Device<B> {
@@ -176,8 +176,9 @@ impl<B: Bank> Device<B> {
         Answer::ActivateFirmware { time: NO_TIME }
     }
 
-    /// Whether ActivateFirmware activates now, if the bank works: the device is ready, has all of its table applied that nothing
-    /// stands against, and has something applied.
+    /// Returns whether ActivateFirmware activates now, if the bank works: the device is in READY
+    /// XFER, every component of its table without a restriction is applied, and at least one
+    /// component is applied.
     pub fn may_activate(&self) -> bool
         ensures { result ≡ may_activate self.now.device }
     {
@@ -203,7 +204,7 @@ impl<B: Bank> Device<B> {
     }
 }
 
-/// The component isn't updated, for this reason.
+/// Returns the answer that declines the component, with this code.
 fn declined(code: u8) -> Answer<'static>
     ensures answer { answer_of result ≡ AnswerOf.UpdateComponent (offer_declined code) }
     ensures writable { IsAnswerWritable (answer_of result) }
@@ -217,7 +218,7 @@ fn declined(code: u8) -> Answer<'static>
     })
 }
 
-/// The update of the component begins.
+/// Returns the answer that begins the update of the component.
 fn taken_up(force: bool) -> Answer<'static>
     ensures answer { answer_of result ≡ AnswerOf.UpdateComponent (offer_taken_up force) }
     ensures writable { IsAnswerWritable (answer_of result) }
@@ -231,7 +232,7 @@ fn taken_up(force: bool) -> Answer<'static>
     })
 }
 
-/// A refusal with this code.
+/// Returns a refusal with this code.
 pub(super) fn refused(code: u8) -> Answer<'static>
     requires { 1 ≤ code }
     ensures answer { answer_of result ≡ AnswerOf.Refused code }

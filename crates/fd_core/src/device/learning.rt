@@ -1,4 +1,4 @@
-//! What a device learns from the agent's answers.
+//! The device's handling of the agent's answers.
 
 ghost use Rattle.std.specs.Prelude.{◌≡◌, Some, false, not, option_map, true};
 ghost use Rattle.fd_core.specs.States.{progress_of};
@@ -15,9 +15,10 @@ use crate::states::{Progress, State};
 use fwup_wire::{Answer, Malformed};
 
 impl<B: Bank> Device<B> {
-    /// Learns the answer to the request that the device wished. The bytes of an image are stored within its size, and
-    /// the answer to a report leads on; an answer that is none of these leaves the wish as it is, save that a failure is
-    /// reported once any answer came.
+    /// Takes the answer to the device's pending command. The bytes of an image are stored within
+    /// its size, and the answer to a report moves the device to the next state. Any other answer
+    /// leaves the pending command as it is, except that a failure is reported once any answer
+    /// arrived.
     pub fn learn(&mut self, answer: Result<&Answer<'_>, Malformed>)
         ensures after { self.new.device ≡ device_learn self.old.device (option_map (λ a. answer_of a.now) (result_ok answer.entry)) (not (has_failed self.new.device.phase)) }
         ensures idle { self.new.idle ≡ idle_learnt self.old.idle self.old.device (option_map (λ a. answer_of a.now) (result_ok answer.entry)) (not (has_failed self.new.device.phase)) }
@@ -38,7 +39,7 @@ impl<B: Bank> Device<B> {
         }
     }
 
-    /// Learns an answer while the work is in progress: in DOWNLOAD the bytes that were asked for.
+    /// Takes an answer while the work is in progress: in DOWNLOAD, the requested bytes.
     fn learn_piece(&mut self, answer: Result<&Answer<'_>, Malformed>)
         requires { progress_of self.old.device.phase ≡ Some InProgress }
         ensures after { self.new.device ≡ device_learn self.old.device (option_map (λ a. answer_of a.now) (result_ok answer.entry)) (not (has_failed self.new.device.phase)) }
@@ -66,7 +67,7 @@ impl<B: Bank> Device<B> {
         }
     }
 
-    /// Learns an answer to a report of success, which leads to the next state.
+    /// Takes an answer to a report of success, which moves the device to the next state.
     fn learn_report(&mut self, answer: Result<&Answer<'_>, Malformed>)
         requires { progress_of self.old.device.phase ≡ Some Succeeded }
         ensures after { self.new.device ≡ device_learn self.old.device (option_map (λ a. answer_of a.now) (result_ok answer.entry)) (not (has_failed self.new.device.phase)) }

@@ -1,4 +1,4 @@
-//! What a device tells of itself.
+//! The device's reports about itself.
 
 ghost use Rattle.std.specs.Prelude.{◌≡◌, ◌≤◌, length, option_map};
 ghost use Rattle.fd_core.specs.Commands.{all_parameters, failure_or_none, progress_number, status_of};
@@ -20,7 +20,7 @@ use fwup_wire::{
 /// The aux state of a state that has no work to do.
 const NO_WORK: u8 = 3;
 
-/// Progress isn't told.
+/// The progress of a device that doesn't report it.
 const PROGRESS_UNSUPPORTED: u8 = 0x65;
 
 /// The result of a transfer that failed.
@@ -38,12 +38,12 @@ impl<B: Bank> Device<B> {
         ensures value { result ≡ self.now.device.descriptors }
         ensures fits { length (descriptors_bytes result) ≤ 246 }
     {
-        // The room that is left shows the proof that the descriptors fit an answer.
+        // `room` brings the proof that the descriptors fit an answer.
         let _room = self.descriptors.room();
         self.descriptors.lent()
     }
 
-    /// What the device tells in answer to GetStatus.
+    /// Returns the answer to GetStatus.
     pub(super) fn status(&self) -> Status
         ensures { result ≡ status_of self.now.device }
     {
@@ -70,7 +70,7 @@ impl<B: Bank> Device<B> {
     }
 }
 
-/// How far the work is: the aux state, and the result where it failed.
+/// Returns the aux state of the work, and its result if it failed.
 fn aux(progress: Progress, failure: u8) -> (u8, u8)
     ensures { (result.0 ≡ progress_number progress) × (result.1 ≡ failure_or_none progress failure) }
 {
@@ -81,7 +81,7 @@ fn aux(progress: Progress, failure: u8) -> (u8, u8)
     }
 }
 
-/// The parameters of a bank's components, in this order.
+/// Returns the parameters of a bank's components, in this order.
 #[tactic(auto, using(crate::proofs::Parameters::one_longer))]
 pub(super) fn parameters<B: Bank>(bank: &B, components: &[BankComponent]) -> ParameterList
     requires { length components.now ≤ 3 }
@@ -100,7 +100,7 @@ pub(super) fn parameters<B: Bank>(bank: &B, components: &[BankComponent]) -> Par
     list
 }
 
-/// The version of an image, and of none.
+/// Returns the version of an image, or of none.
 fn version<'a>(image: Option<(&'a Label, &'a [u8])>) -> Version<'a>
     ensures version { version_of result ≡ version_at (option_map (λ r. record { label = r.0.now; bytes = r.1.now }) image.entry) }
     ensures short { length result.text.bytes.now ≤ 12 }

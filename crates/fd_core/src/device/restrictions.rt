@@ -1,4 +1,4 @@
-//! Compares an offered component with what runs, and tells what has been applied.
+//! Compares an offered component with the active image, and finds the applied components.
 
 ghost use Rattle.std.specs.Prelude.{◌≡◌, ◌<◌, is_some, true};
 ghost use Rattle.fd_core.specs.Commands.{flag_at, has_applied, in_table, lacks_listed, offer_restriction, restriction, stamp_rule};
@@ -12,7 +12,8 @@ use fwup_wire::code::response::{
 };
 use fwup_wire::{ComponentOffer, Key, NO_STAMP, TransferFlag};
 
-/// The flag of an entry of the component table, by how many stand before it and how many there are.
+/// Returns the flag of an entry of the component table. `before` entries come before it, and the
+/// table has `count` entries.
 pub(super) fn flag_for(before: usize, count: u16) -> TransferFlag
     requires { before < count }
     ensures { result ≡ flag_at before count }
@@ -28,7 +29,7 @@ pub(super) fn flag_for(before: usize, count: u16) -> TransferFlag
     }
 }
 
-/// Whether the table has this component.
+/// Returns whether the table has this component.
 pub(super) fn is_listed(table: &[Listed], key: Key) -> bool
     ensures { result ≡ in_table table.now key }
 {
@@ -40,8 +41,9 @@ pub(super) fn is_listed(table: &[Listed], key: Key) -> bool
     false
 }
 
-/// What stands against an image with this comparison stamp, beside that of the image that runs: no restriction, identical, or
-/// lower (DSP0267 1.0, ComponentComparisonStamp). A stamp that isn't used stands against nothing.
+/// Returns the restriction of an image with comparison stamp `stamp`, if the active image has the
+/// stamp `active`: no restriction, identical, or lower (DSP0267 1.0, ComponentComparisonStamp). A
+/// stamp that isn't used gives no restriction.
 pub fn stamp_restriction(stamp: u32, active: u32) -> u8
     ensures { result ≡ stamp_rule stamp active }
 {
@@ -56,7 +58,7 @@ pub fn stamp_restriction(stamp: u32, active: u32) -> u8
     }
 }
 
-/// Why a component that is passed with this stamp is refused, if it is.
+/// Returns the code that refuses a passed component with this stamp, if it is refused.
 pub(super) fn entry_restriction<B: Bank>(bank: &B, key: Key, stamp: u32) -> u8
     ensures { result ≡ restriction (B.rows bank.now) key stamp }
 {
@@ -66,7 +68,7 @@ pub(super) fn entry_restriction<B: Bank>(bank: &B, key: Key, stamp: u32) -> u8
     }
 }
 
-/// Why an offered component of this table is refused, if it is.
+/// Returns the code that refuses an offered component of this table, if it is refused.
 pub(super) fn offer_code<B: Bank>(bank: &B, table: &[Listed], offer: &ComponentOffer<'_>) -> u8
     ensures code { result ≡ offer_restriction (B.rows bank.now) table.now (offer_of offer.now) }
     ensures known { result ≡ 0 → is_some (row_of (B.rows bank.now) offer.now.key) ≡ true }
@@ -81,7 +83,7 @@ pub(super) fn offer_code<B: Bank>(bank: &B, table: &[Listed], offer: &ComponentO
     }
 }
 
-/// Whether a component that nothing stands against isn't applied.
+/// Returns whether a component without a restriction isn't applied.
 pub(super) fn misses_one<B: Bank>(bank: &B, table: &[Listed]) -> bool
     ensures { result ≡ lacks_listed (B.rows bank.now) table.now }
 {
@@ -93,7 +95,7 @@ pub(super) fn misses_one<B: Bank>(bank: &B, table: &[Listed]) -> bool
     false
 }
 
-/// Whether one of the components is applied.
+/// Returns whether at least one of the components is applied.
 pub(super) fn has_any<B: Bank>(bank: &B, components: &[BankComponent]) -> bool
     ensures { result ≡ has_applied (B.rows bank.now) components.now }
 {

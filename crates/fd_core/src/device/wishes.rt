@@ -1,4 +1,4 @@
-//! What a device asks of the agent.
+//! The device's pending commands to the agent.
 
 ghost use Rattle.std.specs.Prelude.{◌≡◌, ◌≤◌, IfSome, max, min, option_map};
 ghost use Rattle.fwup_wire.specs.Commands.{CommandRoundTrips};
@@ -20,7 +20,8 @@ const SUCCEEDED: u8 = 0;
 const SAME_METHODS: u16 = 0;
 
 impl<B: Bank> Device<B> {
-    /// The request that the device has for the agent, if it has one: the next bytes of the image, or a report.
+    /// Returns the device's pending command to the agent, if it has one: a request for the next
+    /// bytes of the image, or a report.
     pub fn wish(&self) -> Option<Command<'static>>
         ensures wish { option_map command_of result ≡ device_wish self.now.device }
         ensures spoken { IfSome (device_wish self.now.device) CommandRoundTrips }
@@ -57,7 +58,7 @@ impl<B: Bank> Device<B> {
     }
 }
 
-/// The result that is to be reported.
+/// Returns the result that the device has to report.
 fn report(progress: Progress, failure: u8) -> Option<u8>
     ensures { result ≡ report_of progress failure }
 {
@@ -68,8 +69,8 @@ fn report(progress: Progress, failure: u8) -> Option<u8>
     }
 }
 
-/// How many bytes are asked for at once: what is missing, at most as many as the agent gives and as fit a message of this
-/// unit, and never fewer than the least length.
+/// Returns the number of bytes to request at once: the missing bytes, limited to the agent's
+/// transfer size and to a message of this unit, and never fewer than the least length.
 pub(super) fn length_to_ask(unit: Unit, given: u32, missing: u32) -> u32
     ensures length { result ≡ max MIN_TRANSFER (min (transfer_size unit) (min given missing)) }
     ensures most { result ≤ MAX_TRANSFER }

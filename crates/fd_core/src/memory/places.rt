@@ -9,14 +9,14 @@ use fwup_wire::Key;
 use std::alloc::{AllocError, Global};
 use std::marker::Model;
 
-/// How many areas a component has: one runs, one may be applied, and one is written.
+/// The number of areas of a component: one is active, one may be applied, and one is written.
 const AREAS: usize = 3;
 
-/// Memory for an image, and what the image is called.
+/// Memory for an image, and the image's label.
 #[derive(Drop)]
 struct Area {
     label: Label,
-    /// The bytes of the image that the area was begun for: it has the memory of so many.
+    /// The size in bytes of the image that the area was begun for. The area has memory for as many.
     size: u32,
     bytes: Vec<u8>,
 }
@@ -33,7 +33,7 @@ impl Model for Area {
 }
 
 impl Area {
-    /// An area without an image and without memory.
+    /// Returns an area without an image and without memory.
     fn empty(alloc: Global) -> Area
         ensures { result ≡ no_area }
     {
@@ -47,7 +47,7 @@ impl Area {
     /// Makes room for an image of `size` bytes, which is then written from its first byte.
     ///
     /// # Errors
-    /// Where memory is refused. What stood there is there still.
+    /// Fails if memory can't be allocated. Then the area is unchanged.
     fn begin(&mut self, size: u32, label: &Label) -> Result<(), AllocError>
         ensures ok { OnOk result (self.new ≡ record { label = label.now; size = size; bytes = [] }) }
         ensures kept { OnErr result (self.new ≡ self.old) }
@@ -84,9 +84,9 @@ impl Area {
 pub(super) struct Place {
     key: Key,
     areas: [Area; AREAS],
-    /// The number of the area that runs.
+    /// The number of the active area.
     active: usize,
-    /// The number of the area that was applied, and runs next.
+    /// The number of the applied area, which becomes active next.
     applied: Option<usize>,
 }
 
@@ -102,10 +102,10 @@ impl Model for Place {
 }
 
 impl Place {
-    /// A component whose image runs in area 0.
+    /// Returns a component with its active image in area 0.
     ///
     /// # Errors
-    /// Where memory is refused.
+    /// Fails if memory can't be allocated.
     pub(super) fn new(
         alloc: Global,
         key: Key,
@@ -133,21 +133,21 @@ impl Place {
         })
     }
 
-    /// Whether it is the place of this component.
+    /// Returns whether this is the place of the component.
     pub(super) fn is_of(&self, key: Key) -> bool
         ensures { result ≡ same_key self.now.key key }
     {
         self.key == key
     }
 
-    /// The number of the area that runs, and that of the one that was applied.
+    /// Returns the number of the active area, and that of the applied area.
     pub(super) fn numbers(&self) -> (usize, Option<usize>)
         ensures { result ≡ (self.now.active, self.now.applied) }
     {
         (self.active, self.applied)
     }
 
-    /// The image that runs.
+    /// Returns the active image.
     pub(super) fn active(&self) -> (&Label, &[u8])
         ensures { record { label = result.0.now; bytes = result.1.now } ≡ image_at self.now.areas self.now.active }
     {
@@ -155,7 +155,7 @@ impl Place {
         area.image()
     }
 
-    /// The image that was applied.
+    /// Returns the applied image.
     pub(super) fn applied(&self) -> Option<(&Label, &[u8])>
         ensures { option_map (λ r. record { label = r.0.now; bytes = r.1.now }) result ≡ option_map (image_at self.now.areas) self.now.applied }
     {
@@ -163,14 +163,15 @@ impl Place {
         Some(area.image())
     }
 
-    /// Whether an area is active or applied.
+    /// Returns whether an area is active or applied.
     fn is_taken(&self, number: usize) -> bool
         ensures { result ≡ is_taken self.now.active self.now.applied number }
     {
         self.active == number || self.applied == Some(number)
     }
 
-    /// The least-numbered area that is neither active nor applied: the one that is written.
+    /// Returns the number of the spare area: the least-numbered that is neither active nor applied.
+    /// Images are written to it.
     fn spare(&self) -> usize
         ensures number { result ≡ spare_of self.now }
         ensures within { result < 3 }
@@ -187,7 +188,7 @@ impl Place {
     /// Makes room for an image of `size` bytes in the spare area.
     ///
     /// # Errors
-    /// Where memory is refused. Then nothing changes.
+    /// Fails if memory can't be allocated. Then nothing changes.
     pub(super) fn begin(&mut self, size: u32, label: &Label) -> Result<(), AllocError>
         ensures ok { OnOk result (self.new ≡ place_after_begin size label.now self.old) }
         ensures kept { OnErr result (self.new ≡ self.old) }
@@ -197,7 +198,7 @@ impl Place {
         area.begin(size, label)
     }
 
-    /// Appends to the image that is written.
+    /// Appends to the image in the spare area.
     pub(super) fn append(&mut self, piece: &[u8])
         requires { length (written_area self.old).bytes + length piece.now ≤ (written_area self.old).size }
         ensures { self.new ≡ place_after_put piece.now self.old }
@@ -207,14 +208,14 @@ impl Place {
         area.append(piece);
     }
 
-    /// What was written runs next.
+    /// Makes the image in the spare area applied.
     pub(super) fn apply(&mut self)
         ensures { self.new ≡ applied_spare self.old }
     {
         self.applied = Some(self.spare());
     }
 
-    /// What runs next runs.
+    /// Makes the applied image active.
     pub(super) fn activate(&mut self)
         ensures { self.new ≡ place_after_switch self.old }
     {
@@ -223,7 +224,7 @@ impl Place {
         }
     }
 
-    /// Nothing runs next.
+    /// Drops the applied image.
     pub(super) fn forget(&mut self)
         ensures { self.new ≡ place_after_drop self.old }
     {

@@ -1,4 +1,4 @@
-//! What a session makes of the answers to the commands that it wished.
+//! A session's handling of the answers to its pending commands.
 
 ghost use Rattle.std.specs.Prelude.{◌≡◌, ◌&&◌, ◌||◌, ◌==◌, Ok};
 ghost use Rattle.std.specs.Result.{result_map_both};
@@ -21,8 +21,9 @@ use fwup_wire::{Answer, Malformed};
 use pldm_base::completion::ERROR_NOT_READY;
 
 impl Session {
-    /// Learns the answer to the command that was wished. Where the answer says that the device isn't ready, the same command
-    /// is wished again; another that isn't expected fails the update. A session that wished nothing learns nothing.
+    /// Takes the answer to the pending command. If the device isn't ready, the same command stays
+    /// pending. Any other unexpected answer fails the update. A session without a pending command
+    /// ignores the answer.
     pub fn learn(&mut self, answer: Result<&Answer<'_>, Malformed>, lent: &Lent<'_>)
         ensures session { self.new.session ≡ agent_learn lent.now self.old.session (result_map_both (λ a. answer_of a.now) (λ e. e) answer.entry) }
         ensures idle { self.new.idle ≡ learn_idle lent.now self.old.session self.old.idle (result_map_both (λ a. answer_of a.now) (λ e. e) answer.entry) }
@@ -73,7 +74,7 @@ impl Session {
         self.position.go(SessionState::ClearOld);
     }
 
-    /// What the device said of an older update: it ended one, or had none.
+    /// The device's answer about an earlier update: it ended one, or had none.
     fn learn_clear(&mut self, answer: Result<&Answer<'_>, Malformed>)
         requires { state_of self.old.session.stage ≡ SessionState.ClearOld }
         ensures session { self.new.session ≡ agent_learn no_package self.old.session (result_map_both (λ a. answer_of a.now) (λ e. e) answer.entry) }
@@ -88,7 +89,7 @@ impl Session {
         }
     }
 
-    /// Whether the update began. A device that isn't ready is asked again.
+    /// Whether the update began. If the device isn't ready, the command is sent again.
     fn learn_request(&mut self, answer: Result<&Answer<'_>, Malformed>)
         requires { state_of self.old.session.stage ≡ SessionState.Request }
         ensures session { self.new.session ≡ agent_learn no_package self.old.session (result_map_both (λ a. answer_of a.now) (λ e. e) answer.entry) }
@@ -101,7 +102,7 @@ impl Session {
         }
     }
 
-    /// What the device said of the component that it was told of.
+    /// The device's response about the component that was passed.
     fn learn_pass(&mut self, answer: Result<&Answer<'_>, Malformed>, lent: &Lent<'_>)
         requires { state_of self.old.session.stage ≡ SessionState.Pass }
         ensures session { self.new.session ≡ agent_learn lent.now self.old.session (result_map_both (λ a. answer_of a.now) (λ e. e) answer.entry) }
@@ -129,7 +130,8 @@ impl Session {
         }
     }
 
-    /// Whether the device takes the component. One that isn't ready, or still ends what went before, is asked again.
+    /// Whether the device accepts the component. If it isn't ready, or is still ending the previous
+    /// step, the command is sent again.
     fn learn_update(&mut self, answer: Result<&Answer<'_>, Malformed>)
         requires { state_of self.old.session.stage ≡ SessionState.Update }
         ensures session { self.new.session ≡ agent_learn no_package self.old.session (result_map_both (λ a. answer_of a.now) (λ e. e) answer.entry) }
@@ -146,7 +148,8 @@ impl Session {
         }
     }
 
-    /// Whether the device activated. One that still ends what went before is asked again.
+    /// Whether the device activated. If it is still ending the previous step, the command is sent
+    /// again.
     fn learn_activate(&mut self, answer: Result<&Answer<'_>, Malformed>)
         requires { state_of self.old.session.stage ≡ SessionState.Activate }
         ensures session { self.new.session ≡ agent_learn no_package self.old.session (result_map_both (λ a. answer_of a.now) (λ e. e) answer.entry) }
@@ -177,7 +180,7 @@ impl Session {
         }
     }
 
-    /// The update failed.
+    /// Fails the update with this cause.
     fn fail(&mut self, cause: Cause)
         ensures session { self.new.session ≡ at_stage self.old.session (Stage.Failed cause) }
         ensures idle { self.new.idle ≡ 0 }
@@ -186,7 +189,8 @@ impl Session {
     }
 }
 
-/// Whether a component is to be updated, by the device's response code and by whether its update is forced.
+/// Returns whether a component is to be updated, from the device's response code and from whether
+/// its update is forced.
 fn is_to_do(code: u8, forced: bool) -> bool
     ensures { result ≡ ((code == 0) || (((code == 1) || (code == 2)) && forced)) }
 {

@@ -1,4 +1,4 @@
-//! How a session answers the device's commands.
+//! A session's answers to the device's commands.
 
 ghost use Rattle.std.specs.Prelude.{◌≡◌, ◌≤◌, ◌==◌, if◌then◌else◌, Some, length};
 ghost use Rattle.fwup_wire.specs.Answers.{answer_bytes, answer_code, answer_in};
@@ -22,16 +22,16 @@ use fwup_wire::{Answer, Command, MIN_TRANSFER, transfer_size, write_answer};
 use pldm_base::completion::{ERROR_UNSUPPORTED_PLDM_CMD, SUCCESS};
 use pldm_base::{Reply, code_alone};
 
-/// The result of a transfer, a verification or an application that went well.
+/// The result of a successful transfer, verification or application.
 const GOOD: u8 = 0;
 
-/// How many bytes past the image's end a piece may reach: those of the smallest piece.
+/// The number of bytes that a piece may reach past the image's end: those of the smallest piece.
 const PAST_END: usize = MIN_TRANSFER;
 
 impl Session {
-    /// Takes a command of the device and answers it: with a code alone, save where data are served. The answer fits a
-    /// message of the session's transmission unit. What the session doesn't
-    /// expect in its state leaves it as it is.
+    /// Takes a command of the device and returns the answer: a code alone, except if data are
+    /// served. The answer fits a message of the session's transmission unit. A command that isn't
+    /// expected in the state leaves the session as it is.
     #[tactic(auto, using(crate::proofs::Answering::answers_read, crate::proofs::Fitting::answers_fit))]
     pub fn take(&mut self, command: &Command<'_>, lent: &Lent<'_>) -> Reply
         ensures answer { result.items ≡ answer_bytes (agent_answer lent.now self.old.session (command_of command.now)) }
@@ -49,7 +49,7 @@ impl Session {
         }
     }
 
-    /// Serves a piece of the image of the component at hand.
+    /// Serves a piece of the image of the component being updated.
     fn data(&mut self, offset: u32, length: u32, lent: &Lent<'_>) -> Reply
         ensures answer { result.items ≡ answer_bytes (agent_answer lent.now self.old.session (CommandOf.RequestFirmwareData offset length)) }
         ensures after { self.new.session ≡ self.old.session }
@@ -106,7 +106,8 @@ impl Session {
         }
     }
 
-    /// The application of the image ended: what went well is recorded, and the next component is at hand, or all are applied.
+    /// The application of the image ended: if it succeeded, the component is recorded and the next
+    /// one begins, or all are applied.
     fn apply_complete(&mut self, outcome: u8) -> u8
         ensures code { result ≡ answer_code (agent_answer no_package self.old.session (CommandOf.ApplyComplete outcome 0)) }
         ensures after { self.new.session ≡ agent_after no_package self.old.session (CommandOf.ApplyComplete outcome 0) }
@@ -127,7 +128,7 @@ impl Session {
         }
     }
 
-    /// Records the component at hand in its package, and goes to the next component.
+    /// Records the component being updated in its package, and goes to the next component.
     fn record(&mut self)
         requires { state_of self.old.session.stage ≡ SessionState.Apply }
         ensures after { self.new.session ≡ agent_after no_package self.old.session (CommandOf.ApplyComplete 0 0) }
@@ -148,7 +149,7 @@ impl Session {
     }
 }
 
-/// Where a result leads: onward, or into failure for this cause.
+/// Returns the state after a result: `onward` if it is good, otherwise a failure with this cause.
 fn next(outcome: u8, onward: SessionState, cause: Cause) -> SessionState
     ensures { result ≡ (if outcome == 0 then onward else SessionState.Failed cause) }
 {

@@ -1,4 +1,4 @@
-//! Which command a session wishes to ask.
+//! A session's pending command.
 
 ghost use Rattle.std.specs.Prelude.{◌≡◌, ◌≤◌, IfSome, option_map};
 ghost use Rattle.fw_package.specs.Choice.{component_at};
@@ -15,8 +15,8 @@ use crate::state::SessionState;
 use fwup_wire::{Command, ComponentOffer, TableEntry, TransferFlag, UpdateRequest, transfer_size};
 
 impl Session {
-    /// The command that the session wishes to ask the device, with the texts of the package. None where it waits for the
-    /// device or for its user.
+    /// Returns the session's pending command to the device, with the texts of the package; `None`
+    /// while it waits for the device or for its user.
     pub fn wish<'a>(&self, lent: &Lent<'a>) -> Option<Command<'a>>
         ensures wish { option_map command_of result ≡ agent_wish lent.now self.now.session }
         ensures spoken { IfSome (agent_wish lent.now self.now.session) CommandRoundTrips }
@@ -45,7 +45,7 @@ impl Session {
     }
 }
 
-/// Where an entry stands in a table of so many, by how many come after it.
+/// Returns the flag of an entry in a table of `count` entries, `left` of which come after it.
 fn flag_at(left: usize, count: usize) -> TransferFlag
     requires { left ≤ 8 }
     ensures { result ≡ flag_at left count }
@@ -61,7 +61,7 @@ fn flag_at(left: usize, count: usize) -> TransferFlag
     }
 }
 
-/// What the device is told of a component.
+/// Returns the component table entry of a component.
 fn entry<'a>(lent: &Lent<'a>, planned: Planned, flag: TransferFlag) -> TableEntry<'a>
     ensures spoken { CommandRoundTrips (CommandOf.PassComponentTable (table_entry_of result)) }
     ensures value { table_entry_of result ≡ record { flag = flag; key = key_of (component_at lent.now planned.component); index = planned.index; version = sent_version (component_at lent.now planned.component) } }
@@ -75,7 +75,7 @@ fn entry<'a>(lent: &Lent<'a>, planned: Planned, flag: TransferFlag) -> TableEntr
     }
 }
 
-/// What the device is offered of a component.
+/// Returns the offer of a component.
 fn offer<'a>(lent: &Lent<'a>, planned: Planned) -> ComponentOffer<'a>
     ensures spoken { CommandRoundTrips (CommandOf.UpdateComponent (offer_of result)) }
     ensures value { CommandOf.UpdateComponent (offer_of result) ≡ offer_wish lent.now planned }

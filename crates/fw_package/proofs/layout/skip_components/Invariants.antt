@@ -2,6 +2,6 @@ use Rattle.std.proofs.Common.{◌≡◌, ◌-◌}
 use Rattle.fw_package.specs.Layout.{after_components}
 use Rattle.fw_package.proofs.layout.skip_components.Given as goal
 
--- what stands after those that are left is what stands after all
+-- the bytes after the components left are the bytes after all
 abbrev pub invariant-loop-component : goal.invariant-loop-component
 invariant-loop-component l = after_components (l.count - l._component) l.rest ≡ after_components l.count l.bytes

@@ -3,6 +3,6 @@ use Rattle.std.specs.List.{list_all}
 use Rattle.fw_package.specs.Asked.{asked_record_of, record_fits}
 use Rattle.fw_package.proofs.measures.records_fit.Given as goal
 
--- those that are left decide
+-- the records left decide
 abbrev pub invariant-loop-record : goal.invariant-loop-record
 invariant-loop-record l = list_all record_fits (map asked_record_of (drop l.record-index l.records)) ≡ list_all record_fits (map asked_record_of l.records)

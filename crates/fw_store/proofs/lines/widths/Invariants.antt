@@ -3,6 +3,6 @@ use Rattle.std.specs.List.{AllByRecursion}
 use Rattle.fw_store.specs.Active.{IsImageEntry}
 use Rattle.fw_store.proofs.lines.widths.Given as goal
 
--- those so far have their widths
+-- the lines so far have their widths
 abbrev pub invariant-loop-entry : goal.invariant-loop-entry
 invariant-loop-entry l = AllByRecursion IsImageEntry (take l.entry-index l.entries)

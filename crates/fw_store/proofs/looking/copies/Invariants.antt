@@ -1,6 +1,6 @@
 use Rattle.std.proofs.Common.{◌≡◌, take}
 use Rattle.fw_store.proofs.looking.copies.Given as goal
 
--- those so far are there
+-- the images so far are there
 abbrev pub invariant-loop-image : goal.invariant-loop-image
 invariant-loop-image l = l.copies.items ≡ take l.image-index l.images

@@ -3,7 +3,7 @@ use Rattle.fw_store.specs.Folders.{PassesStates}
 use Rattle.fw_store.specs.Opening.{IsUntouched}
 use Rattle.fw_store.proofs.sweeping.sweep.Given as goal
 
--- what the lines name is as before, and was at each moment
+-- the files that the lines name are as before, and were at each moment
 abbrev pub invariant-loop-name : goal.invariant-loop-name
 invariant-loop-name g l = record {
   known : g.F.Folder.is_known l.folder ≡ g.F.Folder.is_known l.fn.folder;

@@ -4,7 +4,7 @@ use Rattle.fw_package.specs.Layout.{after_components}
 use Rattle.fw_package.proofs.Rows.{fault_of}
 use Rattle.fw_package.proofs.components.Components.read.Given as goal
 
--- the walk goes through those that are left, and their fault is that of all
+-- the walk goes through the components left, and their fault is that of all
 abbrev pub invariant-loop-component : goal.invariant-loop-component
 invariant-loop-component l = record {
   there : IsSome (after_components (l.count - l._component) l.rest);

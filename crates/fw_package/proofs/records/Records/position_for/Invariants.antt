@@ -4,7 +4,7 @@ use Rattle.fw_package.specs.Choice.{is_for}
 use Rattle.fw_package.specs.Package.{descriptor_of}
 use Rattle.fw_package.proofs.records.Records.position_for.Given as goal
 
--- the answer of those that are left is the answer of all
+-- the answer for the records left is the answer for all
 abbrev pub invariant-loop-number : goal.invariant-loop-number
 invariant-loop-number l = record {
   counted : l.number + length l.self ≡ length l.fn.self;

@@ -4,7 +4,7 @@ use Rattle.fw_package.specs.Records.{records_of}
 use Rattle.fw_package.proofs.Rows.{fault_of}
 use Rattle.fw_package.proofs.records.Records.read.Given as goal
 
--- the walk goes through those that are left, and their fault is that of all
+-- the walk goes through the records left, and their fault is that of all
 abbrev pub invariant-loop-record : goal.invariant-loop-record
 invariant-loop-record l = record {
   there : IsSome (after_records (l.count - l._record) l.rest);

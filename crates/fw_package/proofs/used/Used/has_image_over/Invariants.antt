@@ -3,7 +3,7 @@ use Rattle.std.specs.List.{list_any}
 use Rattle.std.specs.Prelude.{length, nat_lt}
 use Rattle.fw_package.proofs.used.Used.has_image_over.Given as goal
 
--- the answer of those that are left is the answer of all
+-- the answer for the components left is the answer for all
 abbrev pub invariant-loop-component : goal.invariant-loop-component
 invariant-loop-component l =
     (goal.iterator-loop-component).can_next l.component-iterator × (goal.iterator-loop-component).is_finite l.component-iterator

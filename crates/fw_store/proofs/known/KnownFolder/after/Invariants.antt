@@ -1,6 +1,6 @@
 use Rattle.std.proofs.Common.{◌≡◌, take}
 use Rattle.fw_store.proofs.known.KnownFolder.after.Given as goal
 
--- so many changes are made
+-- the changes so far are made
 abbrev pub invariant-loop-place : goal.invariant-loop-place
 invariant-loop-place l = l.folder.changes.items ≡ take l.place l.self.changes.items

@@ -2,6 +2,6 @@ use Rattle.std.proofs.Common.{◌≡◌, drop}
 use Rattle.fw_store.specs.Kept.{image_for}
 use Rattle.fw_store.proofs.memory.MemStore.bytes.Given as goal
 
--- the component isn't among those so far
+-- the component isn't among the images so far
 abbrev pub invariant-loop-image : goal.invariant-loop-image
 invariant-loop-image l = image_for (drop l.image-index l.self.images.items) l.key ≡ image_for l.self.images.items l.key

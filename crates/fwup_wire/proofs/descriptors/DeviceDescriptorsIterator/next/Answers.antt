@@ -4,7 +4,7 @@ use Rattle.fwup_wire.proofs.descriptors.DeviceDescriptorsIterator.next.Goals as 
 use Rattle.fwup_wire.specs.Descriptors.{descriptors_in}
 use Rattle.fwup_wire.specs.Lent.{device_descriptor_of}
 
--- the descriptors behind the first
+-- the descriptors after the first
 pub invariant_of-self : goal.invariant_of-self
 invariant_of-self c =
     rw (c.rest.ensures, c.in_ok-descriptor.ensures.rest, c.new-cursor.ensures)

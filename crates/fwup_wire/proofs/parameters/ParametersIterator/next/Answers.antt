@@ -4,7 +4,7 @@ use Rattle.fwup_wire.proofs.parameters.ParametersIterator.next.Goals as goal
 use Rattle.fwup_wire.specs.Parameters.{parameters_in}
 use Rattle.fwup_wire.specs.Lent.{parameters_of}
 
--- the components behind the first
+-- the components after the first
 pub invariant_of-self : goal.invariant_of-self
 invariant_of-self c =
     rw (c.rest.ensures, c.in_ok-parameters.ensures.rest, c.new-cursor.ensures)
