@@ -87,8 +87,8 @@ impl Asker {
         self.caller.open_message()
     }
 
-    /// Returns whether no packet of the last request can still arrive: no request is open, and the
-    /// last one was answered or its tag has rested.
+    /// Returns whether the asker is quiet: no request is open, and the last one was answered or
+    /// its tag has rested.
     pub fn is_quiet(&self) -> bool
         ensures { result ≡ is_quiet self.now.caller }
     {
