@@ -80,7 +80,7 @@ cell_close run = close_in run run.cell
 abbrev pub cell_give_up : CellRun → Option CellRun
 cell_give_up run = cell_close run
 
--- A closed cell is emptied: no packet of its request can still arrive.
+-- A closed cell is emptied: nothing of its request is left.
 abbrev pub drop_in : CellRun → Cell → Option CellRun
 drop_in run (Cell.Asked command body false) = cell_run_with run Cell.Empty
 drop_in run (Cell.Answered command body reply false) = cell_run_with run Cell.Empty
@@ -89,7 +89,7 @@ drop_in run _ = None
 abbrev pub cell_drop : CellRun → Option CellRun
 cell_drop run = drop_in run run.cell
 
--- the node isn't deaf, no request is open, and no packet of the last one can still arrive
+-- the node isn't deaf, and its caller is quiet
 abbrev pub is_asker_quiet : AskerOf → Bool
 is_asker_quiet a = (a.deaf == 0) && is_quiet a.caller
 

@@ -53,7 +53,7 @@ pub data LaneStepOf : Type 0 where
   Tick : (asker taker : Bool) → LaneStepOf
   Restart : (end : End) → LaneStepOf
 
--- a step of the code
+-- the value of a step
 abbrev pub lane_step_of : LaneStep → LaneStepOf
 lane_step_of (steps.Begin command body) = LaneStepOf.Begin command body.items
 lane_step_of steps.Abandon = LaneStepOf.Abandon
@@ -64,7 +64,7 @@ lane_step_of (steps.Restart end) = LaneStepOf.Restart end
 abbrev pub lane_steps_of : List LaneStep → List LaneStepOf
 lane_steps_of steps = map lane_step_of steps
 
--- an entry of the code
+-- the value of an entry
 abbrev pub lane_entry_of : LaneEntry → LaneEntryOf
 lane_entry_of (entries.Asked command body) = LaneEntryOf.Asked command body.items
 lane_entry_of (entries.Taken command body reply) = LaneEntryOf.Taken command body.items reply.items

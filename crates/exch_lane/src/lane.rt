@@ -115,8 +115,8 @@ impl Lane {
         self.asker.is_open()
     }
 
-    /// Returns whether no packet of the asker's last request can still arrive: no request is open,
-    /// and the last one was answered or its tag has rested.
+    /// Returns whether the asker is quiet: no request is open, and the last one was answered or
+    /// its tag has rested.
     pub fn is_quiet(&self) -> bool
         ensures { result ≡ is_quiet self.now.asker.caller }
     {

@@ -34,10 +34,10 @@ pub enum LaneStep {
 /// Why a step isn't taken.
 #[derive(Clone, Copy, Debug, PartialEq, Eq, Error)]
 pub enum LaneFault {
-    /// The step isn't allowed now. Begin: the asker is deaf, no request may begin, or the request
-    /// data are longer than a message of the transmission unit holds after its header. Deliver: the
-    /// reply is as long. Abandon: no request is open. Tick: time has reached its end, or an end
-    /// misses the tick that counted fewer than 8 since its last missed one.
+    /// The step isn't allowed now. Begin: the asker is deaf, or no request may begin. Begin and
+    /// Deliver: the request data or the reply are longer than a message of the transmission unit
+    /// holds after its header. Abandon: no request is open. Tick: time has reached its end, or an
+    /// end misses the tick that counted fewer than 8 since its last missed one.
     #[error("NotNow")]
     NotNow,
     /// No packet with this number was sent.

@@ -49,7 +49,7 @@ pub struct Device<B: Bank> {
     components: ArrayVec<BankComponent, MAX_COMPONENTS>,
     /// The bank with the components' images. Its stage is used in DOWNLOAD, VERIFY and APPLY.
     bank: B,
-    /// The state, the history of its last changes, and the ticks without a change.
+    /// The state, the previous state, the reason for being idle, and the ticks without a change.
     course: Course,
     /// The data of RequestUpdate and PassComponentTable. They are used from LEARN COMPONENTS to
     /// APPLY.
@@ -119,21 +119,21 @@ impl<B: Bank> Device<B> {
         }
     }
 
-    /// The transmission unit of its network.
+    /// Returns the transmission unit of its network.
     pub fn unit(&self) -> Unit
         ensures { result ≡ self.now.device.unit }
     {
         self.unit
     }
 
-    /// The device's descriptors.
+    /// Returns the device's descriptors.
     pub fn descriptors(&self) -> &DescriptorList
         ensures { result.now ≡ self.now.device.descriptors }
     {
         &self.descriptors
     }
 
-    /// The state.
+    /// Returns the state.
     pub fn state(&self) -> State
         ensures { result ≡ state_of self.now.device.phase }
     {
@@ -287,7 +287,7 @@ impl<B: Bank> Device<B> {
         self.course.go(State::Idle);
     }
 
-    /// The bank.
+    /// Returns the bank.
     pub fn bank(&self) -> &B
         ensures rows { B.rows result.now ≡ self.now.device.rows }
         ensures faults { B.faults result.now ≡ self.now.faults }

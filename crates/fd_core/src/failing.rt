@@ -35,7 +35,7 @@ impl FailBank {
         }
     }
 
-    /// The bank in memory.
+    /// Returns the bank in memory.
     pub fn inner(&self) -> &MemBank
         ensures { result.now ≡ self.now.bank }
     {

@@ -73,7 +73,7 @@ impl Label {
         }
     }
 
-    /// The comparison stamp.
+    /// Returns the comparison stamp.
     pub fn stamp(&self) -> u32
         ensures { result ≡ self.now.stamp }
     {

@@ -100,7 +100,7 @@ impl Work {
     }
 }
 
-/// A device's state, the history of its last changes, and the ticks without a change.
+/// A device's state, its previous state, the reason for being idle, and the ticks without a change.
 #[derive(Clone, Copy)]
 pub struct Course {
     /// The device's state.

@@ -27,7 +27,7 @@ digits_value-take-le i ds =
     let whole = ap (digits_value 10) (sym (take-append-drop i ds)) ∙ digits_value_after-append 0 (take i ds) (drop i ds) in
     omega (arith, digits_value_after-ge (drop i ds) (digits_value 10 (take i ds)))
 
--- one of the digits is no digit
+-- one of the bytes isn't a digit
 pub no_digit : (ds : List ℕ) (i : ℕ) → i < length ds → is_ascii_digit (get_or ds i 0) ≡ false → list_all is_ascii_digit ds ≡ false
 no_digit [] i inside fails = absurd (omega arith)
 no_digit (d ∷ ds) zero inside fails = and_left _ _ fails

@@ -49,7 +49,7 @@ stored_in files = option_and_then (λ es. images_of files es) (lines_by (files a
 
 -- THE NEXT KEPT IMAGES
 
--- the images of components other than those of `kept`
+-- the kept images of components other than those of `images`
 abbrev pub others_than : (images kept : List KeptOf) → List KeptOf
 others_than images [] = []
 others_than images (k ∷ ks) = if is_some (image_for images k.key) then others_than images ks else k ∷ others_than images ks

@@ -53,7 +53,7 @@ impl<S: Store + Drop> KeptBank<S> {
         }
     }
 
-    /// The store.
+    /// Returns the store.
     pub fn store(&self) -> &S
         ensures { S.kept result.now ≡ self.now.kept }
     {

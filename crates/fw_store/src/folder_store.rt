@@ -64,14 +64,14 @@ impl<F: Folder + Drop> FolderStore<F> {
         self.folder
     }
 
-    /// The folder.
+    /// Returns the folder.
     pub fn folder(&self) -> &F
         ensures { result.now ≡ self.now.folder }
     {
         &self.folder
     }
 
-    /// The kept images.
+    /// Returns the kept images.
     pub fn images(&self) -> &[Stored]
         ensures { result.now ≡ self.now.memory.images.items }
     {

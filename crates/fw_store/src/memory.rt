@@ -150,7 +150,7 @@ impl MemStore {
         })
     }
 
-    /// The kept images.
+    /// Returns the kept images.
     pub fn images(&self) -> &[Stored]
         ensures { result.now ≡ self.now.images.items }
     {

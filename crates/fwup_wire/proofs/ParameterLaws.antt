@@ -145,7 +145,7 @@ joined s s1 s2 s3 s4 s5 s6 s7 component active pending_stamp pending active_text
     (e3 ∙ ap (λ r. (pending.0 ∷ pending.1 ∷ replicate 8 0) ++ r)
     (e4 ∙ ap (λ r. (2 ∷ replicate 5 0) ++ r) (e5 ∙ ap (λ r. active_text ++ r) e6))))))
 
--- so do all of them
+-- and so are all of them
 pub parameters_spelled : (bytes : List ℕ) (p : ParametersOf) → AreBytes bytes → first_parameters bytes ≡ Some p
     → bytes ≡ parameters_bytes p ++ drop (parameters_size p) bytes
 parameters_spelled s p are is =

@@ -90,7 +90,7 @@ abbrev pub alone : List ℕ → CommandOf → Result CommandOf ℕ
 alone [] c = Ok c
 alone (_ ∷ _) c = Err invalid_length
 
--- the request data of RequestUpdate, if the bytes are these
+-- the request data of RequestUpdate in the bytes, if they are complete
 abbrev pub request_in : List ℕ → Option UpdateRequestOf
 request_in (t0 ∷ t1 ∷ t2 ∷ t3 ∷ c0 ∷ c1 ∷ outstanding ∷ p0 ∷ p1 ∷ text) =
     option_map (λ image_set. record {

@@ -29,8 +29,8 @@ abbrev pub get_endpoint_uuid : List ℕ → List ℕ → List ℕ
 get_endpoint_uuid uuid [] = success ∷ uuid
 get_endpoint_uuid uuid (_ ∷ _) = refused_with error_invalid_length
 
--- version 1.3.1 in the version number encoding: major, minor and update, each one decimal digit after the digit F, and no
--- letter
+-- version 1.3.1 in the version number encoding: major, minor and update, each one decimal digit
+-- after the digit F, and no letter
 abbrev pub base_version : List ℕ
 base_version = 0xF1 ∷ 0xF3 ∷ 0xF1 ∷ 0x00 ∷ []
 

@@ -22,7 +22,7 @@ pub enum ControlCommand {
 }
 
 impl ControlCommand {
-    /// The command with this code, if an endpoint answers it.
+    /// Returns the command with this code, if an endpoint answers it.
     pub fn from_code(code: u8) -> Option<ControlCommand>
         ensures { result ≡ command_of code }
     {

@@ -12,7 +12,7 @@ use Rattle.mctp_reasm.specs.declared.outcomes.Fed.TheVariants as outcomes
 use Rattle.mctp_reasm.specs.declared.outcomes.Taken.{Taken}
 use Rattle.mctp_reasm.specs.declared.outcomes.Taken.TheVariants as takens
 
--- the packets that are held, and the ticks since the last of them came
+-- the held packets, and the ticks since the last of them
 pub record Held : Type 0 where
   pub packets : List PacketOf
   pub age : ℕ
@@ -31,7 +31,7 @@ open_pieces u (suc count) r n bytes = piece r n false (take (bytes_of u) bytes) 
 abbrev pub held_of : «Unit» → Route → List ℕ → ℕ → ℕ → Option Held
 held_of u r bytes count age = if count == 0 then None else Some (record { packets = open_pieces u count r 0 bytes; age = age })
 
--- the packets that are held
+-- the held packets
 abbrev pub packets_of : Option Held → List PacketOf
 packets_of None = []
 packets_of (Some h) = h.packets
@@ -111,7 +111,7 @@ abbrev pub held_tick : Option Held → Option Held
 held_tick None = None
 held_tick (Some h) = if h.age == 8 then None else Some (record h { age = h.age + 1 })
 
--- the packet is of the message that is held
+-- the packet is of the held message
 abbrev pub IsOfHeldMessage : List PacketOf → Head → Type 0
 IsOfHeldMessage [] h = Prim.Unit {0}
 IsOfHeldMessage (q ∷ qs) h = route_of q.head ≡ route_of h

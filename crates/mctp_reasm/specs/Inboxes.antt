@@ -39,7 +39,7 @@ packet_for u own peer to bytes = for_end own peer to (wire.packet_of u bytes)
 abbrev pub held_in : List AssemblyOf → List (Option Held)
 held_in xs = map (λ a. a.held) xs
 
--- a tick passes for one
+-- a tick of one assembly
 abbrev pub assembly_after_tick : AssemblyOf → AssemblyOf
 assembly_after_tick a = record a { held = held_tick a.held }
 

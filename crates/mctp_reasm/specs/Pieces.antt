@@ -14,7 +14,7 @@ pub record MessageOf : Type 0 where
   pub tag : ℕ
   pub bytes : List ℕ
 
--- a place for a message before one is written into it
+-- a placeholder for a message, before one is written to it
 abbrev pub blank : MessageOf
 blank = record { dest = 0; source = 0; to = false; tag = 0; bytes = 0 ∷ [] }
 
@@ -59,7 +59,7 @@ pieces_from u (suc most) r n bytes =
 abbrev pub pieces : «Unit» → MessageOf → List PacketOf
 pieces u m = pieces_from u MAX_PACKETS (message_route m) 0 m.bytes
 
--- a packet in its written spelling
+-- a packet in its encoded form
 abbrev pub spelling_of : PacketOf → List ℕ
 spelling_of p = packet_bytes p.head p.body
 

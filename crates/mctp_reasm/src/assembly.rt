@@ -1,4 +1,4 @@
-//! Messages out of packets.
+//! Assembles messages from packets.
 
 ghost use Rattle.std.specs.Prelude.{◌≡◌, ◌≢◌, ◌<◌, ◌≤◌, ◌↔◌, ◌⊎◌, ◌%◌, ◌++◌, ◌∷◌, [], length, Option, Some, None, true, false, IfNone};
 ghost use Rattle.mctp_reasm.specs.Pieces.{IsMessage, MessageOf, packet_of, pieces};
@@ -11,15 +11,15 @@ use arrayvec::ArrayVec;
 use mctp_wire::{MAX_MESSAGE, MAX_PACKETS, Packet, Unit};
 use std::marker::Model;
 
-/// Sequence numbers are counted modulo this.
+/// The modulus of sequence numbers.
 const SEQUENCE_NUMBERS: u8 = 4;
 
-/// The ticks that an assembly waits for its next packet. A packet is under way for as long at most,
-/// so a held packet can't meet a message that uses the tag later. The assembly ends in the tick
-/// after them.
+/// The ticks that an assembly waits for its next packet. A packet is in transit at most as long, so
+/// a held packet can't meet a message that uses the tag later. The assembly ends in the tick after
+/// them.
 const PATIENCE: u8 = 8;
 
-/// The packets of one message that have come so far, and the ticks since the last of them, 0 to 8.
+/// The received packets of one message, and the ticks since the last of them, 0 to 8.
 #[derive(Drop)]
 pub struct Assembly {
     unit: Unit,
@@ -46,7 +46,7 @@ impl Model for Assembly {
 }
 
 impl Assembly {
-    /// An assembly of a network with this transmission unit, which holds nothing.
+    /// Returns an empty assembly of a network with this transmission unit.
     pub fn new(unit: Unit) -> Assembly
         ensures { result ≡ record { unit = unit; held = None } }
     {
@@ -62,7 +62,7 @@ impl Assembly {
         }
     }
 
-    /// The network's transmission unit.
+    /// Returns the network's transmission unit.
     pub fn unit(&self) -> Unit
         ensures { result ≡ self.now.unit }
     {
@@ -101,7 +101,7 @@ impl Assembly {
         self.pieces
     }
 
-    /// The first cause to drop this packet.
+    /// Returns the first cause to drop this packet.
     fn cause(&self, packet: &Packet<'_>) -> Option<DropCause>
         ensures cause { result ≡ cause_of self.now.unit self.now.held (packet_of packet.now.head packet.now.body.now) }
         ensures lawful { IsHeld self.now.unit self.now.held }
@@ -210,7 +210,7 @@ impl Assembly {
         self.clear();
     }
 
-    /// One more body of the message that is held.
+    /// Appends the body of a packet to the held message.
     #[tactic(auto, using(crate::proofs::Opened::held))]
     fn append(&mut self, packet: &Packet<'_>)
         requires joins { FollowsPackets (packets_of self.old.held) packet.now.head }
@@ -230,7 +230,7 @@ impl Assembly {
     }
 }
 
-/// The first cause to drop a packet that starts a message.
+/// Returns the first cause to drop a packet that starts a message.
 fn start_cause(unit: Unit, packet: &Packet<'_>) -> Option<DropCause>
     ensures cause { result ≡ start_cause unit (packet_of packet.now.head packet.now.body.now) }
     ensures number { IfNone result (packet.now.head.seq ≡ 0) }

@@ -1,4 +1,4 @@
-//! Messages into packets.
+//! Cuts messages into packets.
 
 ghost use Rattle.std.specs.Prelude.{◌≡◌, ◌<◌, ◌≤◌, length, map, option_map, slice_get};
 ghost use Rattle.mctp_reasm.specs.Pieces.{message_route, pieces, piece, spelling_of};
@@ -7,7 +7,7 @@ use crate::messages::Message;
 use arrayvec::ArrayVec;
 use mctp_wire::{Head, MAX_BODY, MAX_PACKETS, RawPacket, Unit};
 
-/// The packet of one piece of a message.
+/// Returns the packet of one piece of a message.
 fn piece_of(message: &Message, number: u8, last: bool, body: &[u8]) -> RawPacket
     requires number { number < MAX_PACKETS }
     requires body { (1 ≤ length body.now) × (length body.now ≤ MAX_BODY) }
@@ -50,8 +50,8 @@ pub fn piece_at(unit: Unit, message: &Message, number: u8) -> Option<RawPacket>
     Some(piece_of(message, number, false, body))
 }
 
-/// Cuts a message into its packets, at most four (DSP0236, section 8): its bytes cut at each transmission
-/// unit, SOM on the first and EOM on the last, numbered from 0.
+/// Cuts a message into its packets, at most four (DSP0236, section 8): its bytes cut at each
+/// transmission unit, SOM on the first and EOM on the last, numbered from 0.
 pub fn split(unit: Unit, message: &Message) -> ArrayVec<RawPacket, MAX_PACKETS>
     ensures { map (λ p. p.items) result.items ≡ map spelling_of (pieces unit message.now) }
 {

@@ -60,21 +60,21 @@ impl Inbox {
         }
     }
 
-    /// The network's transmission unit.
+    /// Returns the network's transmission unit.
     pub fn unit(&self) -> Unit
         ensures { result ≡ self.now.unit }
     {
         self.unit
     }
 
-    /// The node's own endpoint identifier.
+    /// Returns the node's own endpoint identifier.
     pub fn own(&self) -> u8
         ensures { result ≡ self.now.own }
     {
         self.own
     }
 
-    /// The endpoint identifier of the peer.
+    /// Returns the endpoint identifier of the peer.
     pub fn peer(&self) -> u8
         ensures { result ≡ self.now.peer }
     {
@@ -120,7 +120,7 @@ impl Inbox {
         feed_to(self.unit, &mut self.places, packet, whole)
     }
 
-    /// A tick passes: each assembly grows older, and ends in the ninth tick after its last packet.
+    /// Counts a tick: each assembly grows older, and ends in the ninth tick after its last packet.
     #[tactic(auto, using(crate::proofs::Routes::routes))]
     pub fn tick(&mut self)
         ensures { self.new ≡ record self.old { held = map held_tick self.old.held } }

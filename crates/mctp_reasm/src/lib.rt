@@ -1,4 +1,4 @@
-//! Messages of MCTP (DSP0236, section 8): cut into packets, and put together again from the packets that come.
+//! Messages of MCTP (DSP0236, section 8): cut into packets, and assembled from packets.
 #![tactic(auto)]
 
 mod assembly;

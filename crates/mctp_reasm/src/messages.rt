@@ -81,7 +81,8 @@ impl Message {
         })
     }
 
-    /// A place for a message to be written into: one byte 0, from endpoint 0 to endpoint 0.
+    /// Returns a placeholder for a message to be written to: one byte 0, from endpoint 0 to
+    /// endpoint 0.
     pub fn blank() -> Message
         ensures { result ≡ blank }
     {
@@ -96,28 +97,28 @@ impl Message {
         }
     }
 
-    /// The endpoint that the message goes to.
+    /// Returns the endpoint that the message goes to.
     pub fn dest(&self) -> u8
         ensures { result ≡ self.now.dest }
     {
         self.dest
     }
 
-    /// The endpoint that sent it.
+    /// Returns the endpoint that sent the message.
     pub fn source(&self) -> u8
         ensures { result ≡ self.now.source }
     {
         self.source
     }
 
-    /// Whether its sender owns the tag: set in a request, clear in an answer.
+    /// Returns whether the sender owns the tag: set in a request, clear in an answer.
     pub fn to(&self) -> bool
         ensures { result ≡ self.now.to }
     {
         self.to
     }
 
-    /// The tag, 0 to 7.
+    /// Returns the tag, 0 to 7.
     pub fn tag(&self) -> u8
         ensures value { result ≡ self.now.tag }
         ensures range { result ≤ 7 }
@@ -125,7 +126,7 @@ impl Message {
         self.tag
     }
 
-    /// The bytes, 1 to `MAX_MESSAGE`, the type byte first.
+    /// Returns the bytes, 1 to `MAX_MESSAGE`, the type byte first.
     pub fn bytes(&self) -> &[u8]
         ensures value { result.now ≡ self.now.bytes }
         ensures lawful { (1 ≤ length self.now.bytes) × (length self.now.bytes ≤ MAX_MESSAGE) }
@@ -133,7 +134,7 @@ impl Message {
         self.bytes.as_slice()
     }
 
-    /// Writes another message into this place.
+    /// Replaces this message by a copy of another.
     pub fn copy_from(&mut self, other: &Message)
         ensures { self.new ≡ other.now }
     {
@@ -145,7 +146,7 @@ impl Message {
         let _ = self.bytes.try_extend_from_slice(other.bytes.as_slice());
     }
 
-    /// The same message once more.
+    /// Returns a copy of the message.
     pub fn again(&self) -> Message
         ensures { result ≡ self.now }
     {

@@ -11,7 +11,7 @@ use Rattle.mctp_serial.specs.Laws.{IsReady, ReadsFrame}
 use Rattle.mctp_serial.specs.declared.stage.Stage.{Stage}
 use Rattle.mctp_serial.specs.declared.stage.Stage.TheVariants as stages
 
--- a reader after some bytes, with the packets that it gave
+-- a reader after some bytes, with the packets that it returned
 record Read : Type 0 where
   reader : ReaderOf
   packets : List (List ℕ)

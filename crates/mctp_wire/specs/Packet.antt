@@ -1,4 +1,5 @@
--- MCTP's packet (DSP0236, section 8.1): four bytes of head, and a body of 1 byte to the transmission unit.
+-- MCTP's packet (DSP0236, section 8.1): four bytes of head, and a body of 1 byte to the
+-- transmission unit.
 use Rattle.std.specs.Prelude.{◌≡◌, ◌≢◌, ℕ, ◌+◌, ◌*◌, ◌/◌, ◌%◌, ◌<◌, ◌≤◌, ◌==◌, Bool, true, false, not, nat_lt, if◌then◌else◌, List, ◌∷◌, length, slice_index, Result, Ok, Err}
 use Rattle.mctp_wire.specs.declared.layout.Head.{Head}
 use Rattle.mctp_wire.specs.declared.layout.Packet.{Packet}
@@ -22,8 +23,8 @@ flags_of h = 128 * bit h.som + 64 * bit h.eom + 16 * h.seq + 8 * bit h.to + h.ta
 abbrev pub IsHead : Head → Type 0
 IsHead h = (h.seq < 4) × (h.tag < 8)
 
--- The bytes are a packet with this head and this body. The low bits of the first byte are the header
--- version, 1; its high bits are reserved and may hold anything.
+-- The bytes are a packet with this head and this body. The low bits of the first byte are the
+-- header version, 1; its high bits are reserved and may hold anything.
 abbrev pub IsPacket : «Unit» → List ℕ → Head → List ℕ → Type 0
 IsPacket u (version ∷ dest ∷ source ∷ flags ∷ rest) h body =
     (version % 16 ≡ 1) × (dest ≡ h.dest) × (source ≡ h.source) × (flags ≡ flags_of h) × IsHead h

@@ -33,7 +33,8 @@ const TO_BIT: u32 = 3;
 /// The three bits of a tag, the fourth byte's lowest.
 const TAG_MASK: u8 = 7;
 
-/// Reads a packet of a network with this transmission unit (DSP0236, section 8.1). Reserved bits may hold anything.
+/// Reads a packet of a network with this transmission unit (DSP0236, section 8.1). Reserved bits
+/// may hold anything.
 ///
 /// # Errors
 /// Bytes that are no packet are refused by the first fault that holds.
@@ -68,7 +69,7 @@ pub fn decode(unit: Unit, bytes: &[u8]) -> Result<Packet<'_>, WireFault>
     Ok(Packet { head, body })
 }
 
-/// The fourth byte of a head.
+/// Returns the fourth byte of a head.
 fn flags_byte(head: &Head) -> u8
     requires { IsHead head.now }
     ensures { result ≡ flags_of head.now }
@@ -80,7 +81,7 @@ fn flags_byte(head: &Head) -> u8
         + head.tag
 }
 
-/// Writes a packet in place of what `out` holds, with its reserved bits 0 (DSP0236, section 8.1).
+/// Encodes a packet into `out`, replacing its content, with reserved bits 0 (DSP0236, section 8.1).
 pub fn encode(head: &Head, body: &[u8], out: &mut RawPacket)
     requires body { (1 ≤ length body.now) × (length body.now ≤ MAX_BODY) }
     requires head { IsHead head.now }

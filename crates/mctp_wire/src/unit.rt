@@ -12,7 +12,8 @@ pub const MAX_PACKETS: usize = 4;
 /// The most bytes of a message, with its type byte, at any transmission unit.
 pub const MAX_MESSAGE: usize = MAX_PACKETS * MAX_BODY;
 
-/// The transmission unit of a network: the most bytes of a packet's body, which all its nodes share (DSP0236, section 8.3).
+/// The transmission unit of a network: the most bytes of a packet's body, which all its nodes share
+/// (DSP0236, section 8.3).
 #[derive(Clone, Copy, Debug, PartialEq, Eq)]
 pub enum Unit {
     /// The baseline of 64 bytes, which each medium carries.
@@ -22,7 +23,7 @@ pub enum Unit {
 }
 
 impl Unit {
-    /// The most bytes of a packet's body.
+    /// Returns the most bytes of a packet's body.
     pub fn bytes(self) -> usize
         ensures value { result ≡ bytes_of self }
         ensures fits { (1 ≤ result) × (result ≤ MAX_BODY) }

@@ -26,11 +26,11 @@ bits_from n (suc size) numbers = byte_of_bits numbers n ∷ bits_from (n + 8) si
 abbrev pub types : List ℕ
 types = 0 ∷ 5 ∷ []
 
--- the base commands that a terminus takes
+-- the base commands of a terminus
 abbrev pub base_commands : List ℕ
 base_commands = 1 ∷ 2 ∷ 4 ∷ 5 ∷ []
 
--- the firmware update commands that it takes by its role
+-- the firmware update commands of a terminus, by its role
 abbrev pub update_commands : Role → List ℕ
 update_commands Device = 0x01 ∷ 0x02 ∷ 0x10 ∷ 0x13 ∷ 0x14 ∷ 0x1A ∷ 0x1B ∷ 0x1C ∷ 0x1D ∷ []
 update_commands Agent = 0x15 ∷ 0x16 ∷ 0x17 ∷ 0x18 ∷ []
@@ -54,7 +54,7 @@ abbrev pub get_types_reply : List ℕ → List ℕ
 get_types_reply [] = success ∷ bits_from 0 8 types
 get_types_reply (_ ∷ _) = invalid_length ∷ []
 
--- GetPLDMCommands: a PLDM type and four bytes of version, which aren't looked at; 32 bytes of bits
+-- GetPLDMCommands: a PLDM type and four bytes of version, which are ignored; 32 bytes of bits
 abbrev pub get_commands_reply : Role → List ℕ → List ℕ
 get_commands_reply role (pldm_type ∷ _ ∷ _ ∷ _ ∷ _ ∷ []) =
     if pldm_type == 0 then success ∷ bits_from 0 32 base_commands

@@ -1,4 +1,4 @@
--- The completion codes of DSP0240, in the standard's words.
+-- The completion codes of DSP0240, with the standard's names.
 use Rattle.std.specs.Prelude.{ℕ}
 
 abbrev pub success : ℕ
@@ -22,6 +22,6 @@ unsupported_command = 0x05
 abbrev pub invalid_pldm_type : ℕ
 invalid_pldm_type = 0x20
 
--- of GetPLDMCommands alone
+-- only of GetPLDMCommands
 abbrev pub invalid_type_in_request : ℕ
 invalid_type_in_request = 0x83

@@ -1,5 +1,5 @@
--- The PLDM message grammar (DSP0240, "PLDM message fields"), as it is carried over MCTP (DSP0241): the message type,
--- three bytes of header and a body.
+-- The PLDM message grammar (DSP0240, "PLDM message fields"), as it is carried over MCTP (DSP0241):
+-- the message type, three bytes of header and a body.
 use Rattle.std.specs.Prelude.{◌%◌, ◌*◌, ◌+◌, ◌/◌, ◌<◌, ◌==◌, ◌∷◌, ◌≡◌, ◌≢◌, ◌≤◌, Bool, Err, List, Ok, Result, false, if◌then◌else◌, length, not, slice_index, true, ℕ}
 use Rattle.pldm_base.specs.declared.header.PldmFault.{PldmFault}
 use Rattle.pldm_base.specs.declared.header.PldmFault.TheVariants.{Datagram, HeaderVersion, NotPldm, Short}
@@ -54,7 +54,7 @@ IsFirstPldmFault bytes HeaderVersion =
     (HEADER_SIZE ≤ length bytes) × (slice_index bytes 0 ≡ 1) × (slice_index bytes 1 / 64 % 2 ≡ 0)
     × (slice_index bytes 2 / 64 ≢ 0)
 
--- the written spelling, whose reserved bit is 0
+-- the encoded form, whose reserved bit is 0
 abbrev pub pldm_bytes : PldmHead → List ℕ → List ℕ
 pldm_bytes h body = 1 ∷ (128 * bit h.rq + h.instance) ∷ h.pldm_type ∷ h.command ∷ body
 

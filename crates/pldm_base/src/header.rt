@@ -28,7 +28,8 @@ const RQ_BIT: u32 = 7;
 /// The place of the datagram bit in the second byte.
 const D_BIT: u32 = 6;
 
-/// The five bits of an instance identifier, the second byte's lowest. The bit above them is reserved.
+/// The five bits of an instance identifier, the second byte's lowest. The bit above them is
+/// reserved.
 const INSTANCE_MASK: u8 = 0x1F;
 
 /// The place of the two bits of header version in the third byte.
@@ -65,7 +66,7 @@ pub enum PldmFault {
     /// The message type isn't that of PLDM.
     #[error("NotPldm")]
     NotPldm,
-    /// The D bit is set: nobody waits for an answer.
+    /// The D bit is set: no answer is expected.
     #[error("Datagram")]
     Datagram,
     /// The header version isn't 0.
@@ -102,7 +103,7 @@ pub fn decode(bytes: &[u8]) -> Result<(PldmHead, &[u8]), PldmFault>
     Ok((head, body))
 }
 
-/// Writes a PLDM message, its reserved bit 0.
+/// Encodes a PLDM message, with reserved bit 0.
 pub fn encode(head: &PldmHead, body: &[u8]) -> RawMessage
     requires body { length body.now ≤ MAX_REPLY }
     requires head { IsPldmHead head.now }

@@ -13,7 +13,8 @@ pub fn reads_back()
     ensures read { ReadsMessages }
 {}
 
-/// The numbers of the PLDM types, base and firmware update, and of the base commands, in the order of their values.
+/// The numbers of the PLDM types, base and firmware update, and of the base commands, in the order
+/// of their values.
 pub fn numbers() -> ([u8; 2], [u8; 4])
     ensures types { result.0 ≡ 0 ∷ 5 ∷ [] }
     ensures commands { result.1 ≡ 1 ∷ 2 ∷ 4 ∷ 5 ∷ [] }

@@ -1,4 +1,5 @@
-//! PLDM (DSP0240): the header of a message, completion codes, and the base commands as a terminus answers them.
+//! PLDM (DSP0240): the header of a message, completion codes, and a terminus' answers to the base
+//! commands.
 #![tactic(auto)]
 
 mod base;

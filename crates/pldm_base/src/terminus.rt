@@ -10,7 +10,7 @@ const UNASSIGNED: u8 = 0x00;
 /// The terminus identifier that DSP0240 reserves.
 const RESERVED: u8 = 0xFF;
 
-/// Which end of a firmware update a terminus is.
+/// The end of a firmware update that a terminus is.
 #[derive(Clone, Copy, PartialEq, Eq)]
 pub enum Role {
     /// The firmware device, which is updated.
@@ -36,7 +36,7 @@ impl Model for Tid {
 }
 
 impl Tid {
-    /// The identifier of a terminus that wasn't given one yet, as after a restart.
+    /// Returns the identifier of a terminus that has none yet, as after a restart.
     pub fn unassigned() -> Self
         ensures { result ≡ 0 }
     {
@@ -51,7 +51,7 @@ impl Tid {
         self.value
     }
 
-    /// Whether a terminus may be given this identifier.
+    /// Returns whether a terminus may have this identifier.
     pub(crate) fn is_assignable(value: u8) -> bool
         ensures { IsTrue result ↔ ((value ≢ 0) × (value ≢ 255)) }
     {

@@ -38,7 +38,7 @@ pub record ReplyInOf : Type 0 where
   pub command : ℕ
   pub reply : List ℕ
 
--- nothing was asked yet
+-- before the first request
 abbrev pub new_caller : ℕ → ℕ → CallerState
 new_caller own peer = record { own = own; peer = peer; number = 0; rests = no_rests; asked = None; answered = true }
 

@@ -1,5 +1,5 @@
--- The answers of one direction that the node that was asked keeps, for requests that come again: at
--- most one a tag.
+-- The answers of one direction that the node that answers keeps for repeated requests: at most one
+-- for each tag.
 use Rattle.std.specs.Prelude.{◌≡◌, ◌≤◌, ℕ, ◌+◌, ◌==◌, nat_lt, if◌then◌else◌, List, [], ◌∷◌, length, map, replicate, get_or, slice_set, Option, Some, None, IfSome, Result, Ok, Err}
 use Rattle.mctp_reasm.specs.Pieces.{MessageOf}
 use Rattle.pldm_base.specs.Header.{pldm_of}

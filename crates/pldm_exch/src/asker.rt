@@ -45,21 +45,21 @@ impl Asker {
         }
     }
 
-    /// The network's transmission unit.
+    /// Returns the network's transmission unit.
     pub fn unit(&self) -> Unit
         ensures { result ≡ self.now.unit }
     {
         self.inbox.unit()
     }
 
-    /// The node's own endpoint identifier.
+    /// Returns the node's own endpoint identifier.
     pub fn own(&self) -> u8
         ensures { result ≡ self.now.own }
     {
         self.inbox.own()
     }
 
-    /// The endpoint identifier of the peer.
+    /// Returns the endpoint identifier of the peer.
     pub fn peer(&self) -> u8
         ensures { result ≡ self.now.peer }
     {
@@ -87,8 +87,8 @@ impl Asker {
         self.caller.open_message()
     }
 
-    /// Returns whether no packet of the last request can still arrive: no request is open, and the
-    /// last one was answered or its tag has rested.
+    /// Returns whether the asker is quiet: no request is open, and the last one was answered or
+    /// its tag has rested.
     pub fn is_quiet(&self) -> bool
         ensures { result ≡ is_quiet self.now.caller }
     {

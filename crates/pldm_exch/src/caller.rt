@@ -160,8 +160,8 @@ impl Caller {
         Some(&open.message)
     }
 
-    /// Returns whether no packet of the last request can still arrive: no request is open, and the
-    /// last one was answered or its tag has rested.
+    /// Returns whether the caller is quiet: no request is open, and the last one was answered or
+    /// its tag has rested.
     pub fn quiet(&self) -> bool
         ensures value { result ≡ is_quiet self.now }
         ensures lawful { IsCaller self.now }

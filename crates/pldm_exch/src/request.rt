@@ -35,7 +35,7 @@ impl<'m> Request<'m> {
         Request { message, head }
     }
 
-    /// The head of its message.
+    /// Returns the head of its message.
     pub fn head(&self) -> PldmHead
         ensures { result ≡ self.now.head }
     {

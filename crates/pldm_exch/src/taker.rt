@@ -46,21 +46,21 @@ impl Taker {
         }
     }
 
-    /// The network's transmission unit.
+    /// Returns the network's transmission unit.
     pub fn unit(&self) -> Unit
         ensures { result ≡ self.now.unit }
     {
         self.inbox.unit()
     }
 
-    /// The node's own endpoint identifier.
+    /// Returns the node's own endpoint identifier.
     pub fn own(&self) -> u8
         ensures { result ≡ self.now.own }
     {
         self.inbox.own()
     }
 
-    /// The endpoint identifier of the peer.
+    /// Returns the endpoint identifier of the peer.
     pub fn peer(&self) -> u8
         ensures { result ≡ self.now.peer }
     {

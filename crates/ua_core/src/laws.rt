@@ -3,8 +3,8 @@
 ghost use Rattle.ua_core.specs.Laws.{AppliesAll, ChoosesRecord, LearnsAllAppliedNowhere, LearnsInPlan, LearnsNoRecord, OutsideUpdateRecordsNothing, PlanHasKeysOnce, RecordsGoodApply, RecordsGrow, RecordsInApply, RefusalsKeepTheSession, RefusalsRecordNothing, RefusalsKeepSessionIdle, ServesInPlan, WindowContinues, WishStands};
 
 /// A successful ApplyComplete in Apply adds a record of the component being updated. A command in
-/// any other state adds none, and neither does an answer, nor a command after which the session is in
-/// Idle, Query, Done, Cancelling or Failed.
+/// any other state adds none, and neither does an answer, nor a command after which the session is
+/// in Idle, Query, Done, Cancelling or Failed.
 pub fn records_what_is_applied()
     ensures grow { RecordsGrow }
     ensures applying { RecordsInApply }

@@ -90,7 +90,7 @@ impl Session {
         }
     }
 
-    /// The transmission unit of its network.
+    /// Returns the transmission unit of its network.
     pub fn unit(&self) -> Unit
         ensures { result ≡ self.now.session.unit }
     {

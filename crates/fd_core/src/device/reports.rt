@@ -33,7 +33,7 @@ pub(super) const VERIFICATION_FAILED: u8 = 0x90;
 pub(super) const APPLICATION_FAILED: u8 = 0xB0;
 
 impl<B: Bank> Device<B> {
-    /// The device's descriptors.
+    /// Returns the device's descriptors.
     pub(super) fn identifiers(&self) -> DeviceDescriptors<'_>
         ensures value { result ≡ self.now.device.descriptors }
         ensures fits { length (descriptors_bytes result) ≤ 246 }

@@ -70,7 +70,7 @@ impl Area {
         let _ = self.bytes.extend_from_slice(piece);
     }
 
-    /// The image.
+    /// Returns the image.
     fn image(&self) -> (&Label, &[u8])
         ensures label { result.0.now ≡ self.now.label }
         ensures bytes { result.1.now ≡ self.now.bytes }

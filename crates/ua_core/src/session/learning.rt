@@ -60,7 +60,7 @@ impl Session {
         }
     }
 
-    /// The device's components: their indexes.
+    /// The device's components: takes their indexes.
     fn learn_params(&mut self, answer: Result<&Answer<'_>, Malformed>, lent: &Lent<'_>)
         requires { state_of self.old.session.stage ≡ SessionState.Params }
         ensures session { self.new.session ≡ agent_learn lent.now self.old.session (result_map_both (λ a. answer_of a.now) (λ e. e) answer.entry) }
