@@ -1,5 +1,6 @@
--- Whether a packet has a half's core call its bank. It does where it brings the answer to the half's open request, or a new
--- firmware update request, and the core's table calls the bank at that answer or at that command. A session has no bank.
+-- Whether a half's core calls its bank at a packet. It does if the packet is the answer to the
+-- half's open request, or a new firmware update request, and the core's table calls the bank at
+-- that answer or command. A session has no bank.
 use Rattle.std.specs.Prelude.{ℕ, ◌==◌, ◌&&◌, Bool, false, List, Result, Ok, Err}
 use Rattle.fwup_wire.specs.Answers.{answer_read}
 use Rattle.fwup_wire.specs.Values.{CommandOf}
@@ -7,19 +8,19 @@ use Rattle.pldm_exch.specs.Caller.{is_quiet}
 use Rattle.pldm_exch.specs.Sides.{asker_row, taker_row}
 use Rattle.fw_node.specs.Halves.{CoreOf, HalfOf, IncomingOf, incoming, read_by}
 
--- what was read of a request: a command calls the bank as the table says, and what is none doesn't
+-- a request that was read: a command calls the bank as the table says, and an error doesn't
 abbrev pub read_calls_bank : {C : Type 0} → CoreOf C → (quiet : Bool) → C → Result CommandOf ℕ → Bool
 read_calls_bank core quiet c (Ok command) = core.take_calls_bank c command quiet
 read_calls_bank core quiet c (Err code) = false
 
--- what a packet brings
+-- the content of a packet
 abbrev pub incoming_calls_bank : {C : Type 0} → CoreOf C → HalfOf C → IncomingOf → Bool
 incoming_calls_bank core h (IncomingOf.Learnt heard) = core.learn_calls_bank h.core (answer_read heard.command heard.reply)
 incoming_calls_bank core h (IncomingOf.New r) =
     (r.head.pldm_type == 5) && read_calls_bank core (is_quiet h.asker.caller) h.core (read_by core r.head.command r.body)
 incoming_calls_bank core h i = false
 
--- the bytes of a packet; a half that is deaf hears none
+-- the bytes of a packet; a deaf half drops all
 abbrev pub packet_calls_bank : {C : Type 0} → CoreOf C → HalfOf C → List ℕ → Bool
 packet_calls_bank core h bytes =
     incoming_calls_bank core h
