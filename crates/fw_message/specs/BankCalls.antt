@@ -1,5 +1,5 @@
--- Whether a step has a device call its bank: the device takes the command in a cell, learns the answer that it waits for, or
--- has a verdict, and its table calls the bank then.
+-- Whether a device calls its bank in a step: the device takes the command in a cell, learns the
+-- answer that it waits for, or has a verdict, and its table calls the bank then.
 use Rattle.std.specs.Prelude.{Bool, false, true, Option, Some, None}
 use Rattle.fwup_wire.specs.Values.{AnswerOf}
 use Rattle.fd_core.specs.BankCalls.{answer_calls_bank, command_calls_bank, verdict_calls_bank}
@@ -13,7 +13,7 @@ abbrev pub held_calls_bank : DeviceState → Option CellContentOf → (quiet : B
 held_calls_bank v None quiet = false
 held_calls_bank v (Some h) quiet = command_calls_bank v h.command quiet
 
--- the answer that is waited for, if there is one
+-- the answer that the device waits for, if there is one
 abbrev pub brought_calls_bank : DeviceState → Option AnswerOf → Bool
 brought_calls_bank v None = false
 brought_calls_bank v (Some a) = answer_calls_bank v (Some a)
@@ -25,7 +25,7 @@ pair_step_calls_bank m (StepOf.LearnUp works) = brought_calls_bank m.device (wai
 pair_step_calls_bank m (StepOf.Judge verdict works) = verdict_calls_bank m.device verdict
 pair_step_calls_bank m s = false
 
--- a step of the world, by its device
+-- a step of the world, from its device
 abbrev pub node_calls_bank : MessageStep → Option NodeOf → Bool
 node_calls_bank s None = false
 node_calls_bank s (Some n) = pair_step_calls_bank n.pair (pair_step true s)
