@@ -1,4 +1,4 @@
--- No device has the agent's identifier, whatever happens.
+-- No device has the agent's identifier, after any steps.
 use Rattle.std.proofs.Common.{◌≡◌, ◌≢◌, ◌∷◌, ◌++◌, ◌==◌, ℕ, zero, suc, Bool, true, false, if◌then◌else◌, ◌∙◌, List, [], Option, Some, None, ap, map, refl, set, subst, sym}
 use Rattle.std.specs.Prelude.{slice_get}
 use Rattle.std.proofs.lemmas.Bool.{ne_eqb}

@@ -1,4 +1,4 @@
--- What is applied, component by component.
+-- The applied images, component by component.
 use Rattle.std.proofs.Common.{◌≡◌, ◌∷◌, ◌==◌, true, false, List, [], Some, map, ℕ, inl, inr, refl, sym}
 use Rattle.std.proofs.lemmas.Bool.{or_parts}
 use Rattle.std.proofs.lemmas.Bool.Decides.{eqb_tells}
@@ -42,6 +42,6 @@ found_apart [] apart = tt
 found_apart (row ∷ rows) apart =
     (rw (same_self row.key) refl, found_later row rows rows apart.0 (found_apart rows apart.1))
 
--- what is applied, as the table has it
+-- the applied images, from the rows of the table
 pub all_applied : (v : DeviceState) → HasComponents v → applied_images_among v.rows v.components ≡ applied_keyed_images v.rows
 all_applied v h = by_found v.rows v.rows v.components h.keys (found_apart v.rows h.apart)

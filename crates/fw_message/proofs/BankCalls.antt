@@ -1,4 +1,4 @@
--- Where a step has no bank called, nothing depends on whether a call works.
+-- If a step calls no bank, nothing depends on whether a call works.
 use Rattle.std.proofs.Common.{◌≡◌, ◌&&◌, ◌||◌, Bool, true, false, not, if◌then◌else◌, List, Option, Some, None, is_some, ap, refl, sym, ◌∙◌}
 use Rattle.std.specs.Option.{option_map}
 use Rattle.fw_package.specs.Package.{PackageText}
@@ -25,7 +25,7 @@ takes_alone : (m : PairOf) (held : Option CellContentOf) (quiet works : Bool) �
 takes_alone m None quiet works e = refl
 takes_alone m (Some h) quiet works e = takes_held m h h.reply quiet works e
 
--- an answer that is waited for
+-- an answer that the device waits for
 learns_alone : (m : PairOf) (a : Option AnswerOf) (works : Bool) → brought_calls_bank m.device a ≡ false → learn_up m a works ≡ learn_up m a true
 learns_alone m None works e = refl
 learns_alone m (Some a) works e = ap (λ d. Some (step_without_entries (record m { device = d; up = None }))) (learns_alike m.device (Some a) works e)
@@ -63,7 +63,7 @@ named_alone w s works false e = node_alone w s works (node_at w.nodes (device_of
 world_alone : (w : MessageWorldOf) (s : MessageStep) (works : Bool) → message_step_calls_bank w s ≡ false → message_world_after w (named_step w.agent works s) ≡ message_world_after w (named_step w.agent true s)
 world_alone w s works e = named_alone w s works (restarts_agent w.agent s) e
 
--- WHAT DEPENDS ON THE BANK
+-- A STEP THAT CALLS THE BANK
 
 reply_or : Option AnswerOf → AnswerOf
 reply_or None = AnswerOf.TransferComplete
@@ -130,7 +130,7 @@ pair_steps_depend packages m (steps.Ask device ways.Down) e = refl
 pair_steps_depend packages m (steps.Ask device ways.Up) e = refl
 pair_steps_depend packages m s e = refl
 
--- A step of which it is said whether its call works, as it is said where no bank is called: then it works.
+-- A step with a flag for its call: if no bank is called, the flag is true.
 said_so : {R : Type 0} (f : Bool → R) (r : R) (works called : Bool) → (called ≡ false → f works ≡ f true) → f works ≡ r → f (works || not called) ≡ r
 said_so f r true called alone e = e
 said_so f r false true alone e = e

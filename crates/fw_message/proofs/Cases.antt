@@ -12,7 +12,7 @@ use Rattle.fw_message.specs.Cases.{HistoriesAreJudged, SafeRefuses, TiedAccepts,
 
 -- THE WORKED UPDATE
 
--- whatever key and bytes, no more is recorded than applied
+-- for any key and bytes, no more is recorded than applied
 counted : (n : ℕ) (key : Key) (bytes : List ℕ) → recorded_count packages key bytes (take n worked_update) ≤ applied_count key bytes (take n worked_update)
 unfolding recorded_count applied_count
 counted zero key bytes = omega arith
@@ -21,7 +21,7 @@ counted (suc (suc zero)) key bytes = omega arith
 counted (suc (suc (suc zero))) key bytes = omega arith
 counted (suc (suc (suc (suc n)))) key bytes = omega arith
 
--- what begins a beginning of a list begins the list
+-- a prefix of a prefix of a list is a prefix of the list
 shorter : (n m : ℕ) (es : List EntryOf) → (k : ℕ) × (take n (take m es) ≡ take k es)
 shorter zero m es = (0, refl)
 shorter (suc n) zero es = (0, refl)
@@ -64,7 +64,7 @@ safe (suc (suc zero)) = record { activated = none_activated; named = one_named; 
 safe (suc (suc (suc zero))) = record { activated = one_activated; named = one_named; applied = counts 3 }
 safe (suc (suc (suc (suc n)))) = record { activated = one_activated; named = one_named; applied = counts (suc (suc (suc (suc n)))) }
 
--- WHAT ISN'T SAFE
+-- HISTORIES THAT AREN'T SAFE
 
 -- the first activation of a history, and its first image
 first_image : (p : KeyedImage) (ps : List KeyedImage) (before : List Recorded) (rest : List ActivationOf)
@@ -73,7 +73,7 @@ first_image p ps before rest h =
     let one : IsOfOnePackage packages board (record { before = before; images = p ∷ ps }) = All-head (IsOfOnePackage packages board) (record { before = before; images = p ∷ ps }) rest h in
     (one.0, All-head (IsFrom packages board before one.0) p ps one.1)
 
--- only the first package names an image of this component, and that is its image
+-- only the first package names an image of this component, and `new_boot` is that image
 boot_named : (n : ℕ) (bytes : List ℕ) → image_for (package_at packages n) board 10 1 ≡ Some bytes → (n ≡ 1) × (new_boot ≡ bytes)
 boot_named zero bytes e = absurd (cc)
 boot_named (suc zero) bytes e = (refl, cc)
@@ -145,9 +145,9 @@ refuses =
       no_package = no_package;
     }
 
--- WHAT IS TIED, AND WHAT ISN'T
+-- HISTORIES THAT ARE TIED, AND THAT AREN'T
 
--- the one component's applied image was applied
+-- the applied image of the one component was applied
 applied_here : (es : List EntryOf) (active : List ℕ) (applied : Option ImageOf)
     → WasApplied es (record { key = boot; active = image active; applied = applied }) → All (WasApplied es) (bank active applied)
 applied_here es active applied h = All-cons (WasApplied es) (record { key = boot; active = image active; applied = applied }) [] h (All-nil _)
@@ -161,7 +161,7 @@ accepts =
       when_activated = record { active = refl; applied = applied_here worked_update new_boot None _; records = refl };
     }
 
--- the bytes that run first
+-- the bytes of the first running image
 abbrev first_bytes : List KeyedImage → List ℕ
 first_bytes [] = []
 first_bytes (p ∷ ps) = p.bytes

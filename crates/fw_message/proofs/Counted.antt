@@ -1,4 +1,4 @@
--- Steps of a world that have names are a run of message steps.
+-- Named steps of a world are a run of message steps.
 use Rattle.std.specs.Prelude.{ℕ, ◌≡◌, ◌<◌, ◌+◌, ◌==◌, ◌||◌, Bool, true, false, not, if◌then◌else◌, is_some, get_or, set, List, [], ◌∷◌, length, map, Option, Some, None, IfSome}
 use Rattle.std.specs.Option.{option_map}
 use Rattle.std.specs.List.{AllByRecursion}
@@ -46,7 +46,7 @@ works_of (WorldStepOf.OfPair device (StepOf.LearnUp works)) = works
 works_of (WorldStepOf.OfPair device (StepOf.Judge verdict works)) = works
 works_of s = true
 
--- whether the call of a bank works, as the named step says it: it does where no bank is called
+-- whether the call of a bank works, for the named step: true if no bank is called
 abbrev works_in : MessageWorldOf → WorldStepOf → Bool
 works_in w s = works_of s || not (message_step_calls_bank w (name_of w.agent s))
 
@@ -72,7 +72,7 @@ named_so w v WorldStepOf.RestartAgent k none e = rw (eq-eqb w.agent w.agent refl
 
 -- COUNTS
 
--- a bank's count rises where its call fails
+-- a bank's count rises if its call fails
 abbrev counts_after : Bool → List ℕ → Option ℕ → List ℕ
 counts_after true fs place = fs
 counts_after false fs None = fs
@@ -111,7 +111,7 @@ counts_length true fs o = refl
 counts_length false fs None = refl
 counts_length false fs (Some place) = length-set fs place (get_or fs place 0 + 1)
 
--- WHAT STAYS
+-- KEPT PARTS
 
 record Kept (w v : MessageWorldOf) : Type 0 where
   pub agent : v.agent ≡ w.agent
@@ -150,7 +150,7 @@ pub record Counted (w : CountedWorldOf) (v : MessageWorldOf) : Type 0 where
   pub faults : List ℕ
   pub run : MessageRun w names (record { world = v; faults = faults })
 
--- what is needed of a world
+-- the conditions of a world
 record MayCount (w : MessageWorldOf) (fs : List ℕ) : Type 0 where
   pub counts : length fs ≡ length w.nodes
   pub none : node_at w.nodes w.agent ≡ None
@@ -198,6 +198,6 @@ counted_along w v fs (s ∷ ss) k named e =
 abbrev pub no_failures : MessageWorldOf → CountedWorldOf
 no_failures w = record { world = w; faults = map (λ n. 0) w.nodes }
 
--- Steps that have names, from a world in which the agent is no device, are a run of these names.
+-- Named steps, from a world in which the agent is no device, are a run of their names.
 pub named_run : (w v : MessageWorldOf) (ss : List WorldStepOf) → node_at w.nodes w.agent ≡ None → AllByRecursion IsNamedStep ss → world_along (Some w) ss ≡ Some v → Counted (no_failures w) v
 named_run w v ss none named e = counted_along w v (map (λ n. 0) w.nodes) ss (record { counts = length-map w.nodes (λ n. 0); none = none }) named e

@@ -1,37 +1,40 @@
--- The proofs of the world over whole messages, in reading order: the promise first, then runs, then what the code notes and
--- keeps.
+-- The proofs of the world over whole messages, in reading order: first the laws, then runs, then
+-- the history and the images.
 --
--- WHAT IS PROMISED of runs.
--- - `Safety`: why every run of messages keeps the history of a device safe and tied; a folder with a list of its own.
+-- THE LAWS of runs.
+-- - `Safety`: every run of messages keeps the history of a device safe and tied; a folder with its
+--   own list.
 -- - `Running`: runs of a world by its named steps.
--- - `Moments`: any two moments of a run: the history only grows, the devices stay, and what runs and is recorded goes on by
---   what happened.
+-- - `Moments`: any two moments of a run: the history only grows, the devices stay, and the running
+--   images and the records change by the entries between.
 -- - `Cases`: the histories by hand, judged.
 -- - `WorldCases`: the worlds by hand, judged.
 --
 -- STEPS of one device, and of the world.
--- - `Allowing`: a step that is allowed still is with its closing, and adds the same.
--- - `Places`: a step of the device that stands at a place.
--- - `Stepping`: a step of a world, by the device that takes it.
--- - `Finding`: the device that is found at a place.
--- - `Apart`: no device has the agent's identifier, whatever happens.
--- - `BankCalls`: where a step has no bank called, nothing depends on whether a call works.
--- - `Counted`: steps of a world that have names are a run of message steps.
--- - `Openings`: how a world begins: without devices, and with one more that starts then.
+-- - `Allowing`: a step that is allowed is allowed with its closing too, and adds the same entries.
+-- - `Places`: a step of the device at a place.
+-- - `Stepping`: a step of a world, from the device that takes it.
+-- - `Finding`: the device at a place that was found.
+-- - `Apart`: no device has the agent's identifier, after any steps.
+-- - `BankCalls`: if a step calls no bank, nothing depends on whether a call works.
+-- - `Counted`: named steps of a world are a run of message steps.
+-- - `Openings`: the opening of a world: without devices, and with one more device.
 --
--- WHAT A STEP ADDS to the history.
--- - `Activating`: a device activates images where its answer says so: those that were applied.
--- - `Completing`: what a session's Take adds to the history: a record, of a good ApplyComplete in Apply.
--- - `Closings`: a step and what is noted of it, before and after the closing of what is no longer wished.
--- - `Working`: where a bank isn't called, or fails no more than before, nothing depends on whether its call works.
--- - `Applied`: what is applied, component by component.
--- - `Growing`: what a device's Take and a verdict add to the history where its bank works, and that they add nothing where it
---   fails.
+-- THE ENTRIES that a step adds to the history.
+-- - `Activating`: a device activates images if its answer says so: those that were applied.
+-- - `Completing`: the entry of a session's Take: a record, for a good ApplyComplete in Apply.
+-- - `Closings`: a step and its entries, before and after closing the commands that are no longer
+--   pending.
+-- - `Working`: if a bank isn't called, or fails no more than before, nothing depends on whether its
+--   call works.
+-- - `Applied`: the applied images, component by component.
+-- - `Growing`: the entries of a device's Take and of a verdict if its bank works; there are none if
+--   it fails.
 --
--- IMAGES AND RECORDS as the code has them.
--- - `Sealing`: what is sealed under a key is what is applied under it.
--- - `Noting`: the copy of what ApplyOk applies is what is noted of it.
--- - `Records`: what a session records is what stands behind its old records.
+-- IMAGES AND RECORDS of the code.
+-- - `Sealing`: the image sealed under a key is the one applied under it.
+-- - `Noting`: the copy of the image that ApplyOk applies is the one noted.
+-- - `Records`: a session's new record is the one after its old records.
 -- - `Rising`: images by rising key.
 mod Activating
 mod Allowing

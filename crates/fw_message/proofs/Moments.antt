@@ -1,4 +1,5 @@
--- Any two moments of a run: the history only grows, the devices stay, and what runs and is recorded goes on by what happened.
+-- Any two moments of a run: the history only grows, the devices stay, and the running images and
+-- the records change by the entries between.
 use Rattle.std.specs.Prelude.{ℕ, ◌≡◌, ◌==◌, ◌++◌, Bool, true, false, if◌then◌else◌, is_some, List, [], ◌∷◌, drop, length, map, Option, Some, None, IfSome, IsSomeAnd}
 use Rattle.std.specs.Option.{option_map}
 use Rattle.std.proofs.Common.{refl, sym, ap, subst, ◌∙◌, append_assoc, append-nil}
@@ -16,7 +17,7 @@ use Rattle.fw_message.specs.declared.step.MessageStep.{MessageStep}
 use Rattle.fw_message.proofs.Running.{Along, run_append, run_safe, taken_along}
 use Rattle.fw_message.proofs.Safety.Worlds.{history_more, restarted_node}
 
--- no device comes or goes
+-- no device is added or removed
 same_if : (b : Bool) (x y : NodeOf) (o p : Option NodeOf) → is_some o ≡ is_some p → is_some (if b then Some x else o) ≡ is_some (if b then Some y else p)
 same_if true x y o p e = refl
 same_if false x y o p e = e
@@ -94,7 +95,7 @@ runs_grow old new steps h = grown old.world new.world (run_later old new steps h
 pub runs_join : MessageRunsJoin
 runs_join w v u ss ts h k = run_append w v u ss ts h k
 
--- what runs and what is recorded, in two parts
+-- the running images and the records, in two parts
 pub running_on : (runs : List KeyedImage) (es xs : List EntryOf) → running_after runs (es ++ xs) ≡ running_after (running_after runs es) xs
 running_on runs [] xs = refl
 running_on runs (EntryOf.Applied p ∷ es) xs = running_on runs es xs
@@ -114,7 +115,7 @@ tied_from ps first n m es more g h = record {
   records = h.tied.records ∙ recorded_on es more ∙ ap (λ rs. rs ++ recorded_in more) (sym g.tied.records);
 }
 
--- the same of what a world has for an identifier
+-- the same for the node of an identifier
 tied_new : (ps : List PackageText) (first n : NodeOf) (o : Option NodeOf) (es more all : List EntryOf) → all ≡ es ++ more
     → IsSafeAndTied ps (run_of first []) (run_of n es) → IsSomeAnd o (λ m. IsSafeAndTied ps (run_of first []) (run_of m all)) → IsSomeAnd o (λ m. IsPairTiedFrom n m more)
 tied_new ps first n None es more all e g h = h

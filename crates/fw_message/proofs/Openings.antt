@@ -1,4 +1,4 @@
--- How a world begins: without devices, and with one more that starts then.
+-- The opening of a world: without devices, and with one more device.
 use Rattle.std.proofs.Common.{◌∷◌, ◌++◌, ℕ, List, [], refl}
 use Rattle.std.specs.Prelude.{All}
 use Rattle.std.proofs.lemmas.List.Elements.{All-append, All-cons, All-nil}
@@ -16,7 +16,7 @@ opens_node : (eid : ℕ) (device : DeviceState) → IsOpening (run_of (new_node 
 opens_node eid device =
     record { idle = refl; unapplied = nothing_applied device.rows; session = refl; down = refl; up = refl; entries = refl }
 
--- a world that begins still does with one more device
+-- a world at its opening is at its opening with one more device
 pub opens_more : (w : MessageWorldOf) (eid : ℕ) (device : DeviceState) → IsOpeningMessageWorld w → IsOpeningMessageWorld (record w { nodes = w.nodes ++ new_node eid device ∷ [] })
 opens_more w eid device h =
     record {

@@ -1,4 +1,4 @@
--- A step of the device that stands at a place.
+-- A step of the device at a place.
 use Rattle.std.proofs.Common.{◌≡◌, ◌∷◌, ◌++◌, ◌+◌, ◌-◌, ◌==◌, ◌≤◌, ℕ, zero, suc, Bool, true, false, if◌then◌else◌, List, [], Option, Some, None, ap, arith, map, refl, set, sym, inl, inr}
 use Rattle.std.specs.Prelude.{is_some, option_map, slice_get}
 use Rattle.std.proofs.lemmas.Bool.Decides.{eqb_tells}
@@ -7,13 +7,13 @@ use Rattle.fw_message.specs.Replays.{place_at, place_from}
 use Rattle.fw_message.specs.Worlds.{NodeOf, NotedOf, PairNoted, MessageWorldOf, WorldStepOf, node_at, noted_of, noted_on, went_on, with_pair, message_world_after}
 use Rattle.fw_message.proofs.Allowing.{some_map}
 
--- the first device of this identifier stands at this place
+-- the first device with this identifier is at this place
 abbrev pub IsAt : List NodeOf → ℕ → ℕ → Type 0
 IsAt [] eid place = ⊥
 IsAt (n ∷ ns) eid zero = n.eid ≡ eid
 IsAt (n ∷ ns) eid (suc place) = ((n.eid == eid) ≡ false) × IsAt ns eid place
 
--- a place is counted from a number on
+-- places are counted from `i`
 pub record IsFrom (i : ℕ) (ns : List NodeOf) (eid place : ℕ) : Type 0 where
   pub from : i ≤ place
   pub at : IsAt ns eid (place - i)

@@ -10,7 +10,7 @@ put_if : (b : Bool) (i j : Image) (is : List Image) (n : ℕ) → map keyed_imag
 put_if true i j is n e = ap (λ ps. keyed_image_of j ∷ ps) e
 put_if false i j is n e = refl
 
--- an image that is put in its place stands among the others
+-- an image that is inserted at its place is among the others
 pub put_in_place : (is : List Image) (i : Image) → map keyed_image_of (insert is (place_in (map keyed_image_of is) i.key) i) ≡ images_with (keyed_image_of i) (map keyed_image_of is)
 put_in_place [] i = refl
 put_in_place (j ∷ is) i = put_if (is_key_before j.key i.key) i j is (place_in (map keyed_image_of is) i.key) (put_in_place is i)

@@ -15,12 +15,12 @@ run_more w v u (t ∷ ss) s h l = (h.0, h.1, run_more h.0 v u ss s h.2 l)
 pub run_next : (w v u : CountedWorldOf) (ss : List MessageStep) (i : ℕ) (d : MessageStep) → i < length ss → MessageRun w (take i ss) v → StepsToCounted v (get_or ss i d) u → MessageRun w (take (i + 1) ss) u
 run_next w v u ss i d lt h l = rw (take_more ss i d lt) (run_more w v u (take i ss) (get_or ss i d) h l)
 
--- one run after another
+-- two runs, one after the other
 pub run_append : (w v u : CountedWorldOf) (ss ts : List MessageStep) → MessageRun w ss v → MessageRun v ts u → MessageRun w (ss ++ ts) u
 run_append w v u [] ts h k = let P : CountedWorldOf → Type 0 = λ x. MessageRun x ts u in subst P h k
 run_append w v u (s ∷ ss) ts h k = (h.0, h.1, run_append h.0 v u ss ts h.2 k)
 
--- the steps of a run as they were taken, with whether the bank worked
+-- the steps of a run, each with whether the bank worked
 pub record Along (w v : CountedWorldOf) : Type 0 where
   pub steps : List WorldStepOf
   pub along : world_along (Some w.world) steps ≡ Some v.world
@@ -32,7 +32,7 @@ taken_along w v (s ∷ ss) h =
     let P : Option MessageWorldOf → Type 0 = λ o. world_along o rest.steps ≡ Some v.world in
     record { steps = named_step w.world.agent h.1.works s ∷ rest.steps; along = subst P (sym h.1.after) rest.along }
 
--- a run that began as it was constructed is safe
+-- a run from an opening world is safe
 pub run_safe : WorldsAreSafe → (opening w : CountedWorldOf) (ss : List MessageStep) → IsOpeningMessageWorld opening.world → MessageRun opening ss w → IsSafeMessageWorld opening.world w.world
 run_safe law opening w ss begins h =
     let a : Along opening w = taken_along opening w ss h in

@@ -1,4 +1,4 @@
--- What is sealed under a key is what is applied under it.
+-- The image sealed under a key is the one applied under it.
 use Rattle.std.proofs.Common.{◌≡◌, ◌∷◌, ◌||◌, ℕ, Bool, true, false, is_some, length, List, [], Some, ap, map, refl, sym}
 use Rattle.std.specs.Prelude.{option_map}
 use Rattle.fd_core.specs.Banks.{has_key}
@@ -21,7 +21,7 @@ sealed_applied [] key image has = absurd (cc)
 sealed_applied (row ∷ rows) key image has =
     sealed_row (same_key row.key key) row rows key image refl has (λ h. sealed_applied rows key image h)
 
--- What ApplyOk does, where a device waits for it.
+-- The effect of ApplyOk, if a device waits for it.
 pub record Applies (v : DeviceState) (key : Key) (size : ℕ) : Type 0 where
   pub noted : applied_by v verdicts.ApplyOk true ≡ record { key = key; bytes = v.stage } ∷ []
   pub failed : applied_by v verdicts.ApplyOk false ≡ []

@@ -1,4 +1,4 @@
--- A step of a world, by the device that takes it.
+-- A step of a world, from the device that takes it.
 use Rattle.std.proofs.Common.{◌≡◌, ◌∷◌, ◌⊎◌, inl, inr, ℕ, zero, suc, Bool, true, false, List, [], Some, None, ap, map, refl, set, sym, get_or}
 use Rattle.std.specs.Prelude.{option_map, slice_get}
 use Rattle.std.proofs.lemmas.List.{map-set}

@@ -1,5 +1,5 @@
--- Whether a step has a device call its bank: the device takes the command in a cell, learns the answer that it waits for, or
--- has a verdict, and its table calls the bank then.
+-- Whether a device calls its bank in a step: the device takes the command in a cell, learns the
+-- answer that it waits for, or has a verdict, and its table calls the bank then.
 use Rattle.std.specs.Prelude.{◌≡◌, Bool, false, true, List, Option, Some, None, is_some}
 use Rattle.fw_package.specs.Package.{PackageText}
 use Rattle.fwup_wire.specs.Values.{AnswerOf}
@@ -14,7 +14,7 @@ abbrev pub held_calls_bank : DeviceState → Option CellContentOf → (quiet : B
 held_calls_bank v None quiet = false
 held_calls_bank v (Some h) quiet = command_calls_bank v h.command quiet
 
--- the answer that is waited for, if there is one
+-- the answer that the device waits for, if there is one
 abbrev pub brought_calls_bank : DeviceState → Option AnswerOf → Bool
 brought_calls_bank v None = false
 brought_calls_bank v (Some a) = answer_calls_bank v (Some a)
@@ -26,7 +26,7 @@ pair_step_calls_bank m (StepOf.LearnUp works) = brought_calls_bank m.device (wai
 pair_step_calls_bank m (StepOf.Judge verdict works) = verdict_calls_bank m.device verdict
 pair_step_calls_bank m s = false
 
--- a step of the world, by its device
+-- a step of the world, from its device
 abbrev pub node_calls_bank : MessageStep → Option NodeOf → Bool
 node_calls_bank s None = false
 node_calls_bank s (Some n) = pair_step_calls_bank n.pair (pair_step true s)
@@ -34,7 +34,7 @@ node_calls_bank s (Some n) = pair_step_calls_bank n.pair (pair_step true s)
 abbrev pub message_step_calls_bank : MessageWorldOf → MessageStep → Bool
 message_step_calls_bank w s = node_calls_bank s (node_at w.nodes (device_of s))
 
--- Among the steps that may be taken, what a step makes of a pair depends on whether the bank works exactly where the step calls
+-- The effect of a step that may be taken depends on whether the bank works exactly if the step calls
 -- the bank.
 abbrev pub PairStepsDependOnCalls : Type 0
 PairStepsDependOnCalls = (packages : List PackageText) (m : PairOf) (s : MessageStep)

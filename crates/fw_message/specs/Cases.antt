@@ -1,5 +1,5 @@
--- Histories by hand, on which the definitions of a safe and a tied history are tried: the worked update, and a history for each
--- thing that they refuse.
+-- Histories by hand, to test the definitions of a safe and a tied history: the worked update, and a
+-- history for each refusal.
 use Rattle.std.specs.Prelude.{ℕ, ◌∷◌, [], List, None, Option, Some, take}
 use Rattle.fw_package.specs.Choice.{no_text}
 use Rattle.fw_package.specs.Package.{ComponentOf, DescriptorOf, PackageText, RecordOf}
@@ -22,11 +22,11 @@ abbrev pub component : Key → List ℕ → ComponentOf
 component key image =
     record { classification = key.classification; identifier = key.identifier; stamp = 2; options = 0; offset = 0; text = no_text; image = image }
 
--- a record for the device, with its package's first component
+-- a record for the device, with only its package's first component
 abbrev pub first_alone : RecordOf
 first_alone = record { flags = 0; set_text = no_text; descriptors = board; uses = 0 ∷ [] }
 
--- the images of two packages; of the first one's two components its record uses one
+-- the images of two packages: the first package has two components, and its record uses one
 abbrev pub new_boot : List ℕ
 new_boot = 1 ∷ 2 ∷ 3 ∷ []
 
@@ -42,7 +42,7 @@ packages =
 abbrev pub keyed_image : Key → List ℕ → KeyedImage
 keyed_image key bytes = record { key = key; bytes = bytes }
 
--- this component, counted from 0, of this package, counted from 1
+-- component `component`, counted from 0, of package `number`, counted from 1
 abbrev pub recorded_component : ℕ → ℕ → Recorded
 recorded_component number component = record { «package» = number; component = component }
 
@@ -62,9 +62,10 @@ worked_update = applies boot new_boot ∷ records 1 0 ∷ activates boot new_boo
 abbrev pub is_safe : List EntryOf → Type 0
 is_safe es = IsSafe packages board es
 
--- What isn't safe: an image that is activated and was not recorded, or was recorded before the activation before it alone; other
--- bytes than the package's; images of two packages in one activation; more records than applications, at any moment; and the
--- record of a component that the package doesn't name for the device, or of one that it doesn't have.
+-- Histories that aren't safe: an activated image that wasn't recorded, or was recorded only before
+-- the previous activation; other bytes than the package's; images of two packages in one
+-- activation; more records than applications, at any moment; and a record of a component that the
+-- package doesn't name for the device, or of a package that isn't there.
 pub record SafeRefuses : Type 0 where
   pub unrecorded : is_safe (applies boot new_boot ∷ activates boot new_boot ∷ []) → ⊥
   pub recorded_before : is_safe (applies boot new_boot ∷ records 1 0 ∷ activates boot new_boot ∷ applies boot new_boot ∷ activates boot new_boot ∷ []) → ⊥
@@ -78,14 +79,14 @@ pub record SafeRefuses : Type 0 where
 abbrev pub image : List ℕ → ImageOf
 image bytes = record { label = record { stamp = 1; text_type = 1; text = [] }; bytes = bytes }
 
--- the device's bank: the image of its one component that runs, and the one that it has applied
+-- the device's bank: the running image of its one component, and its applied image
 abbrev pub bank : List ℕ → Option ImageOf → List RowOf
 bank active applied = record { key = boot; active = image active; applied = applied } ∷ []
 
 abbrev pub old_boot : List ℕ
 old_boot = 9 ∷ []
 
--- with the bank as it is after a history, and the agent's records
+-- a history with this bank and these records of the agent after it
 abbrev pub is_tied : List RowOf → List Recorded → List EntryOf → Type 0
 is_tied rows made es = IsTied (bank old_boot None) rows made es
 
@@ -96,8 +97,9 @@ pub record TiedAccepts : Type 0 where
   pub when_recorded : is_tied (bank old_boot (Some (image new_boot))) (recorded_component 1 0 ∷ []) (take 2 worked_update)
   pub when_activated : is_tied (bank new_boot None) (recorded_component 1 0 ∷ []) worked_update
 
--- What isn't tied: another image that runs than the one that was activated last, or none yet; an applied image of before the last
--- activation, or other bytes than those that were applied; a record that wasn't made, and one that was and isn't there.
+-- Banks and records that aren't tied: a running image that isn't the one activated last, or is
+-- activated too soon; an applied image of before the last activation, or with other bytes than were
+-- applied; a record that wasn't made, or a record that is missing.
 pub record TiedRefuses : Type 0 where
   pub old_runs : is_tied (bank old_boot None) (recorded_component 1 0 ∷ []) worked_update → ⊥
   pub runs_too_soon : is_tied (bank new_boot None) (recorded_component 1 0 ∷ []) (take 2 worked_update) → ⊥
@@ -106,7 +108,8 @@ pub record TiedRefuses : Type 0 where
   pub not_made : is_tied (bank old_boot (Some (image new_boot))) (recorded_component 1 0 ∷ []) (take 1 worked_update) → ⊥
   pub not_there : is_tied (bank new_boot None) [] worked_update → ⊥
 
--- The definitions of a safe and of a tied history accept the worked update at each moment, and refuse the rest.
+-- The definitions of a safe and of a tied history accept the worked update at each moment, and
+-- refuse the other histories.
 pub record HistoriesAreJudged : Type 0 where
   pub safe : (n : ℕ) → is_safe (take n worked_update)
   pub unsafe : SafeRefuses

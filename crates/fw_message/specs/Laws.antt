@@ -1,4 +1,4 @@
--- What is promised of every run of messages between an agent and a device.
+-- The laws of every run of messages between an agent and a device.
 use Rattle.std.specs.Prelude.{◌≡◌, List, [], map, All, Some, None, IfSome}
 use Rattle.fw_package.specs.Package.{PackageText}
 use Rattle.fd_core.specs.Images.{RowOf}
@@ -12,8 +12,8 @@ use Rattle.fw_message.specs.Pairs.{PairRun, StepOf, message_along}
 abbrev pub IsUnapplied : RowOf → Type 0
 IsUnapplied row = row.applied ≡ None
 
--- how a pair begins: the device is idle and has nothing applied, its session is new and has the device's unit, nothing was
--- asked and nothing happened
+-- the opening of a pair: the device is idle and has nothing applied, its session is new and has the
+-- device's unit, both cells are empty and the history is empty
 pub record IsOpening (r : PairRun) : Type 0 where
   pub idle : r.pair.device.phase ≡ Phase.Idle
   pub unapplied : All IsUnapplied r.pair.device.rows
@@ -22,7 +22,7 @@ pub record IsOpening (r : PairRun) : Type 0 where
   pub up : r.pair.up ≡ None
   pub entries : r.entries ≡ []
 
--- the history is safe, and tied with the images that ran first
+-- the history is safe, and tied with the first running images
 pub record IsSafeAndTied (packages : List PackageText) (opening r : PairRun) : Type 0 where
   pub safe : IsSafe packages (map package_descriptor opening.pair.device.descriptors) r.entries
   pub tied : IsTied opening.pair.device.rows r.pair.device.rows r.pair.session.records r.entries

@@ -1,4 +1,4 @@
--- A device with its session as the world keeps them.
+-- A device with its session, as the world has them, and the conditions of its steps.
 use Rattle.std.specs.Prelude.{◌&&◌, ◌==◌, ℕ, Bool, false, is_some, not, true, List, [], Option, Some, None}
 use Rattle.fd_core.specs.Commands.{may_activate}
 use Rattle.fd_core.specs.Images.{KeyedImage, applied_keyed_images}
@@ -16,7 +16,7 @@ use Rattle.fw_message.specs.declared.side.Way.TheVariants as ways
 use Rattle.fw_message.specs.declared.step.MessageStep.{MessageStep}
 use Rattle.fw_message.specs.declared.step.MessageStep.TheVariants as steps
 
--- the same, and how often the bank failed
+-- a device with its session, and the number of failures of its bank
 pub record CountedOf : Type 0 where
   pub node : NodeOf
   pub faults : ℕ
@@ -41,7 +41,7 @@ abbrev pub waits : Option CellContentOf → Bool
 waits None = false
 waits (Some h) = not (is_some h.reply)
 
--- a device that is told so of its own requests may take what the agent asked
+-- the agent's command waits, and the device may take it with this `quiet`
 abbrev pub may_take : PairOf → Bool → Bool
 may_take m quiet = waits m.down && not (quiet && not (is_empty m.up))
 
@@ -63,12 +63,12 @@ abbrev pub completes : SessionState → Option CellContentOf → Bool
 completes state None = false
 completes state (Some h) = is_completion h.command state
 
--- the bytes of the image that this verdict applies, of the staged component and its size
+-- the bytes of the image that this verdict applies, from the staged component and its size
 abbrev pub room_of : Verdict → Option (Key × ℕ) → ℕ
 room_of verdicts.ApplyOk (Some staged) = staged.1
 room_of verdict staged = 0
 
--- what ActivateFirmware activates, if it is taken
+-- the images that ActivateFirmware activates, if it is taken
 abbrev pub activated_images_by : DeviceState → CommandOf → List KeyedImage
 activated_images_by v (CommandOf.ActivateFirmware self_contained) = applied_keyed_images v.rows
 activated_images_by v c = []
@@ -80,7 +80,7 @@ activated_images_by_cell v (Some h) = activated_images_by v h.command
 abbrev pub to_activate : PairOf → List KeyedImage
 to_activate m = activated_images_by_cell m.device m.down
 
--- an answer that tells that images were activated
+-- an answer that says that images were activated
 abbrev pub activates : Option AnswerOf → Bool
 activates (Some (AnswerOf.ActivateFirmware time)) = true
 activates reply = false

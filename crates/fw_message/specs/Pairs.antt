@@ -1,5 +1,5 @@
--- A device and its session over whole messages: in each of the two ways there is one cell, which holds nothing, a command,
--- or a command with its answer. There are no packets, no tags and no time.
+-- A device and its session over whole messages: each of the two ways has one cell, which is empty,
+-- or has a command, or a command with its answer. There are no packets, no tags and no time.
 use Rattle.std.specs.Prelude.{ℕ, ◌&&◌, not, Bool, true, false, nat_le, nat_lt, if◌then◌else◌, List, [], ◌∷◌, ◌++◌, length, map, Option, Some, None, Ok}
 use Rattle.std.specs.Option.{option_map}
 use Rattle.fw_package.specs.Package.{PackageText}
@@ -23,20 +23,21 @@ use Rattle.fw_message.specs.declared.side.Side.TheVariants as sides
 use Rattle.fw_message.specs.declared.side.Way.{Way}
 use Rattle.fw_message.specs.declared.side.Way.TheVariants as ways
 
--- what a cell holds: a command, its answer once it was taken, and whether its asker still waits for it
+-- the content of a cell: a command, its answer after it was taken, and whether its asker still
+-- waits for it
 pub record CellContentOf : Type 0 where
   pub command : CommandOf
   pub reply : Option AnswerOf
   pub live : Bool
 
--- a device, its session, and the cells of what the agent asks and of what the device asks
+-- a device, its session, and the cells of the agent's and of the device's commands
 pub record PairOf : Type 0 where
   pub device : DeviceState
   pub session : SessionOf
   pub down : Option CellContentOf
   pub up : Option CellContentOf
 
--- what a step makes of a pair, and what it adds to the history
+-- a pair after a step, and the entries that the step adds to the history
 pub record Stepped : Type 0 where
   pub after : PairOf
   pub noted : List EntryOf
@@ -50,8 +51,8 @@ abbrev pub adds_entries : Option Stepped → Bool
 adds_entries None = false
 adds_entries (Some t) = has_entry t.noted
 
--- A step of a pair. `quiet` is what a device is told in a Take: that it has no command of its own under way. `works` says
--- whether the one call of its bank that the step makes succeeds.
+-- A step of a pair. `quiet` is passed to a device in a Take: whether it has no command of its own
+-- in progress. `works` says whether the one call of its bank that the step makes succeeds.
 pub data StepOf : Type 0 where
   AskDown : StepOf
   AskUp : StepOf
@@ -68,7 +69,7 @@ pub data StepOf : Type 0 where
   TimeOut : (side : Side) → StepOf
   Restart : (side : Side) → StepOf
 
--- what the session wishes: it is lent the package of its number
+-- the session's pending command, from the package of its number
 abbrev pub down_wish : List PackageText → SessionOf → Option CommandOf
 down_wish packages s = agent_wish (package_at packages s.number) s
 
@@ -76,12 +77,12 @@ abbrev pub is_wished : CommandOf → Option CommandOf → Bool
 is_wished c None = false
 is_wished c (Some d) = same_command c d
 
--- a cell, closed unless its command is wished
+-- a cell, closed unless its command is the pending command
 abbrev pub closed_unless : Option CommandOf → Option CellContentOf → Option CellContentOf
 closed_unless wish None = None
 closed_unless wish (Some h) = Some (record h { live = h.live && is_wished h.command wish })
 
--- A command that its asker no longer wishes is no longer waited for.
+-- No asker waits for a command that is no longer pending.
 unfoldable pub unwished_closed : List PackageText → PairOf → PairOf
 unwished_closed packages m =
     record m {
@@ -101,7 +102,7 @@ is_empty (Some h) = false
 abbrev pub step_without_entries : PairOf → Stepped
 step_without_entries m = record { after = m; noted = [] }
 
--- Ask: an empty cell takes up the command that its asker wishes.
+-- Ask: the asker's pending command is put into its empty cell.
 abbrev pub fresh_cell : CommandOf → CellContentOf
 fresh_cell c = record { command = c; reply = None; live = true }
 
@@ -123,7 +124,7 @@ abbrev pub put_up : PairOf → Option (Option CellContentOf) → Option Stepped
 put_up m None = None
 put_up m (Some cell) = Some (step_without_entries (with_up m cell))
 
--- Take: the command is answered. A device may be told that it is quiet only while its own cell is empty.
+-- Take: the command is answered. A device may take it with `quiet` only if its own cell is empty.
 abbrev pub cell_after_answer : CellContentOf → AnswerOf → Option CellContentOf
 cell_after_answer h a = Some (record h { reply = Some a })
 
@@ -140,7 +141,7 @@ up_taken packages m h =
       noted = map EntryOf.Recording (recorded_by (package_at packages m.session.number) m.session h.command);
     }
 
--- what the device activates in a Take
+-- the images that the device activates in a Take
 abbrev pub activated_in : DeviceState → Option CellContentOf → Bool → Bool → List KeyedImage
 activated_in v None quiet works = []
 activated_in v (Some h) quiet works = (device_take v h.command quiet works).activated
@@ -165,7 +166,7 @@ abbrev pub take_up : List PackageText → PairOf → Option CellContentOf → Op
 take_up packages m None = None
 take_up packages m (Some h) = take_up_at packages m h h.reply
 
--- Learn: the answer in a cell whose asker waits for it.
+-- Learn: the answer in a cell whose asker waits for it
 abbrev pub waiting_answer : Option CellContentOf → Option AnswerOf
 waiting_answer None = None
 waiting_answer (Some h) = if h.live then h.reply else None
@@ -179,7 +180,7 @@ abbrev pub learn_up : PairOf → Option AnswerOf → Bool → Option Stepped
 learn_up m None works = None
 learn_up m (Some a) works = Some (step_without_entries (record m { device = device_learn m.device (Some a) works; up = None }))
 
--- GiveUp: an asker that waits doesn't any longer. A session is told that there was no answer.
+-- GiveUp: an asker that waits no longer does. A session handles that there was no answer.
 abbrev pub cell_after_give_up : Option CellContentOf → Option (Option CellContentOf)
 cell_after_give_up None = None
 cell_after_give_up (Some h) = if h.live then Some (Some (record h { live = false })) else None
@@ -188,7 +189,7 @@ abbrev pub step_after_give_up : PairOf → Option (Option CellContentOf) → Opt
 step_after_give_up m None = None
 step_after_give_up m (Some cell) = Some (step_without_entries (record m { session = agent_silent m.session; down = cell }))
 
--- Drop: what nobody waits for is gone.
+-- Drop: a cell that nobody waits for is emptied.
 abbrev pub dropped_cell : Option CellContentOf → Option (Option CellContentOf)
 dropped_cell None = None
 dropped_cell (Some h) = if h.live then None else Some None
@@ -208,7 +209,7 @@ abbrev pub step_after_verdict : PairOf → Option VerdictEffect → Option Stepp
 step_after_verdict m None = None
 step_after_verdict m (Some j) = Some (record { after = record m { device = j.after }; noted = map EntryOf.Applied j.applied })
 
--- A step as the tables allow it, before the closing of what is no longer wished.
+-- A step as the tables allow it, without closing the commands that are no longer pending.
 abbrev pub step_of : List PackageText → PairOf → StepOf → Option Stepped
 step_of packages m StepOf.AskDown = put_down m (cell_after_ask m.down (down_wish packages m.session))
 step_of packages m StepOf.AskUp = put_up m (cell_after_ask m.up (device_wish m.device))
@@ -241,12 +242,12 @@ closing packages t = record t { after = unwished_closed packages t.after }
 unfoldable pub pair_after : List PackageText → PairOf → StepOf → Option Stepped
 pair_after packages m s = option_map (closing packages) (step_of packages m s)
 
--- a pair and what happened so far
+-- a pair and its history so far
 pub record PairRun : Type 0 where
   pub pair : PairOf
   pub entries : List EntryOf
 
--- a history with more behind it
+-- a history with more appended
 abbrev pub history_with : List EntryOf → List EntryOf → List EntryOf
 history_with es [] = es
 history_with es (x ∷ xs) = history_with (es ++ x ∷ []) xs
@@ -257,7 +258,7 @@ ran_on r t = record { pair = t.after; entries = history_with r.entries t.noted }
 abbrev pub run_after : List PackageText → PairRun → StepOf → Option PairRun
 run_after packages r s = option_map (ran_on r) (pair_after packages r.pair s)
 
--- A run of messages: each step is taken where the one before it led.
+-- A run of messages: each step is taken in the pair after the step before it.
 abbrev pub message_along : List PackageText → Option PairRun → List StepOf → Option PairRun
 message_along packages None steps = None
 message_along packages (Some r) [] = Some r

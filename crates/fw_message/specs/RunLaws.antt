@@ -1,4 +1,4 @@
--- What is promised of any two moments of a run.
+-- The laws of any two moments of a run.
 use Rattle.std.specs.Prelude.{ℕ, ◌≡◌, ◌++◌, List, drop, length, map, IfSome, IsSomeAnd}
 use Rattle.fw_message.specs.History.{EntryOf, recorded_in, running_image, running_after}
 use Rattle.fw_message.specs.Replays.{CountedWorldOf, MessageRun}
@@ -6,22 +6,22 @@ use Rattle.fw_message.specs.WorldLaws.{IsOpeningMessageWorld, history_of}
 use Rattle.fw_message.specs.Worlds.{NodeOf, NotedOf, MessageWorldOf, node_at}
 use Rattle.fw_message.specs.declared.step.MessageStep.{MessageStep}
 
--- what was added to the history between two moments
+-- the entries added to the history between two moments
 abbrev pub message_entries_added : MessageWorldOf → MessageWorldOf → List NotedOf
 message_entries_added old new = drop (length old.history) new.history
 
--- what happened stays, and all else stands behind it
+-- the earlier history is a prefix of the later one
 abbrev pub GrowsMessageHistory : MessageWorldOf → MessageWorldOf → Type 0
 GrowsMessageHistory old new = new.history ≡ old.history ++ message_entries_added old new
 
--- A device and its session at two moments, and what happened to the device between them: the images that run later are those
--- that ran, with all that were activated since in their places; and the agent's records are those of before, with what was
--- recorded since.
+-- A device and its session at two moments, and the device's entries between them: the images that
+-- run later are those that ran, replaced by all images activated since; and the agent's records are
+-- those of before, with those made since appended.
 pub record IsPairTiedFrom (old new : NodeOf) (es : List EntryOf) : Type 0 where
   pub active : map running_image new.pair.device.rows ≡ running_after (map running_image old.pair.device.rows) es
   pub records : new.pair.session.records ≡ old.pair.session.records ++ recorded_in es
 
--- each device that was there is there, and is tied with what happened to it since
+-- each device of the earlier world is in the later one, and is tied by its entries since
 abbrev pub IsMessageWorldTiedBetween : MessageWorldOf → MessageWorldOf → Type 0
 IsMessageWorldTiedBetween old new = (eid : ℕ) → IfSome (node_at old.nodes eid)
     (λ n. IsSomeAnd (node_at new.nodes eid) (λ m. IsPairTiedFrom n m (history_of eid (message_entries_added old new))))

@@ -1,4 +1,5 @@
--- Worlds by hand, on which the definitions of two tied moments, of what needs memory and of a step that calls a bank are tried.
+-- Worlds by hand, to test the definitions of two tied moments, of a step that needs memory and of a
+-- step that calls a bank.
 use Rattle.std.specs.Prelude.{ℕ, ◌≡◌, ◌∷◌, [], Bool, List, None, Option, Some, false, map, take, true}
 use Rattle.fwup_wire.specs.Values.{AnswerOf, CommandOf}
 use Rattle.fd_core.specs.Images.{RowOf}
@@ -22,7 +23,7 @@ use Rattle.fw_message.specs.declared.step.MessageStep.TheVariants as steps
 abbrev pub pair_with : PairOf → List RowOf → List Recorded → PairOf
 pair_with m rows made = record m { device = record m.device { rows = rows }; session = record m.session { records = made } }
 
--- the device 9, of an agent 8
+-- device 9 of agent 8
 abbrev pub board_node : PairOf → List RowOf → List Recorded → NodeOf
 board_node m rows made = record { eid = 9; pair = pair_with m rows made }
 
@@ -43,15 +44,16 @@ before_activation m =
 abbrev pub after_update : PairOf → MessageWorldOf
 after_update m = world_of m (bank new_boot None) (recorded_component 1 0 ∷ []) (map (noted_of 9) worked_update)
 
--- any two of these are tied, in order, and each with itself
+-- any two of these worlds are tied, in order, and each with itself
 pub record TiedMoments : Type 0 where
   pub whole : (m : PairOf) → IsMessageWorldTiedBetween (before_update m) (after_update m)
   pub first : (m : PairOf) → IsMessageWorldTiedBetween (before_update m) (before_activation m)
   pub rest : (m : PairOf) → IsMessageWorldTiedBetween (before_activation m) (after_update m)
   pub same : (m : PairOf) → IsMessageWorldTiedBetween (after_update m) (after_update m)
 
--- What isn't tied: the old image that still runs, an image that runs and wasn't activated since, a record that is missing, one
--- that wasn't made since, an activation of another device, and a device that is gone.
+-- Worlds that aren't tied: the old image still runs, an image runs that wasn't activated since, a
+-- record is missing, a record wasn't made since, the activation was of another device, or a device
+-- is gone.
 pub record UntiedMoments : Type 0 where
   pub old_runs : (m : PairOf) →
       IsMessageWorldTiedBetween (before_update m) (world_of m (bank old_boot None) (recorded_component 1 0 ∷ []) (map (noted_of 9) worked_update)) → ⊥
@@ -66,9 +68,9 @@ pub record UntiedMoments : Type 0 where
       IsMessageWorldTiedBetween (before_update m) (world_of m (bank new_boot None) [] (noted_of 10 (activates boot new_boot) ∷ [])) → ⊥
   pub gone : (m : PairOf) → IsMessageWorldTiedBetween (before_update m) (world_with [] []) → ⊥
 
--- WHAT NEEDS MEMORY
+-- STEPS THAT NEED MEMORY
 
--- a step that adds this to the history
+-- a step that adds these entries to the history
 abbrev pub adding : PairOf → List EntryOf → Option Stepped
 adding m es = Some (record { after = m; noted = es })
 
@@ -83,9 +85,10 @@ pub record NeedsNoMemory : Type 0 where
   pub untaken : needs_memory (steps.Take 9 ways.Down true) None ≡ false
   pub cancel : (m : PairOf) → needs_memory (steps.Cancel 9) (Some (step_without_entries m)) ≡ false
 
--- WHICH STEP CALLS A BANK
+-- STEPS THAT CALL A BANK
 
--- a world whose device is in this state, with this in its bank, and what the agent asked of it
+-- a world whose device is in this phase, with these rows in its bank, and with this command of the
+-- agent in its cell
 abbrev pub world_in : PairOf → Phase → List RowOf → CommandOf → MessageWorldOf
 world_in m phase rows command =
     world_with (record {
@@ -102,11 +105,11 @@ update = record { transfer_size = 32; components = 1; table = record { key = boo
 abbrev pub work : WorkOf
 work = record { key = boot; size = 3; label = record { stamp = 2; text_type = 1; text = [] }; force = false }
 
--- a bank that has the image applied
+-- a bank with the image applied
 abbrev pub all_applied : List RowOf
 all_applied = bank old_boot (Some (image new_boot))
 
--- ActivateFirmware where all is applied, and ApplyOk for an image that is written
+-- ActivateFirmware with everything applied, and ApplyOk for an image that is written
 pub record CallsBank : Type 0 where
   pub activation : (m : PairOf) →
       message_step_calls_bank (world_in m (Phase.Ready update) all_applied (CommandOf.ActivateFirmware true))
@@ -115,8 +118,9 @@ pub record CallsBank : Type 0 where
       message_step_calls_bank (world_in m (Phase.Apply update work progress.InProgress) (bank old_boot None) CommandOf.GetStatus)
       (steps.Verdict 9 verdicts.ApplyOk) ≡ true
 
--- ActivateFirmware where nothing is applied; another command; another verdict, or ApplyOk where the image is applied already;
--- and what another node has, or no Take is of.
+-- ActivateFirmware with nothing applied, or in another state; another command; another verdict, or
+-- ApplyOk for an image that is applied already; the verdict of another node; and a step that is no
+-- Take.
 pub record CallsNoBank : Type 0 where
   pub lacking : (m : PairOf) →
       message_step_calls_bank (world_in m (Phase.Ready update) (bank old_boot None) (CommandOf.ActivateFirmware true))
@@ -140,7 +144,7 @@ pub record CallsNoBank : Type 0 where
       message_step_calls_bank (world_in m (Phase.Ready update) all_applied (CommandOf.ActivateFirmware true))
       (steps.Ask 9 ways.Down) ≡ false
 
--- The definitions hold where they are to hold, and nowhere near.
+-- The definitions accept and refuse as they should.
 pub record MessageWorldsAreJudged : Type 0 where
   pub tied : TiedMoments
   pub untied : UntiedMoments

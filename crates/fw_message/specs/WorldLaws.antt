@@ -1,4 +1,4 @@
--- What is promised of every run of messages between an agent and its devices.
+-- The laws of every run of messages between an agent and its devices.
 use Rattle.std.specs.Prelude.{ℕ, ◌≡◌, ◌==◌, if◌then◌else◌, List, [], ◌∷◌, All, None, Some, IfSome, IsSomeAnd}
 use Rattle.fd_core.specs.States.{DeviceState}
 use Rattle.fd_core.specs.Steps.{device_restart}
@@ -8,24 +8,24 @@ use Rattle.fw_message.specs.Laws.{IsOpening, IsSafeAndTied}
 use Rattle.fw_message.specs.Pairs.{PairRun}
 use Rattle.fw_message.specs.Worlds.{NodeOf, NotedOf, MessageWorldOf, WorldStepOf, node_at, world_along}
 
--- what happened to one device, in order
+-- the history of one device, in order
 abbrev pub history_of : ℕ → List NotedOf → List EntryOf
 history_of eid [] = []
 history_of eid (x ∷ xs) = if x.device == eid then x.entry ∷ history_of eid xs else history_of eid xs
 
--- a device's pair with what happened to it
+-- a device's pair with its history
 abbrev pub run_of : NodeOf → List EntryOf → PairRun
 run_of n es = record { pair = n.pair; entries = es }
 
 abbrev pub IsOpeningNode : NodeOf → Type 0
 IsOpeningNode n = IsOpening (run_of n [])
 
--- how a world begins: each device with its session begins, and nothing happened
+-- the opening of a world: each device with its session is at its opening, and the history is empty
 pub record IsOpeningMessageWorld (w : MessageWorldOf) : Type 0 where
   pub nodes : All IsOpeningNode w.nodes
   pub history : w.history ≡ []
 
--- a device that starts now, with a new session of its unit and nothing asked
+-- a device that starts now, with a new session of its unit and empty cells
 abbrev pub new_node : ℕ → DeviceState → NodeOf
 new_node eid device =
     record {
@@ -33,7 +33,8 @@ new_node eid device =
       pair = record { device = device_restart device; session = (new_session device.unit).session; down = None; up = None };
     }
 
--- each device that was there is there, and its history is safe, and tied with the images that ran on it first
+-- each device of the earlier world is in the later one, and its history is safe, and tied with its
+-- first running images
 abbrev pub IsSafeMessageWorld : MessageWorldOf → MessageWorldOf → Type 0
 IsSafeMessageWorld opening w = (eid : ℕ) → IfSome (node_at opening.nodes eid)
     (λ n. IsSomeAnd (node_at w.nodes eid) (λ m. IsSafeAndTied opening.packages (run_of n []) (run_of m (history_of eid w.history))))
@@ -43,7 +44,7 @@ abbrev pub WorldsAreSafe : Type 0
 WorldsAreSafe = (opening : MessageWorldOf) (steps : List WorldStepOf) → IsOpeningMessageWorld opening
     → IfSome (world_along (Some opening) steps) (IsSafeMessageWorld opening)
 
--- And so does each run that goes on where one ended.
+-- The same for each run that continues another.
 abbrev pub WorldsStaySafe : Type 0
 WorldsStaySafe = (opening old new : MessageWorldOf) (before steps : List WorldStepOf) → IsOpeningMessageWorld opening
     → world_along (Some opening) before ≡ Some old → world_along (Some old) steps ≡ Some new → IsSafeMessageWorld opening new

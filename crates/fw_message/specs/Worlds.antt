@@ -1,4 +1,5 @@
--- The world over whole messages: an agent, its packages, its devices with their sessions, and what happened.
+-- The world over whole messages: an agent, its packages, its devices with their sessions, and the
+-- history.
 use Rattle.std.specs.Prelude.{ℕ, ◌≡◌, ◌⊎◌, ◌==◌, Bool, true, false, if◌then◌else◌, is_some, List, [], ◌∷◌, ◌++◌, map, Option, Some, None}
 use Rattle.std.specs.Option.{option_map}
 use Rattle.fw_package.specs.Package.{PackageText}
@@ -16,7 +17,7 @@ pub record NodeOf : Type 0 where
   pub eid : ℕ
   pub pair : PairOf
 
--- what happened to which device
+-- an entry of the history, with its device
 pub record NotedOf : Type 0 where
   pub device : ℕ
   pub entry : EntryOf
@@ -27,7 +28,8 @@ pub record MessageWorldOf : Type 0 where
   pub nodes : List NodeOf
   pub history : List NotedOf
 
--- a step of the world: of one device and its session, or a restart of the agent, which is one of all sessions
+-- a step of the world: of one device and its session, or a restart of the agent, which restarts all
+-- sessions
 pub data WorldStepOf : Type 0 where
   OfPair : (device : ℕ) (step : StepOf) → WorldStepOf
   RestartAgent : WorldStepOf
@@ -41,7 +43,7 @@ abbrev pub put_if : Bool → PairOf → NodeOf → NodeOf
 put_if true m n = record n { pair = m }
 put_if false m n = n
 
--- with this in the place of its pair
+-- the nodes with this pair for the device of this identifier
 abbrev pub with_pair : List NodeOf → ℕ → PairOf → List NodeOf
 with_pair [] eid m = []
 with_pair (n ∷ ns) eid m = if n.eid == eid then record n { pair = m } ∷ ns else n ∷ with_pair ns eid m
@@ -67,12 +69,12 @@ abbrev pub step_at : MessageWorldOf → ℕ → StepOf → Option NodeOf → Opt
 step_at w device s None = None
 step_at w device s (Some n) = option_map (went_on w device) (pair_after w.packages n.pair s)
 
--- the pair that a step leaves, which is the same where it isn't taken
+-- the pair after a step, which is the same pair if the step isn't taken
 abbrev pub after_or : PairOf → Option Stepped → PairOf
 after_or m None = m
 after_or m (Some t) = t.after
 
--- the agent restarts: so does each session
+-- the agent restarts, and so each session
 abbrev pub agent_restarted : List PackageText → NodeOf → NodeOf
 agent_restarted packages n =
     record n { pair = after_or n.pair (pair_after packages n.pair (StepOf.Restart sides.Agent)) }
@@ -82,7 +84,7 @@ unfoldable pub message_world_after : MessageWorldOf → WorldStepOf → Option M
 message_world_after w (WorldStepOf.OfPair device s) = step_at w device s (node_at w.nodes device)
 message_world_after w WorldStepOf.RestartAgent = Some (record w { nodes = map (agent_restarted w.packages) w.nodes })
 
--- A run of the world: each step is taken where the one before it led.
+-- A run of the world: each step is taken in the world after the step before it.
 abbrev pub world_along : Option MessageWorldOf → List WorldStepOf → Option MessageWorldOf
 world_along None steps = None
 world_along (Some w) [] = Some w
@@ -102,7 +104,8 @@ device_of (steps.Verdict device verdict) = device
 device_of (steps.TimeOut device side) = device
 device_of (steps.Restart node) = node
 
--- A step of a device's pair, as it is named: whether its call of the bank works isn't said there.
+-- The step of a device's pair that a message step names. The message step doesn't say whether its
+-- call of the bank works.
 abbrev pub pair_step : Bool → MessageStep → StepOf
 pair_step works (steps.Ask device ways.Down) = StepOf.AskDown
 pair_step works (steps.Ask device ways.Up) = StepOf.AskUp
@@ -119,7 +122,8 @@ pair_step works (steps.Verdict device verdict) = StepOf.Judge verdict works
 pair_step works (steps.TimeOut device side) = StepOf.TimeOut side
 pair_step works (steps.Restart device) = StepOf.Restart sides.Device
 
--- what a step makes of its device's pair where its call of the bank works, if there is such a device and the step may be taken
+-- its device's pair after a step whose call of the bank works, if there is such a device and the
+-- step is allowed
 abbrev pub stepped_at : List PackageText → MessageStep → Option NodeOf → Option Stepped
 stepped_at packages s None = None
 stepped_at packages s (Some n) = pair_after packages n.pair (pair_step true s)
@@ -132,21 +136,22 @@ abbrev pub named_step : ℕ → Bool → MessageStep → WorldStepOf
 named_step agent works s =
     if restarts_agent agent s then WorldStepOf.RestartAgent else WorldStepOf.OfPair (device_of s) (pair_step works s)
 
--- why a step is refused that isn't taken: the operator's calls and verdicts are refused, and for others it isn't the time
+-- the cause why a step isn't taken: `Refused` for the operator's calls and verdicts, `NotNow` for
+-- others
 abbrev pub refusal_of : MessageStep → MessageStepFault
 refusal_of (steps.Start device number) = faults.Refused
 refusal_of (steps.Activate device) = faults.Refused
 refusal_of (steps.Verdict device verdict) = faults.Refused
 refusal_of s = faults.NotNow
 
--- What needs memory, by what a step makes of the pair where its call of the bank works: a Start, for the records of its session,
--- and a step that adds to the history, for what it adds.
+-- A step that needs memory: a Start, for the records of its session, and a step that adds to the
+-- history if its call of the bank works, for its entries.
 abbrev pub needs_memory : MessageStep → Option Stepped → Bool
 needs_memory (steps.Start device number) stepped = true
 needs_memory s stepped = adds_entries stepped
 
--- Why a device's step isn't taken, by what it makes of the pair: it isn't allowed, whether the bank works or not; or it is,
--- and memory that it needs is refused.
+-- The cause why a device's step isn't taken, from its pair after it: the step isn't allowed,
+-- whether the bank works or not; or it is allowed, and memory that it needs is refused.
 abbrev pub IsPairRefusal : MessageStep → MessageStepFault → (Bool → Option Stepped) → Type 0
 IsPairRefusal s e after =
     ((e ≡ faults.Memory) × (needs_memory s (after true) ≡ true) × ((works : Bool) → is_some (after works) ≡ true))

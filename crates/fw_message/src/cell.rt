@@ -1,4 +1,4 @@
-//! The cell of a way: nothing, a command, or a command with its answer.
+//! The cell of a way: empty, a command, or a command with its answer.
 
 ghost use Rattle.std.specs.Prelude.{◌≡◌, IsSome, None, Some, false, is_some, option_map};
 ghost use Rattle.fwup_wire.specs.Answers.{answer_in};
@@ -10,7 +10,8 @@ use fwup_wire::{Answer, Command, read_answer};
 use pldm_base::Reply;
 use std::marker::Model;
 
-/// A command that was asked, its answer once it was taken, and whether its asker still waits for it.
+/// A command that was asked, its answer after it was taken, and whether its asker still waits for
+/// it.
 #[derive(Drop)]
 pub struct CellContent<'a> {
     command: Command<'a>,
@@ -36,7 +37,7 @@ impl<'a> Model for CellContent<'a> {
 }
 
 impl<'a> CellContent<'a> {
-    /// A command that was asked just now.
+    /// Creates the content for a command that was just asked.
     pub(crate) fn new(command: Command<'a>) -> CellContent<'a>
         ensures { result ≡ fresh_cell (command_of command.entry) }
     {
@@ -54,7 +55,7 @@ impl<'a> CellContent<'a> {
         self.command
     }
 
-    /// Whether its asker waits for it.
+    /// Whether its asker still waits for it.
     pub fn is_live(&self) -> bool
         ensures { result ≡ self.now.live }
     {
@@ -68,7 +69,7 @@ impl<'a> CellContent<'a> {
         self.reply.is_some()
     }
 
-    /// The answer, once the command was taken.
+    /// Returns the answer, if the command was taken.
     pub fn answer(&self) -> Option<Answer<'_>>
         ensures { option_map answer_of result ≡ self.now.reply }
     {
@@ -78,7 +79,7 @@ impl<'a> CellContent<'a> {
         }
     }
 
-    /// The command is taken: this is its answer.
+    /// Takes the command, with this answer.
     pub(crate) fn take(&mut self, reply: Reply)
         requires { IsSome (answer_in (command_code self.old.command) reply.items) }
         ensures { self.new ≡ record self.old { reply = answer_in (command_code self.old.command) reply.items } }
@@ -86,14 +87,14 @@ impl<'a> CellContent<'a> {
         self.reply = Some(reply);
     }
 
-    /// Its asker waits for it no longer.
+    /// Marks that its asker no longer waits for it.
     pub(crate) fn close(&mut self)
         ensures { self.new ≡ record self.old { live = false } }
     {
         self.live = false;
     }
 
-    /// Its asker waits for it no longer, unless this is what it wishes.
+    /// Marks that its asker no longer waits for it, unless it is the pending command.
     pub(crate) fn close_unless(&mut self, wish: &Option<Command<'_>>)
         ensures { Some self.new ≡ closed_unless (option_map command_of wish.now) (Some self.old) }
     {

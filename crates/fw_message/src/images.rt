@@ -10,7 +10,7 @@ use fd_core::{Bank, BankComponent, Key};
 use fw_package::Package;
 use std::alloc::{AllocError, Global};
 
-/// Each image that is applied, by rising key.
+/// Returns the applied images, by rising key.
 pub fn applied_images<'a, B: Bank>(
     alloc: Global,
     packages: &'a [Package<'a>],
@@ -31,7 +31,7 @@ pub fn applied_images<'a, B: Bank>(
     Ok(images)
 }
 
-/// Puts an image among others, by rising key.
+/// Inserts an image among others, by rising key.
 #[tactic(auto, using(crate::proofs::Rising::put_in_place))]
 fn put_in<'a>(images: &mut Vec<Image<'a>>, image: Image<'a>) -> Result<(), AllocError>
     ensures { OnOk result (map keyed_image_of images.new.items ≡ images_with (keyed_image_of image.entry) (map keyed_image_of images.old.items)) }
@@ -43,7 +43,7 @@ fn put_in<'a>(images: &mut Vec<Image<'a>>, image: Image<'a>) -> Result<(), Alloc
     Ok(())
 }
 
-/// How many images stand before one with this key.
+/// Returns the number of images before the place of this key.
 fn place_for(images: &[Image<'_>], key: Key) -> usize
     ensures place { result ≡ place_in (map keyed_image_of images.now) key }
     ensures within { result ≤ length images.now }
@@ -56,7 +56,7 @@ fn place_for(images: &[Image<'_>], key: Key) -> usize
     images.len()
 }
 
-/// Whether one key stands before another.
+/// Whether the first key is less than the second.
 fn rises(a: Key, b: Key) -> bool
     ensures { result ≡ is_key_before a b }
 {

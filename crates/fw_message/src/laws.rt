@@ -1,4 +1,4 @@
-//! What holds of every run of messages.
+//! The laws of every run of messages.
 
 ghost use Rattle.fw_message.specs.BankCalls.{PairStepsDependOnCalls};
 ghost use Rattle.fw_message.specs.Cases.{HistoriesAreJudged};
@@ -7,9 +7,10 @@ ghost use Rattle.fw_message.specs.RunLaws.{MessageRunsGrow, MessageRunsJoin, Mes
 ghost use Rattle.fw_message.specs.WorldCases.{MessageWorldsAreJudged};
 ghost use Rattle.fw_message.specs.WorldLaws.{WorldsAreSafe, WorldsStaySafe};
 
-/// Every run of whole messages between an agent and a device keeps the history of the device safe and tied: what the device
-/// activates is one package's images for it, each recorded before; what is recorded was applied; and the images that run and
-/// the agent's records are those of the history.
+/// Every run of messages between an agent and a device keeps the history of the device safe and
+/// tied. Safe: the device activates the images of one package for it, each recorded before, and
+/// each record has an application before it. Tied: the images that run and the agent's records are
+/// those of the history.
 pub fn messages_are_safe()
     ensures law { MessagesAreSafe }
 {
@@ -18,8 +19,8 @@ pub fn messages_are_safe()
     fw_package::plans_named_images();
 }
 
-/// The same of an agent and all its devices: every run keeps the history of each of them safe and tied, and so does each run
-/// that goes on where one ended.
+/// The same law for an agent and all its devices: every run keeps the history of each device safe
+/// and tied, and so does each run that continues another.
 pub fn worlds_are_safe()
     ensures law { WorldsAreSafe }
     ensures on { WorldsStaySafe }
@@ -29,8 +30,9 @@ pub fn worlds_are_safe()
     fw_package::plans_named_images();
 }
 
-/// What holds of any two moments of a run: a run followed by a run is a run, the history only grows, and what runs on a device
-/// and what the agent recorded of it at the later moment are those of the earlier one, with what happened since.
+/// Any two moments of a run: a run followed by a run is a run, and the history only grows. The
+/// running images of a device and the agent's records of it at the later moment are those of the
+/// earlier moment, changed by the entries between them.
 pub fn runs_stay_tied()
     ensures join { MessageRunsJoin }
     ensures grow { MessageRunsGrow }
@@ -39,14 +41,15 @@ pub fn runs_stay_tied()
     worlds_are_safe();
 }
 
-/// The definitions of a safe and of a tied history, tried by hand: both hold of the worked update at each moment, and each thing that
-/// they are to refuse is refused.
+/// The definitions of a safe and of a tied history, tested by hand: both accept the worked update
+/// at each moment, and refuse each history that they must refuse.
 pub fn histories_are_judged()
     ensures { HistoriesAreJudged }
 {}
 
-/// The definitions of two tied moments, of what needs memory and of a step that calls a bank, tried by hand: they hold of the
-/// worked update, and not of what differs from it in one thing.
+/// The definitions of two tied moments, of a step that needs memory and of a step that calls a
+/// bank, tested by hand: they accept the worked update, and refuse each variant that differs from
+/// it in one point.
 pub fn message_worlds_are_judged()
     ensures { MessageWorldsAreJudged }
 {}

@@ -1,4 +1,4 @@
-//! Images for the history: lent by a package that has the same bytes, and else copied.
+//! Images for the history: borrowed from a package that has the same bytes, else copied.
 
 ghost use Rattle.std.specs.Prelude.{[], ◌≡◌, ◌≤◌, ◌∷◌, IfOk, IfSome, is_some, length, map, option_to_list, vec_capacity};
 ghost use Rattle.fw_message.specs.Entries.{keyed_image_of};
@@ -11,7 +11,7 @@ use fw_package::{Component, Components, Package};
 use std::alloc::{AllocError, Global};
 use std::borrow::CowSlice;
 
-/// An image of a component with these bytes, which are copied unless a package lends them.
+/// Returns an image of a component with these bytes, which are copied unless a package has them.
 pub(crate) fn image_of<'a>(
     alloc: Global,
     packages: &'a [Package<'a>],
@@ -27,8 +27,8 @@ pub(crate) fn image_of<'a>(
     Ok(Image { key, bytes })
 }
 
-/// An image of a component with these bytes, which are copied into this room unless a package lends them; None where the room is
-/// too small. The room is empty.
+/// Returns an image of a component with these bytes, which are copied into `room` unless a package
+/// has them. `None` if the room is too small. The room must be empty.
 pub(crate) fn image_in<'a>(
     packages: &'a [Package<'a>],
     key: Key,
@@ -49,7 +49,7 @@ pub(crate) fn image_in<'a>(
     Some(Image { key, bytes })
 }
 
-/// The image of a component with these bytes, where one of the packages has it.
+/// Returns the image of a component with these bytes, borrowed from a package that has it.
 fn lent<'a>(packages: &'a [Package<'a>], key: Key, bytes: &[u8]) -> Option<Image<'a>>
     ensures same { IfSome result (λ image. keyed_image_of image ≡ record { key = key; bytes = bytes.now }) }
     ensures found { is_some result ≡ is_lent packages.now key bytes.now }
@@ -63,7 +63,8 @@ fn lent<'a>(packages: &'a [Package<'a>], key: Key, bytes: &[u8]) -> Option<Image
     None
 }
 
-/// The bytes of the first of these components that has this key and these bytes, lent from its package.
+/// Returns the bytes of the first of these components that has this key and these bytes, borrowed
+/// from its package.
 fn lent_by<'a>(components: Components<'a>, key: Key, bytes: &[u8]) -> Option<&'a [u8]>
     ensures same { IfSome result (λ image. image.now ≡ bytes.now) }
     ensures found { is_some result ≡ is_lent_by components.entry key bytes.now }

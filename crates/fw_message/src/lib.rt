@@ -1,5 +1,6 @@
-//! The world of an update agent and its devices (DSP0267 1.0): what they do over whole messages, step by step, and what is
-//! then true of every image that a device activates and of every component that the agent records as applied.
+//! The world of an update agent and its devices (DSP0267 1.0): their steps over whole messages, and
+//! the laws of every image that a device activates and of every component that the agent records as
+//! applied.
 #![tactic(auto)]
 
 mod cell;

@@ -20,18 +20,18 @@ use std::alloc::Global;
 use std::marker::Model;
 use ua_core::Session;
 
-/// An agent, its packages, its devices with the agent's session for each, and what happened.
+/// An agent, its packages, its devices with the agent's session for each, and the history.
 #[derive(Drop)]
 pub struct MessageWorld<'a, B: Bank + Drop> {
-    /// Where steps take their memory from.
+    /// The allocator of the steps.
     alloc: Global,
-    /// The agent's endpoint identifier, which no device has.
+    /// The agent's endpoint identifier, which is none of the devices'.
     agent: u8,
-    /// What the operator may start updates with.
+    /// The packages that the operator may start updates with.
     packages: &'a [Package<'a>],
     /// The devices, each with its session and both cells.
     pairs: Vec<Pair<'a, B>>,
-    /// What happened, in order.
+    /// The history, in order.
     history: Vec<Entry<'a>>,
 }
 
@@ -57,8 +57,8 @@ impl<'a, B: Bank + Drop> Model for MessageWorld<'a, B> {
 }
 
 impl<'a, B: Bank + Drop> MessageWorld<'a, B> {
-    /// An agent with this endpoint identifier and these packages, numbered from 1 on, without devices. Later calls take
-    /// their memory from `alloc`.
+    /// Creates an agent with this endpoint identifier and these packages, numbered from 1, without
+    /// devices. Later calls allocate from `alloc`.
     pub fn new(alloc: Global, agent: u8, packages: &'a [Package<'a>]) -> MessageWorld<'a, B>
         ensures world { result.world ≡ record { agent = agent; packages = packages.now; nodes = []; history = [] } }
         ensures faults { result.faults ≡ [] }
@@ -73,11 +73,12 @@ impl<'a, B: Bank + Drop> MessageWorld<'a, B> {
         }
     }
 
-    /// Adds a device, which starts now, with a new session. It has its bank's components, and its identifier is neither the
-    /// agent's nor another device's.
+    /// Adds a device, which starts now, with a new session. The device has its bank's components.
+    /// Its identifier must differ from the agent's and from those of the other devices.
     ///
     /// # Errors
-    /// `Memory` where memory for it is refused. Nothing has changed then, and the device is gone.
+    /// `Memory` if memory for it is refused. The world is unchanged then, and the device is
+    /// dropped.
     pub fn add(&mut self, eid: u8, device: Device<B>) -> Result<(), MessageStepFault>
         requires device { HasComponents device.device }
         requires apart { eid ≢ self.old.world.agent }
@@ -95,7 +96,7 @@ impl<'a, B: Bank + Drop> MessageWorld<'a, B> {
         Ok(())
     }
 
-    /// The agent's endpoint identifier. No device has it.
+    /// The agent's endpoint identifier, which is none of the devices'.
     pub fn agent(&self) -> u8
         ensures agent { result ≡ self.now.world.agent }
         ensures apart { node_at self.now.world.nodes result ≡ None }
@@ -103,7 +104,7 @@ impl<'a, B: Bank + Drop> MessageWorld<'a, B> {
         self.agent
     }
 
-    /// A device.
+    /// Returns a device.
     pub fn device(&self, eid: u8) -> Option<&Device<B>>
         ensures { option_map (λ d. d.now.device) result ≡ option_map (λ n. n.pair.device) (node_at self.now.world.nodes eid) }
     {
@@ -111,7 +112,7 @@ impl<'a, B: Bank + Drop> MessageWorld<'a, B> {
         Some(pair.device())
     }
 
-    /// The agent's session for a device.
+    /// Returns the agent's session for a device.
     pub fn session(&self, eid: u8) -> Option<&Session>
         ensures { option_map (λ s. s.now.session) result ≡ option_map (λ n. n.pair.session) (node_at self.now.world.nodes eid) }
     {
@@ -119,8 +120,9 @@ impl<'a, B: Bank + Drop> MessageWorld<'a, B> {
         Some(pair.session())
     }
 
-    /// What the cell of a way of a device holds: the command that was asked, its answer once it was taken, and whether its
-    /// asker waits for it. None where the cell is empty, or there is no such device.
+    /// Returns the content of the cell of a way of a device: the command that was asked, its answer
+    /// after it was taken, and whether its asker still waits for it. `None` if the cell is empty,
+    /// or there is no such device.
     pub fn cell(&self, eid: u8, way: Way) -> Option<&CellContent<'a>>
         ensures { option_map (λ h. h.now) result ≡ cell_in (node_at self.now.world.nodes eid) way }
     {
@@ -128,17 +130,17 @@ impl<'a, B: Bank + Drop> MessageWorld<'a, B> {
         pair.cell(way)
     }
 
-    /// What happened, in order.
+    /// The history, in order.
     pub fn history(&self) -> &[Entry<'a>]
         ensures { map entry_of result.now ≡ self.now.world.history }
     {
         self.history.as_slice()
     }
 
-    /// A step. Answers whether the bank worked.
+    /// Takes a step. Returns whether the bank worked.
     ///
     /// # Errors
-    /// As `message_replay`. Nothing has changed then.
+    /// As for `message_replay`. The world is unchanged on an error.
     pub(crate) fn step(&mut self, step: MessageStep) -> Result<bool, MessageStepFault>
         ensures step { IfOk result (λ works. message_world_after self.old.world (named_step self.old.world.agent works step) ≡ Some self.new.world) }
         ensures worked { result ≡ Ok true → self.new.faults ≡ self.old.faults }
@@ -163,7 +165,7 @@ impl<'a, B: Bank + Drop> MessageWorld<'a, B> {
     }
 }
 
-/// Where the device of this identifier stands.
+/// Returns the place of the device with this identifier.
 fn place_of<B: Bank>(pairs: &[Pair<'_, B>], eid: u8) -> Option<usize>
     ensures place { result ≡ place_at (map (λ p. p.node) pairs.now) eid }
     ensures within { IfSome result (λ place. place < length pairs.now) }
@@ -176,7 +178,7 @@ fn place_of<B: Bank>(pairs: &[Pair<'_, B>], eid: u8) -> Option<usize>
     None
 }
 
-/// The pair of this identifier.
+/// Returns the pair with this identifier.
 #[tactic(auto, using(crate::proofs::Finding::found_at, crate::proofs::Finding::not_found))]
 fn pair_of<'p, 'a, B: Bank>(pairs: &'p [Pair<'a, B>], eid: u8) -> Option<&'p Pair<'a, B>>
     ensures { option_map (λ p. p.now.node) result ≡ node_at (map (λ p. p.node) pairs.now) eid }
@@ -187,7 +189,7 @@ fn pair_of<'p, 'a, B: Bank>(pairs: &'p [Pair<'a, B>], eid: u8) -> Option<&'p Pai
     Some(&pairs[place])
 }
 
-/// The agent restarts, and with it each of its sessions.
+/// Restarts the agent, and so each of its sessions.
 fn restart_each<'a, B: Bank>(pairs: &mut [Pair<'a, B>], packages: &'a [Package<'a>])
     ensures { pairs.new ≡ map (counted_restarted packages.now) pairs.old }
 {

@@ -21,8 +21,8 @@ mod serving;
 mod stepping;
 mod waiting;
 
-/// A device, the agent's session for it, and the two cells: of what the agent asks the device, and of what the device
-/// asks the agent.
+/// A device, the agent's session for it, and the two cells: one for the agent's commands to the
+/// device, one for the device's commands to the agent.
 #[derive(Drop)]
 pub struct Pair<'a, B: Bank> {
     /// The device's endpoint identifier.
@@ -31,9 +31,9 @@ pub struct Pair<'a, B: Bank> {
     device: Device<B>,
     /// The agent's session for it.
     session: Session,
-    /// What the agent asked the device, with its answer where it was taken; none between exchanges.
+    /// The agent's command to the device, with its answer if it was taken; none between exchanges.
     down: Option<CellContent<'a>>,
-    /// What the device asked the agent, likewise.
+    /// The device's command to the agent, likewise.
     up: Option<CellContent<'a>>,
 }
 
@@ -55,7 +55,7 @@ impl<'a, B: Bank> Model for Pair<'a, B> {
 }
 
 impl<'a, B: Bank> Pair<'a, B> {
-    /// A device that starts now, and a new session of its transmission unit.
+    /// Creates the pair of a device that starts now, and a new session with its transmission unit.
     #[tactic(auto, using(fd_core::proofs::Components::restart_components))]
     pub fn new(alloc: Global, eid: u8, device: Device<B>) -> Pair<'a, B>
         requires { HasComponents device.device }
@@ -89,7 +89,7 @@ impl<'a, B: Bank> Pair<'a, B> {
         &self.device
     }
 
-    /// What the cell of a way holds.
+    /// Returns the content of the cell of a way.
     pub fn cell(&self, way: Way) -> Option<&CellContent<'a>>
         ensures { option_map (λ h. h.now) result ≡ cell_of self.now.node.pair way }
     {

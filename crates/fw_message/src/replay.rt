@@ -11,14 +11,16 @@ use crate::messages::MessageWorld;
 use crate::step::{MessageStep, MessageStepFault};
 use fd_core::Bank;
 
-/// Takes these steps one after another. Whatever is called on a world that began as it was constructed, its history is then
-/// safe: the images that a device activates in one go are those that one package names for it, each recorded since its
-/// activation before, and each record has an application of its own before it; and tied: what runs on a device and what the
-/// agent has recorded are what the history says, between this call's moments too; and the history only grows.
+/// Takes these steps in order. For a world that began as constructed and any calls on it, the
+/// history is safe and tied, and only grows. Safe: the images that a device activates at once are
+/// those that one package names for it, each recorded since the device's previous activation, and
+/// each record has its own application before it. Tied: the images that run on a device and the
+/// agent's records are those of the history, also between two moments of this call.
 ///
 /// # Errors
-/// The number of the step that isn't taken, counted from 0, and why: `NoSuchNode`, else `NotNow` or `Refused`, else
-/// `Memory`, at a Start or a step that adds to the history. The world is then the one after the steps before it.
+/// The number of the step that isn't taken, counted from 0, and the cause: `NoSuchNode`, else
+/// `NotNow` or `Refused`, else `Memory`, at a Start or a step that adds to the history. The world
+/// is the one after the steps before it.
 pub fn message_replay<B: Bank + Drop>(
     world: &mut MessageWorld<'_, B>,
     steps: &[MessageStep],

@@ -1,4 +1,4 @@
-//! Who acts, and who asks whom.
+//! The sides of a pair, and the ways of its commands.
 
 /// A side of a pair: the agent's session for a device, or the device.
 #[derive(Clone, Copy, PartialEq, Eq)]
@@ -9,7 +9,7 @@ pub enum Side {
     Device,
 }
 
-/// A way that commands go in a pair. Their answers go the other way.
+/// The way of commands in a pair. Their answers go the other way.
 #[derive(Clone, Copy, PartialEq, Eq)]
 pub enum Way {
     /// The agent asks the device.

@@ -1,4 +1,4 @@
-//! The steps of a world over whole messages, and why one isn't taken.
+//! The steps of a world over whole messages, and the causes of a refusal.
 
 ghost use Rattle.std.specs.Prelude.{◌≡◌};
 ghost use Rattle.fw_message.specs.Worlds.{device_of, restarts_agent};
@@ -7,37 +7,37 @@ use crate::side::{Side, Way};
 use fd_core::Verdict;
 use thiserror::Error;
 
-/// A step of a world over whole messages. Devices are named by their endpoint identifiers, packages by their numbers
-/// from 1 on.
+/// A step of a world over whole messages. Devices are named by their endpoint identifiers, packages
+/// by their numbers from 1.
 #[derive(Clone, Copy, PartialEq, Eq)]
 pub enum MessageStep {
-    /// An empty cell takes up the command that its asker wishes.
+    /// Puts the asker's pending command into its empty cell.
     Ask(u8, Way),
-    /// The command in a cell is answered. A device is told whether it is quiet, which may be true only while its own
-    /// cell is empty; to a session it says nothing.
+    /// Answers the command in a cell. The flag is a device's `quiet`, which may be true only if its
+    /// own cell is empty; a session ignores it.
     Take(u8, Way, bool),
-    /// The asker learns the answer in a cell, which is empty then.
+    /// The asker learns the answer in a cell, which is then empty.
     Learn(u8, Way),
-    /// The asker waits no longer; a session is told that there was no answer.
+    /// The asker no longer waits. A session handles that there was no answer.
     GiveUp(u8, Way),
-    /// A cell that nobody waits for is emptied.
+    /// Empties a cell that nobody waits for.
     Drop(u8, Way),
     /// The operator starts an update of a device with a package.
     Start(u8, usize),
     /// The operator cancels the update of a device.
     Cancel(u8),
-    /// The operator has a device activate what it applied.
+    /// The operator has a device activate the images that it applied.
     Activate(u8),
     /// A verdict on the image that a device has written.
     Verdict(u8, Verdict),
-    /// The session of a device, or the device, has waited too long.
+    /// The wait of a device's session, or of the device, times out.
     TimeOut(u8, Side),
-    /// The agent or a device starts anew.
+    /// Restarts the agent or a device.
     Restart(u8),
 }
 
 impl MessageStep {
-    /// The device of the step. A restart names a node, which may be the agent.
+    /// Returns the device of the step. A restart names a node, which may be the agent.
     pub(crate) fn device(&self) -> u8
         ensures { result ≡ device_of self.now }
     {
@@ -67,13 +67,13 @@ impl MessageStep {
     }
 }
 
-/// Why a step isn't taken. The world is then the one before it.
+/// The cause why a step isn't taken. The world is unchanged then.
 #[derive(Clone, Copy, Debug, PartialEq, Eq, Error)]
 pub enum MessageStepFault {
-    /// No such node; where a device is asked for, the agent is none.
+    /// There is no such node. The agent is none if the step needs a device.
     #[error("NoSuchNode")]
     NoSuchNode,
-    /// It isn't the time for such a step.
+    /// It isn't time for such a step.
     #[error("NotNow")]
     NotNow,
     /// The operator's call or the verdict is refused.

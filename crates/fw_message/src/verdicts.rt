@@ -1,4 +1,4 @@
-//! Verdicts on the image that a device has written, and the image that one applies.
+//! Verdicts on the image that a device has written, and the image that a verdict applies.
 
 ghost use Rattle.std.specs.Prelude.{[], ◌≡◌, ◌≤◌, ◌∷◌, Bool, IfSome, None, is_some, length, map, option_to_list, vec_capacity};
 ghost use Rattle.fd_core.specs.Images.{applied_of, row_of};
@@ -13,7 +13,7 @@ use crate::lending::image_in;
 use fd_core::{Bank, Device, Key, Progress, State, Verdict};
 use fw_package::Package;
 
-/// Whether a device waits for this verdict: VERIFY and APPLY wait for one each, while they are in progress.
+/// Whether a device waits for this verdict: VERIFY and APPLY wait for one each, while in progress.
 pub fn awaits<B: Bank>(device: &Device<B>, verdict: Verdict) -> bool
     ensures { (works : Bool) → is_some (device_verdict device.now.device verdict works) ≡ result }
 {
@@ -37,7 +37,7 @@ pub fn awaits<B: Bank>(device: &Device<B>, verdict: Verdict) -> bool
     }
 }
 
-/// The bytes of the image that a verdict applies: those staged where it is ApplyOk, and else 0.
+/// Returns the bytes of the image that a verdict applies: those staged for ApplyOk, else 0.
 pub fn room_for<B: Bank>(device: &Device<B>, verdict: Verdict) -> usize
     ensures exact { result ≡ room_of verdict (staged_of device.now.device.phase) }
     ensures enough { verdict ≡ Verdict.ApplyOk → IfSome (staged_of device.now.device.phase) (λ s. s.1 ≤ result) }
@@ -48,8 +48,8 @@ pub fn room_for<B: Bank>(device: &Device<B>, verdict: Verdict) -> usize
     }
 }
 
-/// The image that is applied for a component, copied into room that is empty unless a package lends its bytes; None where there is
-/// none, or not the room.
+/// Returns the image that is applied for a component, copied into `room` unless a package has its
+/// bytes. `None` if there is no image, or the room is too small. The room must be empty.
 pub fn copied<'a, B: Bank>(
     packages: &'a [Package<'a>],
     bank: &B,

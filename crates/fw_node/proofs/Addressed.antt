@@ -1,4 +1,4 @@
--- What a half sends goes to its peer.
+-- The packets that a half sends go to its peer.
 use Rattle.std.proofs.Common.{◌≡◌, ◌+◌, ℕ, zero, suc, Bool, true, false, List, [], ◌∷◌, drop, length, map, nat_le, take, inl, inr, Option, Some, None, refl, sym, subst, arith}
 use Rattle.std.specs.List.{AllByRecursion}
 use Rattle.fw_package.specs.Package.{PackageText}
@@ -22,7 +22,7 @@ use Rattle.std.proofs.lemmas.Bool.Decides.{eqb_tells}
 use Rattle.std.proofs.lemmas.List.{append-nil}
 use Rattle.fw_node.specs.declared.half.Half.{Half}
 
--- each piece of a message goes where the message goes
+-- each piece of a message has the message's destination
 first_if : (last : Bool) (r : Route) (n : ℕ) (bytes : List ℕ) (ps : List (List ℕ)) → AllByRecursion (IsPacketFor r.dest) ps
     → AllByRecursion (IsPacketFor r.dest) (spelling_of (piece r n last bytes) ∷ ps)
 first_if last r n bytes ps rest = (refl, rest)

@@ -1,4 +1,4 @@
--- What a tick asks to be sent again, by the message of the open request.
+-- The message that a tick sends again, from the message of the open request.
 use Rattle.std.proofs.Common.{◌≡◌, [], ◌∷◌, Option, Some, None, refl}
 use Rattle.std.specs.Option.{option_map}
 use Rattle.mctp_reasm.specs.Pieces.{MessageOf}

@@ -1,4 +1,4 @@
--- A tick of the agent, as the code goes.
+-- A tick of the agent, in the order of the code.
 use Rattle.std.proofs.Common.{◌≡◌, ◌∙◌, ◌-◌, ◌+◌, ◌<◌, ◌≤◌, ℕ, true, List, [], ◌∷◌, ◌++◌, flat_map, map, take, length, get_or, inl, inr, refl, sym, ap, arith}
 use Rattle.std.proofs.lemmas.Bool.{cases_lt, le-leb, lt-leb, ne_eqb}
 use Rattle.std.proofs.lemmas.List.{take_more}
@@ -19,7 +19,7 @@ use Rattle.fw_node.proofs.NodeTicks.{hearing_tick, packets_behind}
 use Rattle.fw_node.specs.declared.identity.Identity.{Identity}
 use Rattle.fw_node.specs.declared.half.Half.{Half}
 
--- the log after one half more
+-- the log after one more half
 notes_append : (part : HalfOf TimedOf → HalfOf TimedOf) (now : ℕ) (log : LogOf) (hs : List (HalfOf TimedOf)) (h : HalfOf TimedOf)
     → log_after_part part now log (hs ++ h ∷ []) ≡ log_with_event (log_after_part part now log hs) now h.peer h.core (part h).core
 notes_append part now log [] h = refl
@@ -33,7 +33,7 @@ notes_more part now log before after hs i h lt is was e =
     ∙ ap (λ x. log_after_part part now log (take i hs ++ x ∷ [])) is
     ∙ ap (log_after_part part now log) (sym (take_more hs i h lt))
 
--- what grows older doesn't depend on how long the agent was deaf
+-- aging doesn't depend on for how long the agent was deaf
 pub grown_any : (packages : List PackageText) (a b : ℕ) (ps : List (Half TimedOf)) → map (session_half_aged packages) (map (half_in a) ps) ≡ map (session_half_aged packages) (map (half_in b) ps)
 grown_any packages a b [] = refl
 grown_any packages a b (p ∷ ps) = ap (λ hs. session_half_aged packages (half_in a p) ∷ hs) (grown_any packages a b ps)
@@ -48,7 +48,7 @@ notes_any packages now a b log [] = refl
 notes_any packages now a b log (p ∷ ps) =
     notes_any packages now a b (log_with_event log now p.ends.asking.peer p.core (session_half_aged packages (half_in a p)).core) ps
 
--- a deaf agent counts the tick alone
+-- a deaf agent only counts the tick
 deaf_half : (packages : List PackageText) (deaf : ℕ) (p : Half TimedOf) → 1 < deaf → half_in (deaf - 1) p ≡ (half_ticks (session_core packages) true (half_in deaf p)).half
 deaf_half packages deaf p more = rw (lt-leb deaf 1 more, ne_eqb (deaf - 1) 0 (λ e. absurd (omega (arith, e, more)))) refl
 
@@ -59,7 +59,7 @@ deaf_halves packages deaf (p ∷ ps) more =
     ap (λ h. h ∷ map (half_in (deaf - 1)) ps) (deaf_half packages deaf p more)
     ∙ ap (λ hs. (half_ticks (session_core packages) true (half_in deaf p)).half ∷ hs) (deaf_halves packages deaf ps more)
 
--- all halves start anew
+-- all halves restart
 halves_made : (e f : EndsOf) (c d : TimedOf) → e ≡ f → c ≡ d → ◌≡◌ {A = Half TimedOf} (record { ends = e; core = c }) (record { ends = f; core = d })
 halves_made e f c d p q = rw (p, q) refl
 
@@ -84,7 +84,7 @@ deaf_ticks packages now deaf d l ps more =
     rw (lt-leb deaf 1 more)
     (ap (λ hs. record { endpoint = d.endpoint; tid = d.tid; deaf = deaf - 1; halves = hs; log = l }) (deaf_halves packages deaf ps more))
 
--- a tick of an agent that hears, by what each loop leaves
+-- a tick of an agent that hears, from the results of both loops
 pub hearing_ticks : (packages : List PackageText) (now deaf : ℕ) (d : Identity) (l log last : LogOf) (ps qs rs : List (Half TimedOf)) → deaf ≤ 1
     → map (half_in 0) qs ≡ map (session_half_aged packages) (map (half_in 0) ps) → map (half_in 0) rs ≡ map (session_half_after packages) (map (half_in 0) qs)
     → log ≡ log_after_part (session_half_aged packages) now l (map (half_in 0) ps) → last ≡ log_after_part (session_half_idle packages) now log (map (half_in 0) qs)
@@ -103,7 +103,7 @@ hearing_sends packages deaf d l sent last ps qs few grows first second =
     let again : sent ≡ flat_map again_packets (map (half_in deaf) ps) = first ∙ again_any 0 deaf ps in
     rw (le-leb deaf 1 few, second, all, again) refl
 
--- The parts of a tick, one after the other, are the tick of each half.
+-- The parts of a tick, in order, are the tick of each half.
 ticked_half : (packages : List PackageText) (deaf : ℕ) (p : Half TimedOf) → deaf ≤ 1
     → session_half_after packages (session_half_aged packages (half_in deaf p)) ≡ (half_ticks (session_core packages) true (half_in deaf p)).half
 ticked_half packages deaf p few = ap (λ t. t.half) (sym (hearing_tick (session_core packages) (half_in deaf p) few few))
@@ -128,7 +128,7 @@ ticked_sent packages deaf p few =
     ap (λ t. all_packets p.ends.asking.unit t.sent) (hearing_tick (session_core packages) (half_in deaf p) few few)
     ∙ packets_behind p.ends.asking.unit (sent_by (caller_tick p.ends.asking.caller).1) (half_waits (session_core packages) (half_grows (session_core packages) (half_in deaf p))).sent
 
--- what is sent doesn't depend on how long the agent was deaf
+-- the packets sent don't depend on for how long the agent was deaf
 pub addressed_any : (packages : List PackageText) (deaf : ℕ) (ps : List (Half TimedOf)) → deaf ≤ 1 → AllByRecursion (IsAddressed packages) (map (half_in 0) ps)
     → AllByRecursion (IsAddressed packages) (map (half_in deaf) ps)
 addressed_any packages deaf [] few all = tt

@@ -1,4 +1,5 @@
--- What a packet is for a device's half depends on whether the bank works exactly where the packet calls the bank.
+-- The outcome of a packet for a device's half depends on whether the bank works exactly if the packet
+-- calls the bank.
 use Rattle.std.proofs.Common.{ℕ, ◌≡◌, ◌∷◌, [], ◌==◌, ◌&&◌, Bool, true, false, List, Option, Result, Ok, Err, refl}
 use Rattle.mctp_reasm.specs.Held.{Held}
 use Rattle.mctp_reasm.specs.Pieces.{MessageOf}

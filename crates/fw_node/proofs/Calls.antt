@@ -1,4 +1,4 @@
--- The operator's calls of the agent, by what they make of one of its halves.
+-- The operator's calls of the agent, from those of one of its halves.
 use Rattle.std.proofs.Common.{◌≡◌, ◌∙◌, ℕ, List, map, slice_get, slice_set, Option, Some, None, is_some, true, refl, sym, ap}
 use Rattle.std.specs.Option.{option_map}
 use Rattle.std.proofs.lemmas.List.{map-set}
@@ -28,7 +28,7 @@ pub known_found : (o : Option (HalfOf TimedOf)) → is_some o ≡ true → o ≡
 known_found None known lost = absurd (cc)
 known_found (Some h) known lost = absurd (cc)
 
--- a call of the part there
+-- a call of the half there
 put_there : (deaf now place : ℕ) (d : Identity) (l : LogOf) (ps : List (Half TimedOf)) (call : Half TimedOf → Half TimedOf) (step : HalfOf TimedOf → HalfOf TimedOf) (o : Option (Half TimedOf))
     → ((p : Half TimedOf) → half_in deaf (call p) ≡ step (half_in deaf p))
     → ◌≡◌ {A = AgentOf}
@@ -50,7 +50,7 @@ called_there deaf now eid place d l ps call step is same =
     ∙ ap (becomes_at (agent_of deaf d l ps) now step (Some place)) (sym (half_found deaf d l ps eid place is))
     ∙ ap (λ o. becomes_at (agent_of deaf d l ps) now step o (half_for (agent_of deaf d l ps) eid)) (is ∙ place_any 0 deaf ps eid)
 
--- the same, by what the code leaves
+-- the same, from the values that the code leaves
 pub calls_place : (deaf now eid place : ℕ) (d : Identity) (l log : LogOf) (ps qs : List (Half TimedOf)) (call : Half TimedOf → Half TimedOf) (step : HalfOf TimedOf → HalfOf TimedOf)
     → Some place ≡ place_of (map (half_in 0) ps) eid
     → ((p : Half TimedOf) → half_in deaf (call p) ≡ step (half_in deaf p))
@@ -85,7 +85,7 @@ pub ready_nobody : (deaf eid : ℕ) (d : Identity) (l : LogOf) (ps : List (Half 
     → ready_for (agent_of deaf d l ps) eid ≡ None
 ready_nobody deaf eid d l ps is = ap ready_in (half_lost deaf d l ps eid is)
 
--- an activation, where it is ready
+-- an activation, if the session is ready
 activated_there : (packages : List PackageText) (deaf now eid place : ℕ) (d : Identity) (l log : LogOf) (ps qs : List (Half TimedOf)) (o : Option SessionOf)
     → Some place ≡ place_of (map (half_in 0) ps) eid
     → option_map (λ s. halves_called ps place (half_activated packages s)) o ≡ Some qs

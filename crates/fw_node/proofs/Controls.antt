@@ -3,7 +3,7 @@ use Rattle.std.proofs.Common.{◌≡◌, ◌≤◌, ◌∷◌, [], ℕ, List, So
 use Rattle.mctp_reasm.specs.Pieces.{MessageOf}
 use Rattle.fw_node.specs.Nodes.{control_message, control_sent}
 
--- it has a byte at least
+-- a control answer has at least a byte
 pub some_control : (m : MessageOf) (bytes : List ℕ) → 1 ≤ length bytes → control_sent m (Some bytes) ≡ control_message m bytes ∷ []
 some_control m [] h = absurd (omega arith)
 some_control m (b ∷ bs) h = refl

@@ -1,4 +1,4 @@
--- What a packet makes of the agent, by what it makes of one of its halves.
+-- The agent after a packet, from one of its halves after it.
 use Rattle.std.proofs.Common.{◌≡◌, ◌∙◌, ℕ, true, List, Some, map, slice_set, refl, ap}
 use Rattle.std.proofs.lemmas.List.{map-set}
 use Rattle.mctp_ctl.specs.declared.answers.Endpoint.{Endpoint}

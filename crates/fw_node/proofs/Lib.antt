@@ -1,28 +1,28 @@
 -- The proofs of the nodes, in reading order.
 --
--- A PACKET at a half, and what its node answers by itself.
--- - `Rows`: what a packet brings to both ends, by their rows.
--- - `Readings`: what a packet is for a node depends on what its bytes read as alone.
--- - `NodeHears`: what a packet is for a half that hears, by what it brings.
--- - `HalfHears`: what a packet makes of the agent, by what it makes of one of its halves.
--- - `NodeServes`: what a node makes of a firmware update request.
+-- A PACKET at a half, and the answers of its node.
+-- - `Rows`: the content of a packet, from the rows of both ends.
+-- - `Readings`: a node's outcome depends only on the packet that the bytes decode to.
+-- - `NodeHears`: the outcome of a packet for a half that hears, from its content.
+-- - `HalfHears`: the agent after a packet, from one of its halves after it.
+-- - `NodeServes`: a node's answer to a firmware update request.
 -- - `Controls`: the answer to a control message.
--- - `Working`: where a bank isn't called, nothing depends on whether its call works.
--- - `BankCalls`: where it is called, all depends on that.
+-- - `Working`: if a bank isn't called, nothing depends on whether its call works.
+-- - `BankCalls`: if it is called, the outcome depends on that.
 --
 -- A TICK of a half, and of the agent with all its halves.
--- - `Again`: what a tick asks to be sent again, by the message of the open request.
--- - `NodeTicks`: a tick of a half, as the code goes.
--- - `OneATick`: a half sends one message a tick at most: after a repeat the request is open, or it was given up and its tag
---   rests.
--- - `AgentTicks`: a tick of the agent, as the code goes.
--- - `Addressed`: what a half sends goes to its peer.
--- - `Pushed`: the packets of a message, put behind others one by one.
--- - `Loops`: a loop that changes each element and sends what each gives.
+-- - `Again`: the message that a tick sends again, from the message of the open request.
+-- - `NodeTicks`: a tick of a half, in the order of the code.
+-- - `OneATick`: a half sends at most one message a tick: after a repeat the request is open, or it
+--   was given up and its tag rests.
+-- - `AgentTicks`: a tick of the agent, in the order of the code.
+-- - `Addressed`: the packets that a half sends go to its peer.
+-- - `Pushed`: the packets of a message, appended one by one.
+-- - `Loops`: a loop that changes each element and sends the packets of each.
 --
 -- THE OPERATOR'S CALLS.
 -- - `Places`: places among the agent's halves.
--- - `Calls`: the operator's calls of the agent, by what they make of one of its halves.
+-- - `Calls`: the operator's calls of the agent, from those of one of its halves.
 mod Addressed
 mod Again
 mod AgentTicks

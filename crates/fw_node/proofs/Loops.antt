@@ -1,4 +1,4 @@
--- A loop that changes each element and sends what each gives.
+-- A loop that changes each element and sends the packets of each.
 use Rattle.std.proofs.Common.{◌≡◌, ◌∙◌, ◌<◌, ◌≤◌, ◌+◌, ◌*◌, ℕ, zero, suc, List, [], ◌∷◌, ◌++◌, map, take, drop, flat_map, length, get_or, slice_get, slice_set, Some, sym, ap, subst, arith}
 use Rattle.std.specs.List.{AllByRecursion}
 use Rattle.std.proofs.Math.ListN.{get_or-map}
@@ -6,7 +6,7 @@ use Rattle.std.proofs.lemmas.List.Edits.{map_over_more}
 use Rattle.std.proofs.lemmas.Grind.{flat_map-append}
 use Rattle.std.proofs.lemmas.List.{append-nil, append_assoc, length-append, length-map, map-append, map-set, take-append-drop, take_all, length-take, drop_more, get_or_at, take_more}
 
--- the element at hand is as it was
+-- the current element is unchanged so far
 pub read_over : {X : Type 0} (f : X → X) (xs ys : List X) (i : ℕ) (x : X) → i < length xs → ys ≡ map f (take i xs) ++ drop i xs → x ≡ get_or ys i x → x ≡ get_or xs i x
 read_over f xs ys i x lt h is =
     let front = map f (take i xs) in
@@ -14,7 +14,7 @@ read_over f xs ys i x lt h is =
     let parts : ys ≡ front ++ get_or xs i x ∷ drop (i + 1) xs = h ∙ ap (λ l. front ++ l) (drop_more xs i x lt) in
     is ∙ ap (λ l. get_or l i x) parts ∙ get_or_at front _ _ x i long
 
--- what is sent grows by what it gives
+-- the packets sent grow by those of the current element
 pub sends_more : {X Y : Type 0} (g : X → List Y) (xs : List X) (i : ℕ) (x : X) (out before now : List Y) → i < length xs → x ≡ get_or xs i x
     → before ≡ out ++ flat_map g (take i xs) → now ≡ before ++ g x → now ≡ out ++ flat_map g (take (i + 1) xs)
 sends_more g xs i x out before now lt is h e =
@@ -22,7 +22,7 @@ sends_more g xs i x out before now lt is h e =
     ∙ ap (λ y. out ++ (flat_map g (take i xs) ++ g y)) is
     ∙ ap (λ l. out ++ l) (sym (ap (flat_map g) (take_more xs i x lt) ∙ flat_map-append g (take i xs) (get_or xs i x ∷ []) ∙ ap (λ l. flat_map g (take i xs) ++ l) (append-nil (g (get_or xs i x)))))
 
--- A loop over parts, seen as halves: the part at hand is done.
+-- A loop over parts, seen as halves: the current part is done.
 pub done_more : {P H : Type 0} (f : P → H) (g : H → H) (ps qs : List P) (i : ℕ) (x new : P) → i < length ps → x ≡ get_or qs i x
     → map f qs ≡ map g (take i (map f ps)) ++ drop i (map f ps) → f new ≡ g (f x)
     → map f (slice_set qs i new) ≡ map g (take (i + 1) (map f ps)) ++ drop (i + 1) (map f ps)
@@ -31,7 +31,7 @@ done_more f g ps qs i x new lt is h e =
     let here : f x ≡ get_or (map f qs) i (f x) = ap f is ∙ sym (get_or-map f qs i x) in
     map-set f qs i new ∙ ap (slice_set (map f qs) i) e ∙ map_over_more g (map f ps) (map f qs) i (f x) (omega (arith, long, lt)) h here
 
--- the half at hand is as it was
+-- the current half is unchanged so far
 pub half_was : {P H : Type 0} (f : P → H) (g : H → H) (ps qs : List P) (i : ℕ) (x : P) → i < length ps → x ≡ get_or qs i x
     → map f qs ≡ map g (take i (map f ps)) ++ drop i (map f ps) → f x ≡ get_or (map f ps) i (f x)
 half_was f g ps qs i x lt is h =
@@ -45,7 +45,8 @@ at_place f [] i x lt is = absurd (omega arith)
 at_place f (p ∷ ps) zero x lt is = ap (λ y. Some (f y)) (sym is)
 at_place f (p ∷ ps) (suc i) x lt is = at_place f ps i x (omega arith) is
 
--- What is sent takes no more room than what was counted before: here four places each, of what each will send later.
+-- The packets sent take no more room than was counted for them before: four places for each later
+-- message.
 later_more : {X Y : Type 0} (g : X → List Y) (xs : List X) (i : ℕ) (x : X) → i < length xs → x ≡ get_or xs i x
     → length (flat_map g (take (i + 1) xs)) ≡ length (flat_map g (take i xs)) + length (g x)
 later_more g xs i x lt is =
@@ -57,7 +58,7 @@ pub room_more : {X Y : Type 0} (g : X → List Y) (xs : List X) (i : ℕ) (x : X
     → before ≤ out + 4 * length (flat_map g (take i xs)) → now ≤ before + 4 * length (g x) → now ≤ out + 4 * length (flat_map g (take (i + 1) xs))
 room_more g xs i x out before now lt is h e = let more = later_more g xs i x lt is in omega (arith, h, e, more)
 
--- and there is room for one more
+-- there is room for one more
 pub room_for : {X Y : Type 0} (g : X → List Y) (xs : List X) (i : ℕ) (x : X) (out before most : ℕ) → i < length xs → x ≡ get_or xs i x
     → before ≤ out + 4 * length (flat_map g (take i xs)) → out + 4 * length (flat_map g xs) ≤ most → before + 4 * length (g x) ≤ most
 room_for g xs i x out before most lt is h all =
@@ -84,7 +85,7 @@ fits_all g f xs i out now end within h =
     let whole = ap (λ l. length (flat_map g (map f l))) (take_all i xs end) in
     omega (arith, h, whole, within)
 
--- what holds of each element so far, and of the next one
+-- a property of each element so far, and of the next
 holds_more : {A : Type 0} (P : A → Type 0) (xs : List A) (x : A) → AllByRecursion P xs → P x → AllByRecursion P (xs ++ x ∷ [])
 holds_more P [] x all is = (is, tt)
 holds_more P (y ∷ xs) x all is = (all.0, holds_more P xs x all.1 is)

@@ -1,4 +1,4 @@
--- What a packet is for a half that hears, and whether it has its bank called, by what it brings.
+-- The outcome of a packet for a half that hears, and whether it calls the bank, from its content.
 use Rattle.std.proofs.Common.{◌≡◌, ◌∙◌, ◌==◌, ℕ, Bool, true, false, List, Option, Result, Ok, Err, refl, sym, ap}
 use Rattle.mctp_reasm.specs.Held.{Held}
 use Rattle.mctp_reasm.specs.Pieces.{MessageOf}
@@ -14,11 +14,11 @@ use Rattle.fw_node.specs.Halves.{CoreOf, HalfOf, IncomingOf, answering_after, ha
 use Rattle.mctp_wire.specs.declared.unit.Unit.{«Unit»}
 use Rattle.fw_node.specs.Nodes.{half_of}
 
--- the ends after a packet of these rows
+-- the ends after a packet with these rows
 abbrev pub ends_after : EndsOf → AskerRow → TakerRow → EndsOf
 ends_after e asker taker = record { asking = asking_after e.asking asker; answering = answering_after asker e.answering taker }
 
--- what is held of requests is put once or twice
+-- setting the held requests twice is setting them once
 read_alike : {C : Type 0} (core : CoreOf C) (quiet works : Bool) (h : HalfOf C) (requests : List (Option Held)) (m : MessageOf) (head : PldmHead) (read : Result CommandOf ℕ)
     → takes_read core quiet works h requests m head read ≡ takes_read core quiet works (record h { taker = record h.taker { requests = requests } }) requests m head read
 read_alike core quiet works h requests m head (Ok c) = refl
@@ -52,7 +52,7 @@ hearing_brings core works c e bytes unit own peer =
     ap (half_on_rows core works (half_of 0 c e) (asking_row e.asking bytes)) (taker_is e.asking.unit e.asking.own e.asking.peer e.answering bytes unit own peer)
     ∙ rows_bring core works 0 c e (asking_row e.asking bytes) (answering_row e.answering bytes)
 
--- the same, by what its ends say
+-- the same, from the content that its ends found
 pub hears_brings : {C : Type 0} (core : CoreOf C) (works : Bool) (c : C) (e new : EndsOf) (bytes : List ℕ) (i : IncomingOf)
     → e.answering.unit ≡ e.asking.unit → e.answering.own ≡ e.asking.own → e.answering.peer ≡ e.asking.peer
     → i ≡ incoming (asking_row e.asking bytes) (answering_row e.answering bytes)
@@ -67,7 +67,7 @@ hears_brings core works c e new bytes i unit own peer brings asking answering =
     ∙ ap (λ y. half_on_incoming core works (half_of 0 c (record { asking = new.asking; answering = y })) (incoming arow trow)) (sym answering)
     ∙ ap (half_on_incoming core works (half_of 0 c new)) (sym brings)
 
--- Whether the bank is called doesn't depend on what the ends hold of packets.
+-- whether the bank is called doesn't depend on the packets that the ends hold
 rows_call : {C : Type 0} (core : CoreOf C) (deaf : ℕ) (c : C) (e : EndsOf) (asker : AskerRow) (taker : TakerRow)
     → incoming_calls_bank core (half_of deaf c e) (incoming asker taker) ≡ incoming_calls_bank core (half_of deaf c (ends_after e asker taker)) (incoming asker taker)
 rows_call core deaf c e (AskerRow.Learns replies caller heard) taker = refl
@@ -83,7 +83,7 @@ calling_brings core c e bytes unit own peer =
     ap (λ row. incoming_calls_bank core (half_of 0 c e) (incoming (asking_row e.asking bytes) row)) (taker_is e.asking.unit e.asking.own e.asking.peer e.answering bytes unit own peer)
     ∙ rows_call core 0 c e (asking_row e.asking bytes) (answering_row e.answering bytes)
 
--- nor on what was answered
+-- nor on the answers that they keep
 caller_alone : {C : Type 0} (core : CoreOf C) (c : C) (e : EndsOf) (answering : AnsweringOf) (i : IncomingOf)
     → incoming_calls_bank core (half_of 0 c (record e { answering = answering })) i ≡ incoming_calls_bank core (half_of 0 c e) i
 caller_alone core c e answering IncomingOf.Nothing = refl
@@ -92,7 +92,7 @@ caller_alone core c e answering (IncomingOf.Again answer) = refl
 caller_alone core c e answering (IncomingOf.New r) = refl
 caller_alone core c e answering (IncomingOf.Strays m) = refl
 
--- the same, by what its ends say
+-- the same, from the content that its ends found
 pub calls_brings : {C : Type 0} (core : CoreOf C) (c : C) (e new : EndsOf) (bytes : List ℕ) (i : IncomingOf)
     → e.answering.unit ≡ e.asking.unit → e.answering.own ≡ e.asking.own → e.answering.peer ≡ e.asking.peer
     → i ≡ incoming (asking_row e.asking bytes) (answering_row e.answering bytes)

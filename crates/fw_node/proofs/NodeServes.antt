@@ -1,4 +1,4 @@
--- What a node makes of a firmware update request.
+-- A node's answer to a firmware update request.
 use Rattle.std.proofs.Common.{◌≡◌, ◌∷◌, [], ℕ, Bool, List, Result, Ok, Err, refl}
 use Rattle.std.proofs.lemmas.Bool.{eq-eqb}
 use Rattle.mctp_ctl.specs.declared.answers.Endpoint.{Endpoint}
@@ -9,7 +9,7 @@ use Rattle.fwup_wire.specs.Values.{CommandOf}
 use Rattle.fw_node.specs.Halves.{CoreOf, HalfOf, IncomingOf, half_on_incoming, read_by, reply_read, half_after_settle, takes_read}
 use Rattle.fw_node.specs.Nodes.{node_outcome_of, half_after_reply}
 
--- a half whose core took what was read, and answered it
+-- a half whose core took the decoded command, and answered it
 abbrev pub answered_half : {C : Type 0} → CoreOf C → HalfOf C → RequestOf → C → List ℕ → HalfOf C
 answered_half core h r c reply = half_after_settle core (half_after_reply (record h { core = c }) (reply_message r.message r.head reply))
 

@@ -1,4 +1,4 @@
--- A tick of a half, as the code goes.
+-- A tick of a half, in the order of the code.
 use Rattle.std.proofs.Common.{◌≡◌, ◌∙◌, ◌≤◌, ◌++◌, [], Bool, true, false, List, Option, Some, None, refl}
 use Rattle.std.proofs.lemmas.Bool.{le-leb}
 use Rattle.std.proofs.lemmas.List.{append-nil}
@@ -11,7 +11,7 @@ use Rattle.fw_node.specs.Halves.{CoreOf, HalfOf, Ticked, half_with_older_ends, b
 use Rattle.mctp_wire.specs.declared.unit.Unit.{«Unit»}
 use Rattle.fw_node.specs.Packets.{all_packets, packets_of, sent_by}
 
--- what was sent before stands before what is sent at last
+-- the messages sent before come before the messages sent last
 abbrev pub behind : {C : Type 0} → List MessageOf → Ticked C → Ticked C
 behind ms t = record { half = t.half; sent = ms ++ t.sent }
 

@@ -1,4 +1,5 @@
--- A half sends one message a tick at most: after a repeat the request is open, or it was given up and its tag rests.
+-- A half sends at most one message a tick: after a repeat the request is open, or it was given up
+-- and its tag rests.
 use Rattle.std.proofs.Common.{◌≡◌, ◌∙◌, ◌+◌, ◌-◌, ◌⊎◌, ◌≤◌, ◌<◌, ◌%◌, ℕ, Bool, true, false, List, [], get_or, length, slice_set, Option, Some, None, is_none, inl, inr, refl, ap, arith}
 use Rattle.std.proofs.lemmas.Bool.Decides.{eqb_tells}
 use Rattle.std.proofs.lemmas.List.{get_or-set_same, length-map, length-set}
@@ -20,7 +21,7 @@ pub bool_cases : (b : Bool) → (b ≡ true) ⊎ (b ≡ false)
 bool_cases true = inl refl
 bool_cases false = inr refl
 
--- what is true of the requests stays true
+-- the invariant of the requests is kept
 tag_of : (n : ℕ) → n % 8 ≡ ((n + 1) % 32 + 31) % 32 % 8
 tag_of n = omega arith
 
@@ -87,7 +88,7 @@ tick_is c h = ticked_is c c.asked h refl
 
 pub ruleset callers_stay = (fresh_is, begun_is, hears_is, settled_is, tick_is)
 
--- a request that was just sent again: none may begin beside it, whether it goes on or is given up
+-- after a repeat no other request may begin, whether that request stays open or is given up
 busy : (b : Bool) (c : CallerState) → c.answered ≡ false → rest_at c (last_tag c) ≡ 40 → is_none c.asked ≡ false → may_begin (kept_if b c) ≡ false
 busy true c waits rest asked = rw asked refl
 busy false c waits rest asked = rw (waits, rest) refl
@@ -99,7 +100,7 @@ again_busy wish c o h tag waits =
     busy (still_wished wish (open_after_tick o)) (again c o) waits
     (ap (λ t. get_or (slice_set (rests_after_tick c.rests) t 40) (last_tag c) 0) tag ∙ get_or-set_same (rests_after_tick c.rests) (last_tag c) 40 0 low) refl
 
--- then nothing is sent at last
+-- then no message is sent last
 none_begun : {C : Type 0} (wish : Option CommandOf) (h : HalfOf C) → may_begin h.asker.caller ≡ false → length (begins_wish wish h []).sent ≡ 0
 none_begun None h e = refl
 none_begun (Some c) h e = rw e refl
@@ -115,7 +116,7 @@ one_begun (Some c) h = one_if (may_begin h.asker.caller) h c
 pub one_last : {C : Type 0} (core : CoreOf C) (h : HalfOf C) → length (last_part core h []).sent ≤ 1
 one_last core h = one_begun (core.wish h.core) (with_caller h (unwished_abandoned (core.wish h.core) h.asker.caller))
 
--- and one is sent again at most
+-- and at most one is sent again
 pub one_sent : (call : CallTickOf) → length (sent_by call) ≤ 1
 one_sent CallTickOf.Nothing = omega arith
 one_sent (CallTickOf.Send m) = omega arith

@@ -1,4 +1,4 @@
--- The packets of a message, put behind others one by one.
+-- The packets of a message, appended one by one.
 use Rattle.std.proofs.Common.{◌≡◌, ◌∙◌, ◌+◌, ◌++◌, ◌≤◌, ℕ, zero, suc, List, [], ◌∷◌, drop, length, map, slice_get, take, inl, inr, Some, None, sym, ap, arith, append_assoc}
 use Rattle.std.proofs.lemmas.Bool.{cases_lt, le-leb, lt-leb}
 use Rattle.std.proofs.lemmas.List.{take_all, take_more}
@@ -23,7 +23,7 @@ few_from u (suc most) r n bytes = elim (cases_lt (bytes_of u) (length bytes)) [
 pub few : (u : «Unit») (m : MessageOf) → length (packets_of u m) ≤ MAX_PACKETS
 few u m = few_from u MAX_PACKETS (message_route m) 0 m.bytes
 
--- one more is there
+-- one more is appended
 pub pushed_more : (before now one_more : List (List ℕ)) (xs : List (List ℕ)) (i : ℕ) (x : List ℕ) → now ≡ before ++ take i xs → one_more ≡ now ++ x ∷ [] → Some x ≡ slice_get xs i
     → one_more ≡ before ++ take (i + 1) xs
 pushed_more before now one_more xs i x is more there =
@@ -31,7 +31,7 @@ pushed_more before now one_more xs i x is more there =
     let taken : take (i + 1) xs ≡ take i xs ++ x ∷ [] = take_more xs i x within ∙ ap (λ y. take i xs ++ y ∷ []) (get_or_from_slice_get xs i x x (sym there)) in
     more ∙ (ap (λ ys. ys ++ x ∷ []) is ∙ (append_assoc before (take i xs) (x ∷ []) ∙ ap (λ ys. before ++ ys) (sym taken)))
 
--- all are there
+-- all are appended
 past : (xs : List (List ℕ)) (i : ℕ) → None ≡ slice_get xs i → length xs ≤ i
 past [] i e = omega arith
 past (x ∷ xs) zero e = absurd (cc)

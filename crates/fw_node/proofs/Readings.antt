@@ -1,4 +1,4 @@
--- What a packet is for a node depends on what its bytes read as alone.
+-- A node's outcome depends only on the packet that the bytes decode to.
 use Rattle.std.proofs.Common.{◌≡◌, ◌∙◌, ◌==◌, ℕ, Bool, true, false, if◌then◌else◌, List, [], Option, Some, None, Result, Ok, Err, refl, sym, ap}
 use Rattle.mctp_wire.specs.Packet as wire
 use Rattle.mctp_wire.specs.Packet.{IsRead, spelling}
@@ -20,15 +20,15 @@ use Rattle.fw_node.specs.Cores.{device_core, session_core}
 use Rattle.fw_node.specs.Halves.{CoreOf, HalfOutcome, HalfOf, half_on_packet, half_on_rows, half_takes, incoming}
 use Rattle.fw_node.specs.Nodes.{DeviceNodeOf, device_on_packet, node_outcome_of}
 
--- both read alike at each unit
+-- both byte strings decode alike at each unit
 abbrev pub ReadAlike : List ℕ → List ℕ → Type 0
 ReadAlike a b = (u : «Unit») → wire.packet_of u a ≡ wire.packet_of u b
 
--- a packet that was read reads at the greater unit, whichever unit it was read at
+-- a decoded packet decodes at the greater unit too, whichever unit it was decoded at
 pub spelling_reads : (p : Packet) → IsRead p → any_packet (spelling p) ≡ Ok (p.head, p.body.now)
 spelling_reads p r = spelling_fits U128 p r r.few
 
--- a half, by what its ends make of what was read
+-- a half's outcome, from the rows of its ends for a decoded packet
 abbrev half_reads : {C : Type 0} → CoreOf C → (works : Bool) → HalfOf C → Result (Head × List ℕ) WireFault → HalfOutcome C
 half_reads core works h r =
     half_on_rows core works h
@@ -38,7 +38,7 @@ half_reads core works h r =
 pub half_alike : {C : Type 0} (core : CoreOf C) (works : Bool) (h : HalfOf C) (a b : List ℕ) → ReadAlike a b → half_on_packet core works h a ≡ half_on_packet core works h b
 half_alike core works h a b alike = ap (half_reads core works h) (alike h.unit)
 
--- whether it has its bank called, likewise
+-- whether it calls its bank, likewise
 abbrev calls_read : {C : Type 0} → CoreOf C → HalfOf C → Result (Head × List ℕ) WireFault → Bool
 calls_read core h r =
     incoming_calls_bank core h (incoming
@@ -48,7 +48,7 @@ calls_read core h r =
 pub calls_alike : {C : Type 0} (core : CoreOf C) (h : HalfOf C) (a b : List ℕ) → ReadAlike a b → packet_calls_bank core h a ≡ packet_calls_bank core h b
 calls_alike core h a b alike = ap (calls_read core h) (alike h.unit)
 
--- bytes that are no packet change nothing
+-- bytes that decode to no packet change nothing
 asker_unread : (b : Bool) (replies : List (Option Held)) → (if b then AskerRow.Ignores replies else AskerRow.Ignores replies) ≡ AskerRow.Ignores replies
 asker_unread true replies = refl
 asker_unread false replies = refl

@@ -1,4 +1,4 @@
--- What a packet brings to both ends, by their rows.
+-- The content of a packet, from the rows of both ends.
 use Rattle.std.proofs.Common.{◌≡◌, Some, None, refl}
 use Rattle.pldm_exch.specs.Caller.{ReplyInOf}
 use Rattle.pldm_exch.specs.Ends.{AnsweringOf, AskingOf}

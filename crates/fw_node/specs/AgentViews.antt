@@ -1,4 +1,4 @@
--- The agent and its halves, as the code has them.
+-- The views of the agent and its halves, from the code's types.
 use Rattle.std.specs.Prelude.{ℕ, List, map, slice_get, slice_set, Option, Some, None, Bool, if◌then◌else◌}
 use Rattle.fw_package.specs.Package.{PackageText}
 use Rattle.sel_core.specs.Log.{LogOf}
@@ -13,7 +13,7 @@ use Rattle.fw_node.specs.Notes.{log_with_event}
 use Rattle.fw_node.specs.declared.half.Half.{Half}
 use Rattle.fw_node.specs.declared.identity.Identity.{Identity}
 
--- a half of a node that is deaf for so long
+-- a half of a node that is deaf for `deaf` ticks
 abbrev pub half_in : {C : Type 0} → (deaf : ℕ) → Half C → HalfOf C
 half_in deaf h = half_of deaf h.core h.ends
 
@@ -21,7 +21,7 @@ abbrev pub agent_of : (deaf : ℕ) → Identity → LogOf → List (Half TimedOf
 agent_of deaf id log halves =
     record { endpoint = id.endpoint; tid = id.tid; deaf = deaf; halves = map (half_in deaf) halves; log = log }
 
--- a part that gave up what isn't wished
+-- a half after a request that is no longer the pending command is given up
 abbrev pub half_settled : List PackageText → Half TimedOf → Half TimedOf
 half_settled packages p =
     record p {
@@ -32,11 +32,11 @@ half_settled packages p =
       };
     }
 
--- a part whose session is this one after a call
+-- a half with this session after a call
 abbrev pub half_recast : List PackageText → Half TimedOf → TimedOf → Half TimedOf
 half_recast packages p s = half_settled packages (record p { core = s })
 
--- a part that started anew
+-- a half after a restart
 abbrev pub half_restarted : Half TimedOf → Half TimedOf
 half_restarted p =
     record {
@@ -44,7 +44,7 @@ half_restarted p =
       core = record { session = agent_restart p.core.session; idle = 0 };
     }
 
--- a part after each of the operator's calls
+-- a half after each of the operator's calls
 abbrev pub half_started : List PackageText → (number : ℕ) → Half TimedOf → Half TimedOf
 half_started packages number p =
     half_recast packages p (record { session = agent_started p.core.session number; idle = 0 })
@@ -59,7 +59,7 @@ half_cancelled packages p =
 abbrev pub half_activated : List PackageText → SessionOf → Half TimedOf → Half TimedOf
 half_activated packages s p = half_recast packages p (record { session = s; idle = 0 })
 
--- the parts after a call of the one at a place
+-- the halves after a call of the half at a place
 abbrev pub half_put : List (Half TimedOf) → (place : ℕ) → (Half TimedOf → Half TimedOf) → Option (Half TimedOf) → List (Half TimedOf)
 half_put ps place call None = ps
 half_put ps place call (Some p) = slice_set ps place (call p)
@@ -67,7 +67,7 @@ half_put ps place call (Some p) = slice_set ps place (call p)
 abbrev pub halves_called : List (Half TimedOf) → (place : ℕ) → (Half TimedOf → Half TimedOf) → List (Half TimedOf)
 halves_called ps place call = half_put ps place call (slice_get ps place)
 
--- the log after it: what happened to that session is noted
+-- the log after that call: the event of that session is noted
 abbrev pub half_noted : LogOf → (now : ℕ) → (Half TimedOf → Half TimedOf) → Option (Half TimedOf) → LogOf
 half_noted log now call None = log
 half_noted log now call (Some p) = log_with_event log now p.ends.asking.peer p.core (call p).core
@@ -75,7 +75,7 @@ half_noted log now call (Some p) = log_with_event log now p.ends.asking.peer p.c
 abbrev pub halves_noted : LogOf → (now : ℕ) → List (Half TimedOf) → (place : ℕ) → (Half TimedOf → Half TimedOf) → LogOf
 halves_noted log now ps place call = half_noted log now call (slice_get ps place)
 
--- whether the session there is free, and what it is after an activation, if it is ready for one
+-- whether the session there is free, and the session after an activation, if it is ready for one
 abbrev pub half_free : Option (Half TimedOf) → Option Bool
 half_free None = None
 half_free (Some p) = Some (is_free p.core.session)

@@ -21,7 +21,8 @@ use Rattle.fw_node.specs.Nodes.{NodeOutcome, node_outcome_of, half_of}
 use Rattle.fw_node.specs.Notes.{log_with_event}
 use Rattle.fw_node.specs.Packets.{all_packets, sent_by}
 
--- The agent: its endpoint, its terminus identifier, the ticks that it is still deaf, its halves, and the event log.
+-- The agent: its endpoint, its terminus identifier, the ticks for which it is still deaf, its
+-- halves, and the event log.
 pub record AgentOf : Type 0 where
   pub endpoint : Endpoint
   pub tid : ℕ
@@ -34,7 +35,8 @@ pub record IsDeafFor (deaf : ℕ) (h : HalfOf TimedOf) : Type 0 where
   pub asker : h.asker.deaf ≡ deaf
   pub taker : h.taker.deaf ≡ deaf
 
--- an agent as it is made, for the devices with these endpoint identifiers, in a network with this transmission unit
+-- a new half and a new agent for the devices with these endpoint identifiers, in a network with
+-- this transmission unit
 abbrev pub new_half : «Unit» → (own device : ℕ) → HalfOf TimedOf
 new_half u own device = half_of 0 (new_session u) (ends_new u own device)
 
@@ -42,7 +44,7 @@ abbrev pub new_agent : «Unit» → Endpoint → List ℕ → AgentOf
 new_agent u endpoint devices =
     record { endpoint = endpoint; tid = 0; deaf = 0; halves = map (new_half u endpoint.eid) devices; log = new_log }
 
--- the place of a device among the agent's halves, counted from a number on
+-- the place of a device among the agent's halves, with places counted from `n`
 abbrev pub place_from : ℕ → List (HalfOf TimedOf) → ℕ → Option ℕ
 place_from n [] eid = None
 place_from n (h ∷ hs) eid = if h.peer == eid then Some n else place_from (n + 1) hs eid
@@ -59,7 +61,7 @@ half_at hs (Some place) = slice_get hs place
 abbrev pub half_for : AgentOf → ℕ → Option (HalfOf TimedOf)
 half_for n eid = half_at n.halves (place_of n.halves eid)
 
--- an agent whose half at a place is this one now; what happened to its session is noted
+-- an agent with the half at a place replaced by `after`; the event of its session is noted
 abbrev pub half_becomes : AgentOf → (now place : ℕ) → (before after : HalfOf TimedOf) → AgentOf
 half_becomes n now place before after =
     record n { halves = slice_set n.halves place after; log = log_with_event n.log now before.peer before.core after.core }
@@ -81,11 +83,12 @@ agent_on_packet_at packages n bytes now (Some place) (Some h) =
     agent_outcome_of n now place h (node_outcome_of roles.Agent n.endpoint n.tid (half_on_packet (session_core packages) true h bytes))
 agent_on_packet_at packages n bytes now place h = agent_unmoved n
 
--- a packet of either transmission unit: who sent it can be read of both, and the half for that device drops what is too long
+-- a packet of either transmission unit: its source can be read in both, and the half for that
+-- device drops a packet that is too long
 abbrev pub any_packet : List ℕ → Result (Head × List ℕ) WireFault
 any_packet bytes = wire.packet_of U128 bytes
 
--- the place of the half that hears a packet: that of the device that sent it
+-- the place of the half that handles a packet: that of the device that sent it
 abbrev pub place_of_sender : List (HalfOf TimedOf) → Result (Head × List ℕ) WireFault → Option ℕ
 place_of_sender hs (Ok p) = place_of hs p.0.source
 place_of_sender hs (Err fault) = None
@@ -94,14 +97,15 @@ place_of_sender hs (Err fault) = None
 abbrev pub receiving_half : AgentOf → List ℕ → Option (HalfOf TimedOf)
 receiving_half n bytes = half_at n.halves (place_of_sender n.halves (any_packet bytes))
 
--- What a packet is for the agent: the half of the device that sent it hears it; a deaf agent drops every packet.
+-- The agent after a packet: the half of the device that sent it handles it. A deaf agent drops
+-- every packet.
 abbrev pub agent_on_packet : List PackageText → AgentOf → List ℕ → (now : ℕ) → AgentOutcome
 agent_on_packet packages n bytes now =
     if n.deaf == 0 then
     agent_on_packet_at packages n bytes now (place_of_sender n.halves (any_packet bytes)) (half_at n.halves (place_of_sender n.halves (any_packet bytes)))
     else agent_unmoved n
 
--- The parts of a tick of one of its halves, each in the general words of a half.
+-- the parts of a tick of one half, with the general definitions of a half
 abbrev pub silent_by : CallTickOf → TimedOf → List PackageText → TimedOf
 silent_by call s packages = core_after_give_up (session_core packages) call s
 
@@ -121,21 +125,22 @@ again_packets h = all_packets h.unit (sent_by (caller_tick h.asker.caller).1)
 abbrev pub ended_packets : List PackageText → HalfOf TimedOf → List (List ℕ)
 ended_packets packages h = all_packets h.unit (half_waits (session_core packages) h).sent
 
--- a packet is for this endpoint
+-- a packet that is for this endpoint
 abbrev pub IsPacketFor : ℕ → List ℕ → Type 0
 IsPacketFor eid packet = slice_get packet 1 ≡ Some eid
 
--- what a half sends in a tick: the packets of both parts, which go to its peer
+-- the packets that a half sends in a tick: those of both parts, which go to its peer
 pub record IsAddressed (packages : List PackageText) (h : HalfOf TimedOf) : Type 0 where
   pub sent : all_packets h.unit (half_ticks (session_core packages) true h).sent ≡ again_packets h ++ ended_packets packages (session_half_aged packages h)
   pub again : AllByRecursion (IsPacketFor h.peer) (again_packets h)
   pub begun : AllByRecursion (IsPacketFor h.peer) (ended_packets packages (session_half_aged packages h))
 
--- the messages of the requests that begin then
+-- the messages of the requests that begin in it
 abbrev pub begin_messages : List PackageText → HalfOf TimedOf → List MessageOf
 begin_messages packages h = (half_waits (session_core packages) h).sent
 
--- The log after a part of a tick, which is done for all halves in order: what happened to each session is noted.
+-- The log after a part of a tick, which is done for all halves in order: the event of each session
+-- is noted.
 abbrev pub log_after_part : (HalfOf TimedOf → HalfOf TimedOf) → (now : ℕ) → LogOf → List (HalfOf TimedOf) → LogOf
 log_after_part part now log [] = log
 log_after_part part now log (h ∷ hs) = log_after_part part now (log_with_event log now h.peer h.core (part h).core) hs
@@ -155,18 +160,20 @@ agent_ticks packages now n =
     }
     else record n { deaf = n.deaf - 1; halves = map (λ h. (half_ticks (session_core packages) true h).half) n.halves }
 
--- the packets that it sends in it
+-- the packets that it sends in the tick
 abbrev pub agent_tick_sends : List PackageText → AgentOf → List (List ℕ)
 agent_tick_sends packages n =
     if nat_le n.deaf 1 then flat_map again_packets n.halves ++ flat_map (ended_packets packages) (all_grown packages n)
     else []
 
--- An agent after a restart: it is deaf for 40 ticks, the records of its sessions stay, and so do those of its log.
+-- An agent after a restart: it is deaf for 40 ticks, and the records of its sessions and of its log
+-- stay.
 abbrev pub agent_restarts : List PackageText → AgentOf → AgentOf
 agent_restarts packages n =
     record n { tid = 0; deaf = 40; halves = map (half_restarts (session_core packages)) n.halves; log = sel_restart n.log }
 
--- The operator's calls, of the session for one device: each ends by giving up what is no longer wished.
+-- The operator's calls of the session for one device: each ends by giving up a request that is no
+-- longer the pending command.
 abbrev pub half_after_start : List PackageText → HalfOf TimedOf → (number : ℕ) → HalfOf TimedOf
 half_after_start packages h number =
     half_with_core (session_core packages) h (record { session = agent_started h.core.session number; idle = 0 })
@@ -185,7 +192,7 @@ abbrev pub becomes_at : AgentOf → (now : ℕ) → (HalfOf TimedOf → HalfOf T
 becomes_at n now call (Some place) (Some h) = half_becomes n now place h (call h)
 becomes_at n now call place h = n
 
--- An agent after a call that leaves this half for a device.
+-- an agent after a call of the half for a device
 abbrev pub agent_becomes : AgentOf → (now eid : ℕ) → (HalfOf TimedOf → HalfOf TimedOf) → AgentOf
 agent_becomes n now eid call = becomes_at n now call (place_of n.halves eid) (half_for n eid)
 
@@ -197,7 +204,7 @@ free_in (Some h) = Some (is_free h.core.session)
 abbrev pub free_for : AgentOf → (eid : ℕ) → Option Bool
 free_for n eid = free_in (half_for n eid)
 
--- the session for a device after an activation, if there is one that is ready for it
+-- the session for a device after an activation, if there is a session that is ready for it
 abbrev pub ready_in : Option (HalfOf TimedOf) → Option SessionOf
 ready_in None = None
 ready_in (Some h) = agent_activated h.core.session

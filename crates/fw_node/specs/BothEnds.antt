@@ -1,10 +1,10 @@
--- Both ends of a node for one peer, as the code has them.
+-- Both ends of a node for one peer, from the code's types.
 use Rattle.mctp_wire.specs.declared.unit.Unit.{«Unit»}
 use Rattle.pldm_exch.specs.Ends.{AnsweringOf, AskingOf, answering_new, answering_older, asking_new, asking_older}
 use Rattle.pldm_exch.specs.Caller.{CallerState, last_tag}
 use Rattle.std.specs.Prelude.{ℕ, ◌≡◌, IfSome, false, length}
 
--- what a node has to ask a peer, and to answer it
+-- the state of a node that asks a peer, and answers it
 pub record EndsOf : Type 0 where
   pub asking : AskingOf
   pub answering : AnsweringOf
@@ -17,7 +17,8 @@ ends_new u own peer = record { asking = asking_new u own peer; answering = answe
 abbrev pub ends_older : EndsOf → EndsOf
 ends_older e = record { asking = asking_older e.asking; answering = answering_older e.answering }
 
--- There is a rest for each of the eight tags; an open request is unanswered and has the last tag; and requests go to the peer.
+-- There is a rest for each of the eight tags. An open request is unanswered and has the last tag.
+-- Requests go to the peer.
 pub record IsAsking (peer : ℕ) (c : CallerState) : Type 0 where
   pub rests : length c.rests ≡ 8
   pub tag : IfSome c.asked (λ o. o.tag ≡ last_tag c)

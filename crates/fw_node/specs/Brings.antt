@@ -1,4 +1,4 @@
--- What a packet brings, as the code has it, with the message beside it.
+-- The content of a packet, from the code's type and the message that it refers to.
 use Rattle.mctp_reasm.specs.Pieces.{MessageOf}
 use Rattle.pldm_base.specs.Header.{IsPldmHead}
 use Rattle.pldm_exch.specs.Sides.{received_of, reply_in_message}

@@ -1,4 +1,5 @@
--- The two kinds of core: the agent's session with a device, which is lent the package of its number, and a device.
+-- The two kinds of core: the agent's session with a device, which gets the package of its number,
+-- and a device.
 use Rattle.std.specs.Prelude.{ℕ, false, not, List, Option, Some, None, Result, Ok, Err}
 use Rattle.mctp_wire.specs.declared.unit.Unit.TheVariants.{U64}
 use Rattle.fwup_wire.specs.Commands.{is_asked_of_agent}
@@ -18,7 +19,7 @@ use Rattle.ua_core.specs.Session.{SessionOf, TimedOf}
 use Rattle.ua_core.specs.Wish.{agent_wish}
 use Rattle.fw_node.specs.Halves.{CoreOf}
 
--- a device, and the ticks for which nothing moved
+-- a device, and the ticks since its last progress
 pub record TimedDevice : Type 0 where
   pub device : DeviceState
   pub idle : ℕ
@@ -27,12 +28,13 @@ pub record TimedDevice : Type 0 where
 abbrev pub timed_device : DeviceOf → TimedDevice
 timed_device d = record { device = d.device; idle = d.idle }
 
--- an answer, and none where it was malformed
+-- an answer, or none if it was malformed
 abbrev pub answer_or : Result AnswerOf Malformed → Option AnswerOf
 answer_or (Ok a) = Some a
 answer_or (Err e) = None
 
--- A device: its answers fit each transmission unit, it answers what isn't asked of an agent, and a request that is given up changes nothing.
+-- A device: its answers fit each transmission unit, it answers each command that isn't asked of an
+-- agent, and a request that is given up changes nothing.
 abbrev pub device_core : CoreOf TimedDevice
 device_core = record {
   unit = λ d. U64;
@@ -57,7 +59,8 @@ device_core = record {
 abbrev pub package_of : List PackageText → SessionOf → PackageText
 package_of packages s = package_at packages s.number
 
--- A session: it answers what is asked of an agent, whether it is quiet says nothing to it, and it has no bank.
+-- A session: it answers the commands that are asked of an agent, it ignores `quiet`, and it has no
+-- bank.
 abbrev pub session_core : List PackageText → CoreOf TimedOf
 session_core packages = record {
   unit = λ s. s.session.unit;

@@ -1,5 +1,6 @@
--- One half of a pair: what a node has for one peer. That is a core, which is the agent's session with a device or the device
--- itself, what it asks of the peer, and what it answers the peer. What a half does is the same for both kinds of core.
+-- One half of a pair: the state of a node for one peer. It has a core, which is the agent's session
+-- with a device or the device itself, an end that asks the peer, and an end that answers it. Both
+-- kinds of core have the same half.
 use Rattle.std.specs.Prelude.{ℕ, ◌==◌, Bool, true, false, if◌then◌else◌, List, [], ◌∷◌, ◌++◌, drop, map, Option, Some, None, Result, Ok, Err}
 use Rattle.mctp_wire.specs.declared.unit.Unit.{«Unit»}
 use Rattle.mctp_reasm.specs.Held.{Held, held_tick}
@@ -17,15 +18,16 @@ use Rattle.pldm_exch.specs.Kept.{answerer_tick, kept_with}
 use Rattle.pldm_exch.specs.Requests.{RequestOf, reply_message}
 use Rattle.pldm_exch.specs.Sides.{AskerRow, AskerTick, ReceivedOf, TakerRow, asker_counts, asker_row, received_in, requests_in, taker_counts, taker_row}
 
--- what a core makes of a command
+-- a core after a command, and its answer
 pub record TakenBy (C : Type 0) : Type 0 where
   pub core : C
   pub answer : AnswerOf
 
--- What a core does: the transmission unit that its answers fit; the command that it wishes to ask; whether commands of a code are its to answer; what it makes of one,
--- where a device is told whether it is quiet, and `works` says whether the one call of its bank succeeds; what it learns
--- from an answer, or from a malformed one; whether a command and an answer call its bank; that its request was given up; its
--- idle tick; and a restart.
+-- The functions of a core: the transmission unit that its answers fit; its pending command; whether
+-- it answers commands of a code; the core after a command and its answer, with `quiet` for a
+-- device, and `works` if the one call of its bank succeeds; the core after an answer, or after a
+-- malformed answer; whether a command and an answer call its bank; the core after its request was
+-- given up; its idle tick; and a restart.
 pub record CoreOf (C : Type 0) : Type 0 where
   pub unit : C → «Unit»
   pub wish : C → Option CommandOf
@@ -38,7 +40,8 @@ pub record CoreOf (C : Type 0) : Type 0 where
   pub ticked : C → C
   pub restarted : C → C
 
--- a half: the network's transmission unit, the node's own endpoint and the peer's, the core, and both ends
+-- a half: the network's transmission unit, the node's own endpoint and the peer's, the core, and
+-- both ends
 pub record HalfOf (C : Type 0) : Type 0 where
   pub unit : «Unit»
   pub own : ℕ
@@ -52,12 +55,12 @@ pub record Ticked (C : Type 0) : Type 0 where
   pub half : HalfOf C
   pub sent : List MessageOf
 
--- the command is the one that is wished
+-- the command is the pending command
 abbrev pub is_wished : CommandOf → Option CommandOf → Bool
 is_wished c None = false
 is_wished c (Some d) = same_command c d
 
--- what was read is the command that is wished
+-- a decoded command is the pending command
 abbrev pub wished_read : Option CommandOf → Result CommandOf ℕ → Bool
 wished_read wish (Ok c) = is_wished c wish
 wished_read wish (Err e) = false
@@ -66,12 +69,12 @@ wished_read wish (Err e) = false
 abbrev pub still_wished : Option CommandOf → Open → Bool
 still_wished wish o = wished_read wish (command_read o.command (drop 4 o.message.bytes))
 
--- no request is open, or it is of this command
+-- no request is open, or the open request is of this command
 abbrev pub wished_or : Option CommandOf → Option Open → Bool
 wished_or wish None = true
 wished_or wish (Some o) = still_wished wish o
 
--- the requests, which go on where that holds, and else are given up
+-- the requests, with the open request kept or given up
 abbrev pub kept_if : Bool → CallerState → CallerState
 kept_if true c = c
 kept_if false c = caller_after_abandon c
@@ -80,7 +83,7 @@ abbrev pub unwished_for : Option CommandOf → CallerState → Option Open → C
 unwished_for wish c None = c
 unwished_for wish c (Some o) = kept_if (still_wished wish o) c
 
--- an open request that is no longer wished is given up
+-- an open request that is no longer the pending command is given up
 abbrev pub unwished_abandoned : Option CommandOf → CallerState → CallerState
 unwished_abandoned wish c = unwished_for wish c c.asked
 
@@ -98,7 +101,8 @@ abbrev pub begins_wish : {C : Type 0} → Option CommandOf → HalfOf C → List
 begins_wish None h sent = record { half = h; sent = sent }
 begins_wish (Some c) h sent = begins_if (may_begin h.asker.caller) h c sent
 
--- the last part of a tick: what isn't wished is given up, and what is wished begins
+-- the last part of a tick: an open request that is no longer the pending command is given up, and a
+-- pending command begins
 abbrev pub last_part : {C : Type 0} → CoreOf C → HalfOf C → List MessageOf → Ticked C
 last_part core h sent = begins_wish (core.wish h.core) (with_caller h (unwished_abandoned (core.wish h.core) h.asker.caller)) sent
 
@@ -122,7 +126,7 @@ abbrev pub half_ticks : {C : Type 0} → CoreOf C → Bool → HalfOf C → Tick
 half_ticks core true h = half_counts core h
 half_ticks core false h = record { half = h; sent = [] }
 
--- a half that hears, after its assemblies, its answers and its requests grew older
+-- a half that hears, after its assemblies, answers and requests grew older
 abbrev pub half_with_older_ends : {C : Type 0} → HalfOf C → HalfOf C
 half_with_older_ends h = record h {
   asker = record h.asker { deaf = 0; caller = (caller_tick h.asker.caller).0; replies = map held_tick h.asker.replies };
@@ -132,8 +136,9 @@ half_with_older_ends h = record h {
 abbrev pub half_with_ticked_core : {C : Type 0} → CoreOf C → HalfOf C → HalfOf C
 half_with_ticked_core core h = record h { core = core.ticked h.core }
 
--- A tick's parts of a half that hears. First what is held and kept grows older, and the open request is sent again or given
--- up; the core is told of one that was given up.
+-- The parts of a tick of a half that hears. First held packets, kept answers and the open request
+-- grow older, and the request is sent again or given up. The core handles a request that was given
+-- up.
 abbrev pub core_after_give_up : {C : Type 0} → CoreOf C → CallTickOf → C → C
 core_after_give_up core CallTickOf.GaveUp c = core.silent c
 core_after_give_up core call c = c
@@ -141,19 +146,21 @@ core_after_give_up core call c = c
 abbrev pub half_grows : {C : Type 0} → CoreOf C → HalfOf C → HalfOf C
 half_grows core h = record (half_with_older_ends h) { core = core_after_give_up core (caller_tick h.asker.caller).1 h.core }
 
--- Then comes the core's own tick; at last what isn't wished is given up, and what is wished begins.
+-- Then the core ticks. Last, an open request that is no longer the pending command is given up, and
+-- a pending command begins.
 abbrev pub half_waits : {C : Type 0} → CoreOf C → HalfOf C → Ticked C
 half_waits core h = last_part core (half_with_ticked_core core h) []
 
--- What a packet is for a half: it went through, and these messages are sent; the core took this command, likewise; a new
--- request of another PLDM type is to be answered; or a whole message is no PLDM request.
+-- The outcome of a packet for a half: these messages are sent; the core took this command, and its
+-- answer is sent; a new request of another PLDM type is to be answered; or a complete message is no
+-- PLDM request.
 pub data HalfOutcome (C : Type 0) : Type 0 where
   Went : (half : HalfOf C) → (sent : List MessageOf) → HalfOutcome C
   Took : (half : HalfOf C) → (sent : List MessageOf) → (command : CommandOf) → (answer : AnswerOf) → HalfOutcome C
   Asks : (half : HalfOf C) → (request : MessageOf) → (head : PldmHead) → (body : List ℕ) → HalfOutcome C
   Strayed : (half : HalfOf C) → (message : MessageOf) → HalfOutcome C
 
--- each call ends so: what is no longer wished is given up
+-- the end of each call: a request that is no longer the pending command is given up
 abbrev pub half_after_settle : {C : Type 0} → CoreOf C → HalfOf C → HalfOf C
 half_after_settle core h = with_caller h (unwished_abandoned (core.wish h.core) h.asker.caller)
 
@@ -171,7 +178,8 @@ takes_read core quiet works h requests m head (Ok c) =
 takes_read core quiet works h requests m head (Err code) =
     HalfOutcome.Went (half_after_settle core (half_after_answer h requests m head (code ∷ []))) (reply_message m head (code ∷ []) ∷ [])
 
--- what request data say to a core: commands that the other kind of core answers aren't read
+-- the command of request data for a core; a command that the other kind of core answers isn't
+-- decoded
 abbrev pub read_by : {C : Type 0} → CoreOf C → ℕ → List ℕ → Result CommandOf ℕ
 read_by core command body = if core.serves command then command_read command body else Err unsupported_command
 
@@ -186,7 +194,7 @@ half_takes core works h (TakerRow.Repeats requests answer) = HalfOutcome.Went (r
 half_takes core works h (TakerRow.TakesUp requests m head body) = takes_if (head.pldm_type == 5) core works h requests m head body
 half_takes core works h (TakerRow.Strays requests m) = HalfOutcome.Strayed (record h { taker = record h.taker { requests = requests } }) m
 
--- a packet, by the rows of both ends: it is for one of them at most
+-- the outcome of a packet, from the rows of both ends: it is for at most one of them
 abbrev pub half_on_rows : {C : Type 0} → CoreOf C → (works : Bool) → HalfOf C → AskerRow → TakerRow → HalfOutcome C
 half_on_rows core works h (AskerRow.Ignores replies) row = half_takes core works (record h { asker = record h.asker { replies = replies } }) row
 half_on_rows core works h (AskerRow.Learns replies caller heard) row =
@@ -200,17 +208,18 @@ half_on_rows core works h (AskerRow.Learns replies caller heard) row =
 abbrev pub half_on_packet : {C : Type 0} → CoreOf C → (works : Bool) → HalfOf C → List ℕ → HalfOutcome C
 half_on_packet core works h bytes = half_on_rows core works h (asker_row h.unit h.own h.peer h.asker bytes) (taker_row h.unit h.own h.peer h.taker bytes)
 
--- A local call leaves this core; a request that is no longer wished is given up.
+-- A half after a local call that leaves this core: a request that is no longer the pending command
+-- is given up.
 abbrev pub half_with_core : {C : Type 0} → CoreOf C → HalfOf C → C → HalfOf C
 half_with_core core h c = half_after_settle core (record h { core = c })
 
--- A node starts anew, and is deaf for 40 ticks.
+-- A half after a restart: it is deaf for 40 ticks.
 abbrev pub half_restarts : {C : Type 0} → CoreOf C → HalfOf C → HalfOf C
 half_restarts core h =
     record h { core = core.restarted h.core; asker = asker_new h.own h.peer 40; taker = taker_new 40 }
 
--- What a whole message or a packet of one brings to a half that hears: nothing, the answer to its open request, a request
--- again, a new request, or a stray.
+-- The content of a packet for a half that hears: nothing, the answer to its open request, a
+-- repeated request, a new request, or a stray message.
 pub data IncomingOf : Type 0 where
   Nothing : IncomingOf
   Learnt : (heard : ReplyInOf) → IncomingOf
@@ -224,17 +233,17 @@ incoming_from (ReceivedOf.Again answer) = IncomingOf.Again answer
 incoming_from (ReceivedOf.New request) = IncomingOf.New request
 incoming_from (ReceivedOf.Strays message) = IncomingOf.Strays message
 
--- by the rows of both ends
+-- from the rows of both ends
 abbrev pub incoming : AskerRow → TakerRow → IncomingOf
 incoming (AskerRow.Ignores replies) row = incoming_from (received_in row)
 incoming (AskerRow.Learns replies caller heard) row = IncomingOf.Learnt heard
 
--- what the node that answers holds then
+-- the held packets and kept answers of the node that answers, afterwards
 abbrev pub answering_after : AskerRow → AnsweringOf → TakerRow → AnsweringOf
 answering_after (AskerRow.Ignores replies) t row = record t { requests = requests_in row }
 answering_after (AskerRow.Learns replies caller heard) t row = t
 
--- what a core makes of what was read, and the reply
+-- a core after a decoded command, and its reply
 pub record RepliedBy (C : Type 0) : Type 0 where
   pub core : C
   pub reply : List ℕ
@@ -244,7 +253,7 @@ reply_read core quiet works c (Ok command) =
     record { core = (core.take c command quiet works).core; reply = answer_bytes (core.take c command quiet works).answer }
 reply_read core quiet works c (Err code) = record { core = c; reply = code ∷ [] }
 
--- What each of these is for the half.
+-- The outcome of each content for the half.
 abbrev pub half_on_incoming : {C : Type 0} → CoreOf C → (works : Bool) → HalfOf C → IncomingOf → HalfOutcome C
 half_on_incoming core works h IncomingOf.Nothing = HalfOutcome.Went h []
 half_on_incoming core works h (IncomingOf.Learnt heard) =

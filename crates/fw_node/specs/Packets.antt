@@ -4,14 +4,14 @@ use Rattle.mctp_wire.specs.declared.unit.Unit.{«Unit»}
 use Rattle.mctp_reasm.specs.Pieces.{MessageOf, pieces, spelling_of}
 use Rattle.pldm_exch.specs.Caller.{CallTickOf}
 
--- the packets of a message in a network with this transmission unit, and of several
+-- the packets of a message, and of several messages, in a network with this transmission unit
 abbrev pub packets_of : «Unit» → MessageOf → List (List ℕ)
 packets_of u m = map spelling_of (pieces u m)
 
 abbrev pub all_packets : «Unit» → List MessageOf → List (List ℕ)
 all_packets u ms = flat_map (packets_of u) ms
 
--- what a tick of its requests has a node send again
+-- the message that a tick of its requests has a node send again
 abbrev pub sent_by : CallTickOf → List MessageOf
 sent_by CallTickOf.Nothing = []
 sent_by (CallTickOf.Send m) = m ∷ []

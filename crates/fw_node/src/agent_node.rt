@@ -24,16 +24,16 @@ use std::alloc::{AllocError, Global};
 use std::marker::Model;
 use ua_core::{NotReady, Session, StartFault};
 
-/// The update agent on a network of MCTP packets: what it has for each of its devices, at most 16, and the event log, in which
-/// it notes what happens to their updates. It answers control and base requests too. Its calls are lent the packages that the
-/// operator may start updates with.
+/// The update agent on a network of MCTP packets: a session and both ends for each of its devices,
+/// at most 16, and the event log of their updates. It answers control and base requests too. Its
+/// calls borrow the packages that the operator may start updates with.
 #[derive(Drop)]
 pub struct AgentNode {
     /// Its endpoint and its terminus identifier.
     identity: Identity,
-    /// For how many ticks it is still deaf after a restart; 0 where it hears.
+    /// The ticks for which it is still deaf after a restart; 0 if it hears.
     deaf: u8,
-    /// For each device, in configured order, its session and both ends. Their number never changes.
+    /// The session and both ends for each device, in configured order. Their number never changes.
     halves: Vec<Half<Session>>,
     /// The event log.
     log: Sel,
@@ -52,11 +52,11 @@ impl Model for AgentNode {
 }
 
 impl AgentNode {
-    /// The agent of the devices with these endpoint identifiers, at most 16, in a network with this transmission unit, before
-    /// its first packet.
+    /// Creates the agent of the devices with these endpoint identifiers, at most 16, in a network
+    /// with this transmission unit.
     ///
     /// # Errors
-    /// `AllocError` where memory for them or for the log is refused.
+    /// `AllocError` if memory for them or for the log is refused.
     pub fn new(
         alloc: Global,
         unit: Unit,
@@ -89,7 +89,7 @@ impl AgentNode {
         self.identity.endpoint.eid
     }
 
-    /// Whether it drops every packet, since it started anew less than 40 ticks ago.
+    /// Whether it drops every packet because it restarted less than 40 ticks ago.
     pub fn is_deaf(&self) -> bool
         ensures deaf { result ≡ not (self.now.deaf == 0) }
         ensures halves { AllByRecursion (IsDeafFor self.now.deaf) self.now.halves }
@@ -104,7 +104,7 @@ impl AgentNode {
         &self.log
     }
 
-    /// The session with a device, if it is one of the agent's.
+    /// Returns the session with a device, or `None` if the device isn't one of the agent's.
     #[tactic(auto, using(crate::proofs::Places::places))]
     pub fn session(&self, eid: u8) -> Option<&Session>
         ensures session { option_map (λ s. s.now) result ≡ option_map (λ h. h.core) (half_for self.now eid) }
@@ -113,8 +113,9 @@ impl AgentNode {
         session_in(self.halves.as_slice(), eid)
     }
 
-    /// Hears the bytes of a packet, and puts what it sends into an empty outbox. A packet to another endpoint or of none of
-    /// its devices changes nothing, and a deaf agent drops every packet. What happens to a session is noted at `now`.
+    /// Handles the bytes of a packet, and puts the packets to send into `outbox`, which must be
+    /// empty. A packet to another endpoint, or of none of its devices, changes nothing. A deaf
+    /// agent drops every packet. Events of a session are noted in the log at `now`.
     pub fn on_packet<'p>(
         &mut self,
         packages: &'p [Package<'p>],
@@ -132,7 +133,8 @@ impl AgentNode {
         self.accept(packages, &packet, now, outbox);
     }
 
-    /// Hears a packet of either transmission unit, and puts what it sends into an empty outbox.
+    /// Handles a packet of either transmission unit, and puts the packets to send into `outbox`,
+    /// which must be empty.
     #[tactic(auto, using(crate::proofs::Places::places))]
     fn accept<'p>(
         &mut self,
@@ -164,9 +166,11 @@ impl AgentNode {
         );
     }
 
-    /// A tick passes, in parts, each for all devices before the next begins: what is held and kept grows older, and open
-    /// requests are sent again or given up; the sessions tick; what isn't wished is given up, and what is wished begins. What
-    /// happens to a session is noted at `now`. A deaf agent counts the tick alone.
+    /// Handles a tick. Each part is done for all devices before the next begins: held packets, kept
+    /// answers and open requests grow older, and an open request is sent again or given up; the
+    /// sessions tick; an open request that is no longer the pending command is given up, and a
+    /// pending command begins. Events of a session are noted in the log at `now`. A deaf agent only
+    /// counts the tick.
     pub fn on_tick<'p>(&mut self, packages: &'p [Package<'p>], now: u32, outbox: &mut Outbox)
         requires { outbox.old ≡ [] }
         ensures after { self.new ≡ agent_ticks packages.now now self.old }
@@ -195,11 +199,12 @@ impl AgentNode {
         );
     }
 
-    /// Starts an update of one of its devices with the package of this number. It is noted at `now`; a deaf agent takes it too.
+    /// Starts an update of one of its devices with the package of this number, and notes it at
+    /// `now`. A deaf agent does so too.
     ///
     /// # Errors
-    /// `Busy` while an update of that device is under way, else `Memory` where that for its records is refused. Nothing has
-    /// changed then.
+    /// `Busy` if an update of that device is in progress, else `Memory` if memory for its records
+    /// is refused. The agent is unchanged on an error.
     pub fn start<'p>(
         &mut self,
         packages: &'p [Package<'p>],
@@ -230,8 +235,8 @@ impl AgentNode {
         Ok(())
     }
 
-    /// Cancels the update of a device; nothing changes where it is none of the agent's. It is noted at `now`; a deaf agent
-    /// takes it too.
+    /// Cancels the update of a device, and notes it at `now`. Nothing changes if the device isn't
+    /// one of the agent's. A deaf agent cancels too.
     pub fn cancel<'p>(&mut self, packages: &'p [Package<'p>], eid: u8, now: u32)
         ensures cancelled { self.new ≡ agent_becomes self.old now eid (half_after_cancel packages.now) }
     {
@@ -247,10 +252,11 @@ impl AgentNode {
         );
     }
 
-    /// Has a device activate what it applied. A deaf agent takes it too.
+    /// Has a device activate the images that it applied. A deaf agent does so too.
     ///
     /// # Errors
-    /// `NotReady` unless all that the update holds for this device is applied. Nothing has changed then.
+    /// `NotReady` unless every component of the update for this device is applied. The agent is
+    /// unchanged on an error.
     pub fn activate<'p>(
         &mut self,
         packages: &'p [Package<'p>],
@@ -277,8 +283,8 @@ impl AgentNode {
         Ok(())
     }
 
-    /// Starts anew: no update is under way, and the agent is deaf and silent for 40 ticks. The records of its sessions and of
-    /// its log stay.
+    /// Restarts: no update is in progress, and the agent is deaf and silent for 40 ticks. The
+    /// records of its sessions and of its log stay.
     pub fn restart(&mut self)
         ensures restarted { (packages : List PackageText) → self.new ≡ agent_restarts packages self.old }
     {
@@ -288,8 +294,8 @@ impl AgentNode {
         self.deaf = DEAF;
     }
 
-    /// Answers a request of the event log (IPMI 2.0, section 31): its command and data, at `now`. A request without a byte is
-    /// one of a wrong length.
+    /// Answers a request of the event log (IPMI 2.0, section 31) with this command and data, at
+    /// `now`. A request without a byte has a wrong length.
     pub fn request(&mut self, command: u8, data: &[u8], now: u32) -> SelReply
         ensures reply { result.items ≡ sel_reply self.old.log command «data».now now }
         ensures after { self.new ≡ record self.old { log = sel_after self.old.log command «data».now now } }
@@ -338,7 +344,7 @@ fn session_in(halves: &[Half<Session>], eid: u8) -> Option<&Session>
     Some(&halves[place].core)
 }
 
-/// The place of the half for the sender of a packet.
+/// The place of the half for the device that sent the packet.
 #[tactic(auto, using(crate::proofs::Readings::readings))]
 fn sender_of(halves: &[Half<Session>], packet: &Packet<'_>) -> Option<usize>
     requires { IsRead packet.now }
@@ -348,7 +354,7 @@ fn sender_of(halves: &[Half<Session>], packet: &Packet<'_>) -> Option<usize>
     place_of(halves, packet.head.source)
 }
 
-/// The half at a place hears a packet.
+/// The half at a place handles a packet.
 #[tactic(auto, using(crate::proofs::Places::places))]
 fn accept_at<'p>(
     halves: &mut [Half<Session>],
@@ -378,7 +384,7 @@ fn accept_at<'p>(
     );
 }
 
-/// The session at a place starts an update, and it is noted.
+/// Starts an update of the session at a place, and notes it.
 fn start_at<'p>(
     halves: &mut [Half<Session>],
     place: usize,
@@ -403,7 +409,7 @@ fn start_at<'p>(
     Ok(())
 }
 
-/// The session at a place is cancelled, and it is noted.
+/// Cancels the update of the session at a place, and notes it.
 fn cancel_at<'p>(
     halves: &mut [Half<Session>],
     place: usize,
@@ -419,7 +425,7 @@ fn cancel_at<'p>(
     cancel(&mut halves[place], log, packages, now);
 }
 
-/// The session at a place has its device activate what it applied.
+/// Has the device of the session at a place activate the images that it applied.
 fn activate_at<'p>(
     halves: &mut [Half<Session>],
     place: usize,
@@ -482,7 +488,7 @@ fn wait_all<'p>(
     }
 }
 
-/// All halves start anew.
+/// Restarts all halves.
 fn restart_all(halves: &mut [Half<Session>])
     ensures { halves.new ≡ map half_restarted halves.old }
 {

@@ -1,4 +1,4 @@
-//! What stands at the centre of a half: the agent's session with a device, or a device itself.
+//! The core of a half: the agent's session with a device, or a device itself.
 
 ghost use Rattle.std.specs.Prelude.{◌≡◌, IfSome, None, false, not, option_map, true, ℕ};
 ghost use Rattle.std.specs.Result.{result_map_both};
@@ -19,13 +19,13 @@ use pldm_base::Reply;
 use pldm_base::completion::ERROR;
 use ua_core::{Lent, Session, SessionState};
 
-/// A core: it wishes commands, answers others, and learns from answers. Its calls are given what it reads meanwhile: the
-/// agent's packages, or nothing.
+/// A core: it has a pending command, answers the peer's commands, and handles the answers to its
+/// own. Its calls get the data that they read: the agent's packages, or nothing.
 ///
-/// A call of its bank may fail, if it has one; `take` and `learn` tell whether it worked, and say that it didn't only where
-/// they call it.
+/// A call of its bank may fail, if it has one. `take` and `learn` return whether the call
+/// succeeded: false only if they called the bank.
 pub(crate) trait Core<'p> {
-    /// What its calls are given.
+    /// The data that its calls get.
     type Given: Copy;
 
     ghost Seen: { Type 0 };
@@ -36,20 +36,22 @@ pub(crate) trait Core<'p> {
 
     ghost faults: { Self → ℕ };
 
-    /// The command that it wishes to ask.
+    /// Returns the pending command, if there is one.
     fn wish(&self, given: Self::Given) -> Option<Command<'p>>
         ensures wish { option_map command_of result ≡ (does given).wish (seen self.now) }
         ensures spoken { IfSome ((does given).wish (seen self.now)) CommandRoundTrips };
 
-    /// Whether it may wish a command: where not, it wishes none. It is asked before `wish`, which makes room for a command.
+    /// Whether a command may be pending: if not, `wish` returns none. It is asked before `wish`,
+    /// which makes room for a command.
     fn may_wish(&self, given: Self::Given) -> bool
         ensures { result ≡ false → (does given).wish (seen self.now) ≡ None };
 
-    /// Whether commands of a code are its to answer.
+    /// Whether it answers commands of this code.
     fn serves(&self, given: Self::Given, command: u8) -> bool
         ensures { result ≡ (does given).serves command };
 
-    /// Takes a command: the reply, and whether its bank worked. `quiet` says that it has no request of its own under way.
+    /// Takes a command. Returns the reply, and whether its bank worked. `quiet` says that it has no
+    /// request of its own in progress.
     fn take(&mut self, given: Self::Given, command: &Command<'_>, quiet: bool) -> (Reply, bool)
         ensures core { seen self.new ≡ ((does given).take (seen self.old) (command_of command.now) quiet result.1).core }
         ensures reply { result.0.items ≡ answer_bytes ((does given).take (seen self.old) (command_of command.now) quiet result.1).answer }
@@ -57,7 +59,7 @@ pub(crate) trait Core<'p> {
         ensures failed { result.1 ≡ false → CountsFailure (faults self.old) (faults self.new) }
         ensures called { result.1 ≡ false → (does given).take_calls_bank (seen self.old) (command_of command.now) quiet ≡ true };
 
-    /// Learns the answer to the command that was wished. Whether its bank worked.
+    /// Handles the answer to the pending command. Returns whether its bank worked.
     fn learn(&mut self, given: Self::Given, answer: Result<&Answer<'_>, Malformed>) -> bool
         ensures core { seen self.new ≡ (does given).learn (seen self.old) (result_map_both (λ a. answer_of a.now) (λ e. e) answer.entry) result }
         ensures worked { result ≡ true → faults self.new ≡ faults self.old }
@@ -65,23 +67,23 @@ pub(crate) trait Core<'p> {
         ensures called { result ≡ false
             → (does given).learn_calls_bank (seen self.old) (result_map_both (λ a. answer_of a.now) (λ e. e) answer.entry) ≡ true };
 
-    /// Its request was given up.
+    /// Handles that its request was given up.
     fn silent(&mut self, given: Self::Given)
         ensures core { seen self.new ≡ (does given).silent (seen self.old) }
         ensures faults { faults self.new ≡ faults self.old };
 
-    /// A tick passes.
+    /// Handles a tick.
     fn tick(&mut self, given: Self::Given)
         ensures core { seen self.new ≡ (does given).ticked (seen self.old) }
         ensures faults { faults self.new ≡ faults self.old };
 
-    /// Starts anew.
+    /// Restarts.
     fn restart(&mut self)
         ensures core { (given : Self.Given) → seen self.new ≡ (does given).restarted (seen self.old) }
         ensures faults { faults self.new ≡ faults self.old };
 }
 
-/// A session is given the packages that the operator may start updates with.
+/// A session gets the packages that the operator may start updates with.
 impl<'p> Core<'p> for Session {
     type Given = &'p [Package<'p>];
 
@@ -149,7 +151,7 @@ impl<'p> Core<'p> for Session {
     }
 }
 
-/// A device is given nothing.
+/// A device gets nothing.
 impl<'p, B: Bank> Core<'p> for Device<B> {
     type Given = ();
 

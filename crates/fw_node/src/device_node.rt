@@ -22,12 +22,13 @@ use pldm_base::{Role, Tid};
 use pldm_exch::DEAF;
 use std::marker::Model;
 
-/// A firmware device on a network of MCTP packets: its half for its agent. It answers control and base requests too.
+/// A firmware device on a network of MCTP packets: its half for its agent. It answers control and
+/// base requests too.
 #[derive(Drop)]
 pub struct DeviceNode<B: Bank> {
     /// Its endpoint and its terminus identifier.
     identity: Identity,
-    /// For how many ticks it is still deaf after a restart; 0 where it hears.
+    /// The ticks for which it is still deaf after a restart; 0 if it hears.
     deaf: u8,
     /// The device, and both ends for its agent.
     half: Half<Device<B>>,
@@ -51,8 +52,8 @@ impl<B: Bank> Model for DeviceNode<B> {
 }
 
 impl<B: Bank> DeviceNode<B> {
-    /// The node of a device whose agent has the endpoint identifier `agent`, before its first packet. Its network has the
-    /// device's transmission unit.
+    /// Creates the node of a device whose agent has the endpoint identifier `agent`. Its network
+    /// has the device's transmission unit.
     pub fn new(endpoint: Endpoint, agent: u8, device: Device<B>) -> DeviceNode<B>
         ensures { result ≡ new_device_node endpoint agent device }
     {
@@ -90,7 +91,7 @@ impl<B: Bank> DeviceNode<B> {
         self.half.peer()
     }
 
-    /// Whether it drops every packet, since it started anew less than 40 ticks ago.
+    /// Whether it drops every packet because it restarted less than 40 ticks ago.
     pub fn is_deaf(&self) -> bool
         ensures { result ≡ not (self.now.half.asker.deaf == 0) }
     {
@@ -105,8 +106,9 @@ impl<B: Bank> DeviceNode<B> {
         &self.half.core
     }
 
-    /// Hears the bytes of a packet, and puts what it sends into an empty outbox. A packet to another endpoint or not of its
-    /// agent changes nothing, and a deaf node drops every packet.
+    /// Handles the bytes of a packet, and puts the packets to send into `outbox`, which must be
+    /// empty. A packet to another endpoint, or not of its agent, changes nothing. A deaf node drops
+    /// every packet.
     pub fn on_packet(&mut self, bytes: &[u8], outbox: &mut Outbox)
         requires { outbox.old ≡ [] }
         ensures heard { HandlesPacket self.old bytes.now self.new outbox.new }
@@ -115,8 +117,9 @@ impl<B: Bank> DeviceNode<B> {
         let _works = self.read(bytes, outbox);
     }
 
-    /// A tick passes: what the node holds and keeps grows older, its open request is sent again or given up, the device
-    /// ticks, and what it wishes begins. A deaf node counts the tick alone.
+    /// Handles a tick: held packets, kept answers and the open request grow older, the open request
+    /// is sent again or given up, the device ticks, and its pending command begins. A deaf node
+    /// only counts the tick.
     #[tactic(auto, using(crate::proofs::NodeTicks::node_ticks))]
     pub fn on_tick(&mut self, outbox: &mut Outbox)
         requires { outbox.old ≡ [] }
@@ -132,10 +135,11 @@ impl<B: Bank> DeviceNode<B> {
         self.half.wait((), outbox);
     }
 
-    /// A verdict on the image that the device has written: VERIFY and APPLY wait for one each.
+    /// Handles a verdict on the image that the device has written. VERIFY and APPLY wait for one
+    /// each.
     ///
     /// # Errors
-    /// `NotNow` where no such verdict is waited for. Then nothing changes.
+    /// `NotNow` if the device doesn't wait for this verdict. Then nothing changes.
     pub fn verdict(&mut self, verdict: Verdict) -> Result<(), NotNow>
         ensures judged { OnOk result (HandlesVerdict self.old verdict self.new) }
         ensures refused { OnErr result ((works : Bool) → device_verdict self.old.half.core.device verdict works ≡ None) }
@@ -150,7 +154,8 @@ impl<B: Bank> DeviceNode<B> {
         Ok(())
     }
 
-    /// The device has a verdict. None where it doesn't count; else whether its bank worked.
+    /// Handles a verdict. Returns `None` if the device doesn't wait for it, else whether its bank
+    /// worked.
     #[tactic(auto, using(crate::proofs::Working::judging, fd_core::proofs::BankCalls::bank_calls))]
     fn judge(&mut self, verdict: Verdict) -> Option<bool>
         ensures counts { IfSome result (λ works. is_some (device_verdict self.old.half.core.device verdict works) ≡ true) }
@@ -169,7 +174,8 @@ impl<B: Bank> DeviceNode<B> {
         Some(verdict != Verdict::ApplyOk || !has_failed(&self.half.core))
     }
 
-    /// Starts anew: what was applied and not activated is dropped, and the node is deaf and silent for 40 ticks.
+    /// Restarts: images that were applied and not activated are dropped, and the node is deaf and
+    /// silent for 40 ticks.
     pub fn restart(&mut self)
         ensures restarted { self.new ≡ device_restarts self.old }
     {
@@ -178,7 +184,8 @@ impl<B: Bank> DeviceNode<B> {
         self.deaf = DEAF;
     }
 
-    /// Reads the bytes of a packet and hears it, and tells whether the one call of its bank that it made succeeded.
+    /// Decodes the bytes of a packet and handles it. Returns whether its one call of the bank
+    /// succeeded, if it made one.
     fn read(&mut self, bytes: &[u8], outbox: &mut Outbox) -> bool
         requires { outbox.old ≡ [] }
         ensures half { self.new.half ≡ (device_on_packet result self.old bytes.now).half }
@@ -195,7 +202,7 @@ impl<B: Bank> DeviceNode<B> {
         self.accept(&packet, outbox)
     }
 
-    /// Hears a packet, and tells whether the one call of its bank that it made succeeded.
+    /// Handles a packet. Returns whether its one call of the bank succeeded, if it made one.
     fn accept(&mut self, packet: &Packet<'_>, outbox: &mut Outbox) -> bool
         requires read { IsRead packet.now }
         requires outbox { outbox.old ≡ [] }

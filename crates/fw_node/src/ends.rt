@@ -19,7 +19,7 @@ use pldm_base::MAX_REPLY;
 use pldm_exch::{Asker, CallTick, Request, Taker};
 use std::marker::Model;
 
-/// What a node has to ask a peer, and to answer it.
+/// The state of a node that asks a peer, and answers it.
 #[derive(Drop)]
 pub(crate) struct Ends {
     asker: Asker,
@@ -38,8 +38,8 @@ impl Model for Ends {
 }
 
 impl Ends {
-    /// The ends of the node `own` for the node `peer` in a network with this transmission unit, before the first request and
-    /// the first answer.
+    /// Creates the ends of the node `own` for the node `peer` in a network with this transmission
+    /// unit.
     #[tactic(auto, using(crate::proofs::OneATick::callers_stay))]
     pub(crate) fn new(unit: Unit, own: u8, peer: u8) -> Ends
         ensures { result ≡ ends_new unit own peer }
@@ -71,14 +71,14 @@ impl Ends {
         self.asker.peer()
     }
 
-    /// Whether nothing of the last request can come any more.
+    /// Whether nothing of the last request can arrive any more.
     pub(crate) fn is_quiet(&self) -> bool
         ensures { result ≡ is_quiet self.now.asking.caller }
     {
         self.asker.is_quiet()
     }
 
-    /// Gives the open request up, if there is one.
+    /// Gives up the open request, if there is one.
     #[tactic(auto, using(crate::proofs::OneATick::callers_stay))]
     pub(crate) fn abandon(&mut self)
         ensures { self.new ≡ record self.old { asking = record self.old.asking { caller = unwished_abandoned None self.old.asking.caller } } }
@@ -88,7 +88,7 @@ impl Ends {
         }
     }
 
-    /// Gives the open request up, unless it is of this command.
+    /// Gives up the open request, unless it is of this command.
     #[tactic(auto, using(crate::proofs::OneATick::callers_stay))]
     pub(crate) fn abandon_unless(&mut self, wish: &Option<Command<'_>>)
         ensures { self.new ≡ record self.old { asking = record self.old.asking { caller = unwished_abandoned (option_map command_of wish.now) self.old.asking.caller } } }
@@ -98,7 +98,7 @@ impl Ends {
         }
     }
 
-    /// Whether no request is open that isn't of this command.
+    /// Whether no request is open, or the open one is of this command.
     fn is_wished(&self, wish: &Option<Command<'_>>) -> bool
         ensures { result ≡ wished_or (option_map command_of wish.now) self.now.asking.caller.asked }
     {
@@ -118,7 +118,7 @@ impl Ends {
         self.asker.can_begin()
     }
 
-    /// Begins a request of this command, and gives out the message to send.
+    /// Begins a request of this command. Returns the message to send.
     #[tactic(auto, using(crate::proofs::OneATick::callers_stay))]
     pub(crate) fn begin(&mut self, command: &Command<'_>) -> Message
         requires may { may_begin self.old.asking.caller ≡ true }
@@ -137,7 +137,7 @@ impl Ends {
         self.asker.open_message()
     }
 
-    /// Hears a packet, and writes the message that the answer speaks of into `message`.
+    /// Handles a packet, and writes the message that the result refers to into `message`.
     #[tactic(auto, using(crate::proofs::Rows::rows, crate::proofs::OneATick::callers_stay))]
     pub(crate) fn receive(&mut self, packet: &Packet<'_>, message: &mut Message) -> Incoming
         requires read { IsRead packet.now }
@@ -154,7 +154,8 @@ impl Ends {
         Incoming::Brought(self.taker.on_request(packet, message))
     }
 
-    /// Answers a new request with a completion code and fields: the message to send, which is kept.
+    /// Answers a new request with a completion code and fields. Returns the message to send, which
+    /// is kept.
     pub(crate) fn answer(&mut self, request: &Request<'_>, reply: &[u8]) -> Message
         requires { length reply.now ≤ MAX_REPLY }
         ensures answer { result ≡ reply_message request.now.message request.now.head reply.now }
@@ -163,8 +164,8 @@ impl Ends {
         self.taker.answer(request, reply)
     }
 
-    /// A tick passes: what is held and kept grows older, and the open request is sent again or given up. The message to send
-    /// is the open one's then.
+    /// Handles a tick: held packets, kept answers and the open request grow older, and the request
+    /// is sent again or given up. The message to send is that of the open request afterwards.
     #[tactic(auto, using(crate::proofs::OneATick::callers_stay))]
     pub(crate) fn tick(&mut self) -> CallTick
         ensures answer { result ≡ tick_word (caller_tick self.old.asking.caller).1 }

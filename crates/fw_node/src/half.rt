@@ -1,4 +1,4 @@
-//! What a node has for one peer.
+//! The state of a node for one peer.
 
 ghost use Rattle.std.specs.Prelude.{◌≡◌, ◌≤◌, ◌++◌, ◌+◌, ◌*◌, [], ◌∷◌, Bool, false, length, true};
 ghost use Rattle.mctp_wire.specs.Packet.{IsRead, spelling};
@@ -35,7 +35,8 @@ pub(crate) struct Half<C> {
 }
 
 impl<'p, C: Core<'p>> Half<C> {
-    /// The half of the node `own` for the node `peer` in a network with this transmission unit, before its first packet.
+    /// Creates the half of the node `own` for the node `peer` in a network with this transmission
+    /// unit.
     pub(crate) fn new(unit: Unit, own: u8, peer: u8, core: C) -> Half<C>
         ensures ends { result.ends ≡ ends_new unit own peer }
         ensures core { result.core ≡ core }
@@ -60,7 +61,7 @@ impl<'p, C: Core<'p>> Half<C> {
         self.ends.peer()
     }
 
-    /// Gives up what is open and no longer wished.
+    /// Gives up the open request if it is no longer the pending command.
     pub(crate) fn settle(&mut self, given: C::Given)
         ensures settled { self.new ≡ record self.old { ends = record self.old.ends { asking = record self.old.ends.asking { caller = unwished_abandoned ((C.does given).wish (C.seen self.old.core)) self.old.ends.asking.caller } } } }
     {
@@ -71,7 +72,7 @@ impl<'p, C: Core<'p>> Half<C> {
         }
     }
 
-    /// Gives up what is open, unless it is what the core wishes.
+    /// Gives up the open request, unless it is the core's pending command.
     fn abandon_unwished(&mut self, given: C::Given)
         ensures abandoned { self.new ≡ record self.old { ends = record self.old.ends { asking = record self.old.ends.asking { caller = unwished_abandoned ((C.does given).wish (C.seen self.old.core)) self.old.ends.asking.caller } } } }
     {
@@ -79,7 +80,7 @@ impl<'p, C: Core<'p>> Half<C> {
         self.ends.abandon_unless(&wish);
     }
 
-    /// Hears a packet, and sends what the node answers. Whether the core's bank worked.
+    /// Handles a packet, and sends the node's answer. Returns whether the core's bank worked.
     pub(crate) fn handle_packet(
         &mut self,
         identity: &mut Identity,
@@ -120,7 +121,7 @@ impl<'p, C: Core<'p>> Half<C> {
         }
     }
 
-    /// What a packet brings; the message that the answer speaks of is written into `message`.
+    /// Reads a packet. The message that the result refers to is written into `message`.
     fn incoming(&mut self, packet: &Packet<'_>, message: &mut Message) -> Incoming
         requires read { IsRead packet.now }
         ensures brings { (given : C.Given) (works : Bool) → half_on_packet (C.does given) works (half_of 0 (C.seen self.old.core) self.old.ends) (spelling packet.now) ≡ half_on_incoming (C.does given) works (half_of 0 (C.seen self.new.core) self.new.ends) (incoming_of result message.new) }
@@ -134,7 +135,7 @@ impl<'p, C: Core<'p>> Half<C> {
         self.ends.receive(packet, message)
     }
 
-    /// The core learns the answer to its request. Whether its bank worked.
+    /// The core handles the answer to its request. Returns whether its bank worked.
     fn learn(&mut self, given: C::Given, command: u8, reply: &[u8]) -> bool
         ensures half { half_of 0 (C.seen self.new.core) self.new.ends ≡ half_with_core (C.does given) (half_of 0 (C.seen self.old.core) self.old.ends) ((C.does given).learn (C.seen self.old.core) (answer_read command reply.now) result) }
         ensures worked { result ≡ true → C.faults self.new.core ≡ C.faults self.old.core }
@@ -149,7 +150,7 @@ impl<'p, C: Core<'p>> Half<C> {
         works
     }
 
-    /// The core learns an answer, as it was written. Whether its bank worked.
+    /// The core handles an answer, as its bytes were received. Returns whether its bank worked.
     fn learn_answer(&mut self, given: C::Given, command: u8, reply: &[u8]) -> bool
         ensures core { C.seen self.new.core ≡ (C.does given).learn (C.seen self.old.core) (answer_read command reply.now) result }
         ensures ends { self.new.ends ≡ self.old.ends }
@@ -164,7 +165,7 @@ impl<'p, C: Core<'p>> Half<C> {
         }
     }
 
-    /// Answers a new request. Whether the core's bank worked.
+    /// Answers a new request. Returns whether the core's bank worked.
     #[tactic(auto, using(crate::proofs::NodeServes::node_serves))]
     fn serve(
         &mut self,
@@ -205,7 +206,7 @@ impl<'p, C: Core<'p>> Half<C> {
         outbox.send(self.ends.unit(), &answer);
     }
 
-    /// Takes a firmware update command, and answers it. Whether the core's bank worked.
+    /// Takes a firmware update command, and answers it. Returns whether the core's bank worked.
     fn take(&mut self, given: C::Given, request: &Request<'_>, outbox: &mut Outbox) -> bool
         requires { outbox.old ≡ [] }
         ensures half { half_of 0 (C.seen self.new.core) self.new.ends ≡ half_after_settle (C.does given) (half_after_reply (half_of 0 (reply_read (C.does given) (is_quiet self.old.ends.asking.caller) result (C.seen self.old.core) (read_by (C.does given) request.now.head.command request.now.body)).core self.old.ends) (reply_message request.now.message request.now.head (reply_read (C.does given) (is_quiet self.old.ends.asking.caller) result (C.seen self.old.core) (read_by (C.does given) request.now.head.command request.now.body)).reply)) }
@@ -223,7 +224,7 @@ impl<'p, C: Core<'p>> Half<C> {
         works
     }
 
-    /// The core's reply to a firmware update command, and whether its bank worked.
+    /// Returns the core's reply to a firmware update command, and whether its bank worked.
     #[tactic(auto, using(crate::proofs::NodeServes::node_serves))]
     fn reply_to(&mut self, given: C::Given, request: &Request<'_>) -> (Reply, bool)
         ensures core { C.seen self.new.core ≡ (reply_read (C.does given) (is_quiet self.old.ends.asking.caller) result.1 (C.seen self.old.core) (read_by (C.does given) request.now.head.command request.now.body)).core }
@@ -245,7 +246,8 @@ impl<'p, C: Core<'p>> Half<C> {
         }
     }
 
-    /// The first part of a tick: what is held and kept grows older, and the open request is sent again, or given up.
+    /// The first part of a tick: held packets, kept answers and the open request grow older, and
+    /// the request is sent again or given up.
     pub(crate) fn grow(&mut self, given: C::Given, outbox: &mut Outbox)
         requires { length outbox.old ≤ 60 }
         ensures half { half_of 0 (C.seen self.new.core) self.new.ends ≡ half_grows (C.does given) (half_of 0 (C.seen self.old.core) self.old.ends) }
@@ -263,7 +265,8 @@ impl<'p, C: Core<'p>> Half<C> {
         }
     }
 
-    /// The rest of a tick: the core's own; then what isn't wished is given up, and what is wished begins.
+    /// The rest of a tick: the core's own; then an open request that is no longer the pending
+    /// command is given up, and a pending command begins.
     pub(crate) fn wait(&mut self, given: C::Given, outbox: &mut Outbox)
         requires { length outbox.old + 4 * length (half_waits (C.does given) (half_of 0 (C.seen self.old.core) self.old.ends)).sent ≤ 64 }
         ensures half { half_of 0 (C.seen self.new.core) self.new.ends ≡ (half_waits (C.does given) (half_of 0 (C.seen self.old.core) self.old.ends)).half }
@@ -282,7 +285,8 @@ impl<'p, C: Core<'p>> Half<C> {
         }
     }
 
-    /// Gives up what isn't wished, and begins what is.
+    /// Gives up an open request that is no longer the pending command, and begins a pending
+    /// command.
     fn ask(&mut self, given: C::Given, outbox: &mut Outbox)
         requires { length outbox.old + 4 * length (last_part (C.does given) (half_of 0 (C.seen self.old.core) self.old.ends) []).sent ≤ 64 }
         ensures half { half_of 0 (C.seen self.new.core) self.new.ends ≡ (last_part (C.does given) (half_of 0 (C.seen self.old.core) self.old.ends) []).half }
@@ -304,7 +308,7 @@ impl<'p, C: Core<'p>> Half<C> {
         outbox.send(self.ends.unit(), &message);
     }
 
-    /// Starts anew.
+    /// Restarts.
     pub(crate) fn restart(&mut self)
         ensures core { (given : C.Given) → C.seen self.new.core ≡ (C.does given).restarted (C.seen self.old.core) }
         ensures ends { self.new.ends ≡ ends_new self.old.ends.asking.unit self.old.ends.asking.own self.old.ends.asking.peer }

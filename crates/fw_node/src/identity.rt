@@ -1,9 +1,9 @@
-//! Who a node is.
+//! The identity of a node.
 
 use mctp_ctl::Endpoint;
 use pldm_base::Tid;
 
-/// Who a node is on its network: its endpoint, and its terminus identifier.
+/// The identity of a node on its network: its endpoint, and its terminus identifier.
 #[derive(Drop)]
 pub(crate) struct Identity {
     pub(crate) endpoint: Endpoint,

@@ -1,5 +1,6 @@
-//! The nodes of a firmware update (DSP0267 1.0): the update agent, and a firmware device, as machines of packets (DSP0236)
-//! and ticks. A call of a node is one step of it: it hears a packet, a tick passes, its user calls it, or it starts anew.
+//! The nodes of a firmware update (DSP0267 1.0): the update agent and a firmware device, as state
+//! machines of packets (DSP0236) and ticks. Each call of a node is one step: it handles a packet, a
+//! tick, a call of its user, or a restart.
 #![tactic(auto)]
 
 mod agent_node;

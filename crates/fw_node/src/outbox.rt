@@ -1,4 +1,4 @@
-//! What a node sends in a call.
+//! The packets that a node sends in a call.
 
 ghost use Rattle.std.specs.Prelude.{◌≡◌, ◌≤◌, ◌+◌, ◌++◌, ◌==◌, [], IfOk, List, ℕ, length, map, option_map, slice_get, drop};
 ghost use Rattle.fw_node.specs.Packets.{packets_of};
@@ -9,12 +9,12 @@ use mctp_wire::{MAX_PACKETS, RawPacket, Unit};
 use std::alloc::{AllocError, Global};
 use std::marker::Model;
 
-/// The most packets that a node sends in a call: a request that is sent again or one that begins, of four packets, for each
-/// of 16 peers. Beside a request that was just sent again none may begin.
+/// The most packets that a node sends in a call: a request of four packets for each of 16 peers,
+/// which is sent again or begins. No request may begin if another of that peer was just sent again.
 const CAPACITY: usize = 64;
 
-/// The packets that a node sends in a call, in the order of sending. It is handed in empty, and is made once with its
-/// memory.
+/// The packets that a node sends in a call, in the order of sending. It is empty at the start of a
+/// call. Its memory is allocated once.
 #[derive(Drop)]
 pub struct Outbox {
     packets: HeapCircularBuffer<RawPacket>,
@@ -31,10 +31,10 @@ impl Model for Outbox {
 }
 
 impl Outbox {
-    /// An outbox without packets, with room for 64.
+    /// Creates an empty outbox with room for 64 packets.
     ///
     /// # Errors
-    /// `AllocError` where that memory is refused.
+    /// `AllocError` if memory for it is refused.
     pub fn new(alloc: Global) -> Result<Outbox, AllocError>
         ensures { IfOk result (λ o. o ≡ []) }
     {
@@ -49,7 +49,7 @@ impl Outbox {
         self.packets.is_empty()
     }
 
-    /// How many packets there are to send.
+    /// Returns the number of packets to send.
     pub fn len(&self) -> usize
         ensures count { result ≡ length self.now }
         ensures few { length self.now ≤ 64 }
@@ -57,7 +57,7 @@ impl Outbox {
         self.packets.len()
     }
 
-    /// Takes the first packet out.
+    /// Removes and returns the first packet.
     pub fn pop(&mut self) -> Option<RawPacket>
         ensures packet { option_map (λ p. p.items) result ≡ slice_get self.old 0 }
         ensures rest { self.new ≡ drop 1 self.old }
@@ -65,7 +65,7 @@ impl Outbox {
         self.packets.pop_front()
     }
 
-    /// Puts the packets of a message behind those that are there, cut at this transmission unit.
+    /// Appends the packets of a message, cut at this transmission unit.
     pub fn send(&mut self, unit: Unit, message: &Message)
         requires { length self.old ≤ 60 }
         ensures packets { self.new ≡ self.old ++ packets_of unit message.now }
@@ -75,7 +75,7 @@ impl Outbox {
     }
 }
 
-/// Puts the packets of a message behind others, each as it is cut.
+/// Appends the packets of a message, each as it is cut.
 fn push_pieces(out: &mut HeapCircularBuffer<RawPacket>, unit: Unit, message: &Message)
     requires { length out.old.items + 4 ≤ out.old.capacity }
     ensures few { length out.new.items ≤ length out.old.items + 4 }

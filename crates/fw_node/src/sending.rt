@@ -1,4 +1,4 @@
-//! What both kinds of node send by themselves.
+//! The messages that both kinds of node send without a call of their core.
 
 ghost use Rattle.std.specs.Prelude.{◌≡◌, ◌≤◌, ◌+◌, ◌*◌, ◌++◌, [], length};
 ghost use Rattle.mctp_ctl.specs.Control.{answer_of};
@@ -27,7 +27,7 @@ pub(crate) fn reply_to_other(tid: &mut Tid, role: Role, request: &Request<'_>) -
     code_alone(ERROR_INVALID_PLDM_TYPE)
 }
 
-/// Sends what a tick asks to be sent again: the message of the open request.
+/// Sends the message of the open request again, if the tick asks for it.
 #[tactic(auto, using(crate::proofs::Again::again))]
 pub(crate) fn send_again(ends: &Ends, outbox: &mut Outbox, call: CallTick)
     requires { length outbox.old ≤ 60 }

@@ -1,4 +1,4 @@
--- How a device, its session and the two cells agree.
+-- The agreement of a device, its session and the two cells.
 use Rattle.std.specs.Prelude.{◌≡◌, ◌⊎◌, ◌<◌, ℕ, ◌==◌, Bool, true, false, List, [], length, map, take, Option, Some, None}
 use Rattle.fw_package.specs.Choice.{component_at, record_number}
 use Rattle.fw_package.specs.Package.{ComponentOf, DescriptorOf, PackageText}
@@ -19,7 +19,7 @@ use Rattle.fw_message.proofs.Safety.Counts.{IsPending}
 use Rattle.fw_message.proofs.Safety.Histories.{IsHistory}
 use Rattle.fw_message.proofs.Safety.Readings.{since}
 
--- what a cell holds
+-- the content of a cell
 abbrev pub reply_of : Option CellContentOf → Option AnswerOf
 reply_of None = None
 reply_of (Some h) = h.reply
@@ -45,7 +45,7 @@ abbrev pub IsLost : Phase → Type 0
 IsLost Phase.Idle = Unit {0}
 IsLost p = ⊥
 
--- outside IDLE the device's own cell is empty or holds what it wishes
+-- outside IDLE the device's own cell is empty or has its pending command
 abbrev pub Holds : Option CommandOf → Option CommandOf → Type 0
 Holds wish None = Unit {0}
 Holds wish (Some c) = wish ≡ Some c
@@ -54,7 +54,7 @@ abbrev pub OwnStands : Phase → Option CommandOf → Option CommandOf → Type 
 OwnStands Phase.Idle wish own = Unit {0}
 OwnStands p wish own = Holds wish own
 
--- from Params to Activate the agent's cell is empty, or open with what the session wishes
+-- from Params to Activate the agent's cell is empty, or open with the session's pending command
 abbrev pub StandsOpen : Option CommandOf → Option CellContentOf → Type 0
 StandsOpen wish None = Unit {0}
 StandsOpen wish (Some h) = (h.live ≡ true) × (wish ≡ Some h.command)
@@ -67,19 +67,19 @@ CommandStands Stage.Cancelling wish down = Unit {0}
 CommandStands (Stage.Failed c) wish down = Unit {0}
 CommandStands g wish down = StandsOpen wish down
 
--- DOWNLOAD: bytes are missing, or none
+-- DOWNLOAD: bytes are missing while in progress, and none are after it
 abbrev pub StageForm : Phase → ℕ → Type 0
 StageForm (Phase.Download u w progress.InProgress) have = have < w.size
 StageForm (Phase.Download u w progress.Succeeded) have = have ≡ w.size
 StageForm p have = Unit {0}
 
--- ClearOld: a device that cancelled, or had nothing to cancel, is lost
+-- ClearOld: a device that cancelled, or had nothing to cancel, is in no update
 abbrev pub Cleared : Phase → Option AnswerOf → Type 0
 Cleared p (Some AnswerOf.CancelUpdate) = IsLost p
 Cleared p (Some (AnswerOf.Refused code)) = code ≡ 0x80 → IsLost p
 Cleared p reply = Unit {0}
 
--- Request: an update that was begun has nothing applied
+-- Request: an update that began has nothing applied
 abbrev pub FreshIn : List RowOf → Phase → Type 0
 FreshIn rows Phase.Idle = Unit {0}
 FreshIn rows (Phase.Learn u) = NoneApplied rows
@@ -96,7 +96,7 @@ TableTime rows (Phase.Learn u) = NoneApplied rows
 TableTime rows (Phase.Ready u) = NoneApplied rows
 TableTime rows p = ⊥
 
--- the component that the device works at is the session's
+-- the device works at the session's component
 pub record IsSame (w : WorkOf) (c : ComponentOf) : Type 0 where
   pub key : w.key ≡ key_of c
   pub size : w.size ≡ length c.image
@@ -118,7 +118,7 @@ NothingAccepted None = Unit {0}
 NothingAccepted (Some (AnswerOf.Refused code)) = Unit {0}
 NothingAccepted (Some a) = ⊥
 
--- Update: a component that the device took is begun
+-- Update: a component that the device accepted is begun
 pub record IsBegun (ps : List PackageText) (ds : List DescriptorOf) (n : ℕ) (rs : List Recorded) (c : ComponentOf) (rows : List RowOf) (bytes : List ℕ) (w : WorkOf) (reply : Option AnswerOf) : Type 0 where
   pub same : IsSame w c
   pub stage : bytes ≡ []
@@ -141,7 +141,7 @@ abbrev pub UpdateOffered : List PackageText → List DescriptorOf → ℕ → Li
 UpdateOffered ps ds n rs c rows bytes p reply true = IsBegunAt ps ds n rs c rows bytes p reply
 UpdateOffered ps ds n rs c rows bytes p reply false = Waiting ps ds n rs rows p
 
--- Download: what is written is a beginning of the image, and an answer continues it
+-- Download: the stage is a prefix of the image, and an answer continues it
 abbrev pub IsPiece : List ℕ → CommandOf → AnswerOf → Type 0
 IsPiece image c (AnswerOf.Refused code) = Unit {0}
 IsPiece image (CommandOf.RequestFirmwareData offset n) (AnswerOf.RequestFirmwareData bytes) = bytes ≡ window image offset n
@@ -164,7 +164,7 @@ Transfer ps ds n rs c rows bytes Phase.Idle command reply = Unit {0}
 Transfer ps ds n rs c rows bytes (Phase.Download u w a) command reply = IsTransfer ps ds n rs c rows bytes w command reply
 Transfer ps ds n rs c rows bytes p command reply = ⊥
 
--- Verify: what is written is the image
+-- Verify: the stage is the image
 pub record IsHeld (ps : List PackageText) (ds : List DescriptorOf) (n : ℕ) (rs : List Recorded) (c : ComponentOf) (rows : List RowOf) (bytes : List ℕ) (w : WorkOf) : Type 0 where
   pub same : IsSame w c
   pub stage : bytes ≡ c.image
@@ -177,7 +177,7 @@ Verification ps ds n rs c rows bytes (Phase.Download u w progress.Succeeded) rep
 Verification ps ds n rs c rows bytes (Phase.Verify u w a) reply = IsHeld ps ds n rs c rows bytes w × NothingAccepted reply
 Verification ps ds n rs c rows bytes p reply = ⊥
 
--- Apply: it is to be applied, or was
+-- Apply: the image is applied, and all other applied images are recorded
 pub record IsSealed (ps : List PackageText) (ds : List DescriptorOf) (n : ℕ) (rs : List Recorded) (c : ComponentOf) (rows : List RowOf) : Type 0 where
   pub applied : AppliedIs rows (key_of c) c.image
   pub others : BackedBut ps ds n rs (key_of c) rows
@@ -198,7 +198,7 @@ abbrev pub is_applied : Option CommandOf → Bool
 is_applied (Some (CommandOf.ApplyComplete r methods)) = r == 0
 is_applied c = false
 
--- an application is under way that isn't recorded
+-- an application that isn't recorded yet
 abbrev pub IsUnderWay : Phase → Option CellContentOf → Type 0
 IsUnderWay p up = (is_sealed p ≡ true) ⊎ (is_applied (asked_of up) ≡ true)
 
@@ -207,7 +207,7 @@ abbrev pub Activation : List PackageText → List DescriptorOf → ℕ → List 
 Activation ps ds n rs rows p (Some (AnswerOf.ActivateFirmware time)) = Unit {0}
 Activation ps ds n rs rows p reply = Settled ps ds n rs rows p
 
--- What the session's state says of the device and the cells.
+-- The agreement of the session's stage with the device and the cells.
 abbrev pub Together : List PackageText → List DescriptorOf → List Recorded → PairOf → ℕ → Stage → Type 0
 Together ps ds rs m n (Stage.ClearOld j) = Cleared m.device.phase (reply_of m.down)
 Together ps ds rs m n (Stage.Request j) = FreshUpdate m.device.rows m.device.phase (reply_of m.down)
@@ -225,19 +225,20 @@ Together ps ds rs m n (Stage.AllApplied j) = Settled ps ds n rs m.device.rows m.
 Together ps ds rs m n (Stage.Activate j) = Activation ps ds n rs m.device.rows m.device.phase (reply_of m.down)
 Together ps ds rs m n g = Unit {0}
 
--- in Apply: what is sealed, or told to be applied, is pending
+-- in Apply: an image that is sealed, or reported as applied, is pending
 abbrev pub Pending : List PackageText → List EntryOf → PairOf → ℕ → Stage → Type 0
 Pending ps es m n (Stage.Apply t) =
     IsUnderWay m.device.phase m.up → IsPending ps (key_of (at_hand (package_at ps n) t)) (at_hand (package_at ps n) t).image es
 Pending ps es m n g = Unit {0}
 
--- an ActivateFirmware that was asked finds all that is applied recorded of one package; no CancelUpdateComponent is asked
+-- for an ActivateFirmware that was asked, all applied images are recorded of one package; no
+-- CancelUpdateComponent is asked
 abbrev pub Stray : List PackageText → List DescriptorOf → List Recorded → List RowOf → Phase → Option CommandOf → Type 0
 Stray ps ds rs rows p (Some (CommandOf.ActivateFirmware b)) = (n : ℕ) × Settled ps ds n rs rows p
 Stray ps ds rs rows p (Some CommandOf.CancelUpdateComponent) = ⊥
 Stray ps ds rs rows p c = Unit {0}
 
--- the record that the device's descriptors choose is the job's
+-- the job has the record that the device's descriptors choose
 abbrev pub IsChosen : PackageText → List DescriptorOf → JobOf → Type 0
 IsChosen p ds j = record_number p ds ≡ Some j.chosen
 
@@ -254,12 +255,12 @@ HasChosen p ds (Stage.AllApplied j) = IsChosen p ds j
 HasChosen p ds (Stage.Activate j) = IsChosen p ds j
 HasChosen p ds g = Unit {0}
 
--- descriptors that were told are the device's
+-- descriptors that were answered are the device's
 abbrev pub AreTold : List DescriptorOf → Option AnswerOf → Type 0
 AreTold ds (Some (AnswerOf.QueryDeviceIdentifiers xs)) = map package_descriptor xs ≡ ds
 AreTold ds reply = Unit {0}
 
--- What holds of a pair and its history.
+-- The invariant of a pair and its history.
 pub record IsStanding (ps : List PackageText) (ds : List DescriptorOf) (first : List RowOf) (es : List EntryOf) (m : PairOf) : Type 0 where
   pub own : OwnStands m.device.phase (device_wish m.device) (command_of m.up)
   pub command : CommandStands m.session.stage (down_wish ps m.session) m.down

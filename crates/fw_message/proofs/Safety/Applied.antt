@@ -1,4 +1,4 @@
--- What is applied on a device, row by row.
+-- The applied images of a device, row by row.
 use Rattle.std.specs.Prelude.{ℕ, ◌≡◌, Bool, true, false, List, [], ◌∷◌, ◌++◌, All, Option, Some, None}
 use Rattle.std.specs.Bool.{OnTrue, OnFalse}
 use Rattle.std.proofs.Common.{refl, sym, ap, ◌∙◌, inl, inr, subst}
@@ -21,12 +21,12 @@ abbrev pub BackedBy : List PackageText → List DescriptorOf → ℕ → List Re
 BackedBy ps ds number rs key None = Unit {0}
 BackedBy ps ds number rs key (Some image) = IsFrom ps ds rs number (put_of key image)
 
--- all that is applied is recorded of one package
+-- all applied images are recorded of one package
 unfoldable pub Backed : List PackageText → List DescriptorOf → ℕ → List Recorded → List RowOf → Type 0
 Backed ps ds number rs [] = Unit {0}
 Backed ps ds number rs (r ∷ rows) = BackedBy ps ds number rs r.key r.applied × Backed ps ds number rs rows
 
--- all but what is applied under this key
+-- all applied images but that of this key are
 unfoldable pub BackedBut : List PackageText → List DescriptorOf → ℕ → List Recorded → Key → List RowOf → Type 0
 BackedBut ps ds number rs key [] = Unit {0}
 BackedBut ps ds number rs key (r ∷ rows) =
@@ -40,7 +40,7 @@ abbrev pub AppliedAt : Option ImageOf → List ℕ → Type 0
 AppliedAt None bytes = ⊥
 AppliedAt (Some image) bytes = image.bytes ≡ bytes
 
--- what is applied under the key has these bytes
+-- the image applied under the key has these bytes
 unfoldable pub AppliedIs : List RowOf → Key → List ℕ → Type 0
 AppliedIs [] key bytes = Unit {0}
 AppliedIs (r ∷ rows) key bytes = OnTrue (same_key r.key key) (AppliedAt r.applied bytes) × AppliedIs rows key bytes
@@ -86,7 +86,7 @@ sealed_applied (r ∷ rows) key image = (at_row (same_key r.key key) refl, seale
     at_row true e = rw e refl
     at_row false e = rw e tt
 
--- a record more
+-- one more record
 recording_more : (ps : List PackageText) (n : ℕ) (key : Key) (rs : List Recorded) (r : Recorded) → HasRecording ps n key rs
     → HasRecording ps n key (rs ++ r ∷ [])
 recording_more ps n key [] r h = absurd h
@@ -102,7 +102,7 @@ backed_more : (ps : List PackageText) (ds : List DescriptorOf) (n : ℕ) (rs : L
 backed_more ps ds n rs r key None h = tt
 backed_more ps ds n rs r key (Some image) h = record { named = h.named; recorded = recording_more ps n key rs r h.recorded }
 
--- what a package names for the device under a key
+-- the image that a package names for the device under a key
 unfoldable pub Names : List PackageText → List DescriptorOf → ℕ → Key → List ℕ → Type 0
 Names ps ds n key bytes = image_for (package_at ps n) ds key.classification key.identifier ≡ Some bytes
 
@@ -117,7 +117,7 @@ backed_here ps ds n rs r key bytes (Some image) is k names h =
       recorded = recording_here ps n key rs r is k;
     }
 
--- with the record of what is sealed all is backed
+-- with the record of the sealed image, all applied images are recorded
 pub backed_recorded : (ps : List PackageText) (ds : List DescriptorOf) (n : ℕ) (rs : List Recorded) (r : Recorded) (key : Key) (bytes : List ℕ) (rows : List RowOf)
     → r.«package» ≡ n → key_of (recorded_component ps r) ≡ key → Names ps ds n key bytes
     → AppliedIs rows key bytes → BackedBut ps ds n rs key rows → Backed ps ds n (rs ++ r ∷ []) rows
@@ -133,7 +133,7 @@ backed_recorded ps ds n rs r key bytes (x ∷ rows) is k names a b =
         backed_here ps ds n rs r x.key bytes x.applied is (k ∙ same) (subst (λ (y : Key). Names ps ds n y bytes) same names) a
     at_row false e a b = backed_more ps ds n rs r x.key x.applied b
 
--- what is put in is from the package
+-- the images that are activated are from the package
 among_from : (ps : List PackageText) (ds : List DescriptorOf) (n : ℕ) (rs : List Recorded) (p : KeyedImage) (qs : List KeyedImage) → IsFrom ps ds rs n p
     → All (IsFrom ps ds rs n) qs → All (IsFrom ps ds rs n) (images_with p qs)
 among_from ps ds n rs p [] h all = All-cons (IsFrom ps ds rs n) p [] h all

@@ -1,4 +1,5 @@
--- RequestUpdate, PassComponentTable, UpdateComponent and ActivateFirmware that a device accepts keep what stands.
+-- RequestUpdate, PassComponentTable, UpdateComponent and ActivateFirmware that a device accepts
+-- keep the invariant.
 use Rattle.std.specs.Prelude.{◌≡◌, ◌<◌, ◌≤◌, ◌==◌, ◌||◌, not, nat_lt, ℕ, Bool, true, false, if◌then◌else◌, List, [], length, Option, Some, None}
 use Rattle.std.proofs.Common.{refl, subst, ap, arith}
 use Rattle.std.proofs.lemmas.Bool.{ltb-true, ltb-false, cond_both}
@@ -49,7 +50,8 @@ table_learns rows (Phase.Learn x) e u code is =
     tested false is = let same : x ≡ u = cc in ap Phase.Learn same
 table_learns rows p e u code is = absurd (cc)
 
--- work begins in READY XFER alone, with a quiet device, and with no image longer than a device takes
+-- work begins only in READY XFER, with a quiet device, and with an image that the device has room
+-- for
 pub record Begins (p : Phase) (o : OfferOf) (quiet : Bool) (u : UpdateOf) : Type 0 where
   pub ready : p ≡ Phase.Ready u
   pub quiet_is : quiet ≡ true
@@ -108,7 +110,7 @@ same_offered o c index version force e le =
     let is : o ≡ record { key = key_of c; index = index; version = version; size = sent_size c; force = force } = cc in
     record { key = ap (λ (x : OfferOf). x.key) is; size = sized c o.size (ap (λ (x : OfferOf). x.size) is) le }
 
--- the device knows of one more component
+-- the device got one more component of its table
 abbrev passed : PairOf → ListedOf → AnswerOf → Bool → Phase → State → PairOf
 passed m x a l p previous =
     record m { device = record m.device { phase = p; previous = previous }; down = Some (cell (CommandOf.PassComponentTable x) (Some a) l) }
@@ -133,7 +135,7 @@ time_form (Phase.Learn u) have t = tt
 time_form (Phase.Ready u) have t = tt
 time_form p have t = absurd t
 
--- in a phase that wishes nothing
+-- in a phase without a pending command
 own_at : (unit : «Unit») (p q : Phase) (have : ℕ) (c : Option CommandOf) → p ≡ q → OwnStands p (wish_at unit p have) c → OwnStands q (wish_at unit q have) c
 own_at unit p q have c e h = subst (λ (x : Phase). OwnStands x (wish_at unit x have) c) e h
 
@@ -151,7 +153,7 @@ module _ (ps : List PackageText) (ds : List DescriptorOf) where
   begun_together rs m n r l (Stage.Request j) c = none_dropped m.device.rows
   begun_together rs m n r l g c = absurd (let e = c.1 in cc)
 
-  -- a command that is wished is not wished in Apply
+  -- a pending command isn't pending in Apply
   no_pending : (es : List EntryOf) (m : PairOf) (n : ℕ) (c : CommandOf) (l : Bool) (g : Stage)
       → CommandStands g (stage_wish m.session.unit (package_at ps n) g) (Some (cell c None l)) → Pending ps es m n g
   no_pending es m n c l (Stage.Apply t) s = absurd (let e = s.1 in cc)

@@ -1,4 +1,4 @@
--- The operator's calls, time and restarts keep what stands.
+-- The operator's calls, time and restarts keep the invariant.
 use Rattle.std.specs.Prelude.{◌≡◌, ℕ, Bool, true, false, if◌then◌else◌, List, [], Option, Some, None}
 use Rattle.std.specs.Option.{IfSome, option_map}
 use Rattle.std.proofs.Common.{refl}
@@ -34,7 +34,7 @@ none_open None h = refl
 none_open (Some h) s = absurd (let e = s.1 in cc)
 
 module _ (ps : List PackageText) (ds : List DescriptorOf) (first : List RowOf) (es : List EntryOf) where
-  -- a test before a step
+  -- a condition before a step
   when : (b : Bool) (t : Stepped) → IfSome (Some t) (λ x. Leaves ps ds first es (Some x))
       → Leaves ps ds first es (if b then Some t else None)
   when true t s = s

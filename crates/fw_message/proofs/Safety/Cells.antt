@@ -1,4 +1,4 @@
--- Cells that are filled, emptied and closed keep what stands.
+-- Cells that are filled, emptied and closed keep the invariant.
 use Rattle.std.specs.Prelude.{◌≡◌, ℕ, Bool, true, false, if◌then◌else◌, List, length, Option, Some, None}
 use Rattle.std.proofs.Common.{refl, sym, subst, inl, inr}
 use Rattle.mctp_wire.specs.declared.unit.Unit.{«Unit»}
@@ -28,7 +28,7 @@ own_asks : (p : Phase) (wish : Option CommandOf) (c : CommandOf) → wish ≡ So
 own_asks Phase.Idle wish c e = tt
 own_asks p wish c e = e
 
--- only what is sealed is told to be applied
+-- only a sealed image is reported as applied
 applied_sealed : (unit : «Unit») (p : Phase) (have : ℕ) → is_applied (wish_at unit p have) ≡ true → is_sealed p ≡ true
 applied_sealed unit (Phase.Apply u w progress.InProgress) have e = absurd (cc)
 applied_sealed unit (Phase.Apply u w progress.Succeeded) have e = refl
@@ -117,7 +117,7 @@ module _ (ps : List PackageText) (ds : List DescriptorOf) where
   ]
   asked_pending es m c n g e h = tt
 
-  -- the agent's cell is emptied where nobody waits for it
+  -- the agent's cell is emptied if nobody waits for it
   dropped_down : (rs : List Recorded) (m : PairOf) (c : CommandOf) (r : Option AnswerOf) (n : ℕ) (g : Stage)
       → CommandStands g (stage_wish m.session.unit (package_at ps n) g) (Some (record { command = c; reply = r; live = false }))
       → Together ps ds rs (with_down m (Some (record { command = c; reply = r; live = false }))) n g

@@ -1,4 +1,4 @@
--- Closing cells keeps what stands.
+-- Closing cells keeps the invariant.
 use Rattle.std.specs.Prelude.{◌&&◌, ◌≡◌, true, List, Option, Some, None}
 use Rattle.std.proofs.Common.{refl}
 use Rattle.fw_package.specs.Package.{DescriptorOf, PackageText}
@@ -51,7 +51,7 @@ up_closes : (ps : List PackageText) (ds : List DescriptorOf) (first : List RowOf
 up_closes ps ds first es m None wish s = s
 up_closes ps ds first es m (Some h) wish s = closed_up ps ds first es m h (h.live && is_wished h.command wish) s
 
--- what stands is there after the closing
+-- the invariant holds after the closing
 pub closes : (ps : List PackageText) (ds : List DescriptorOf) (first : List RowOf) (es : List EntryOf) (m : PairOf)
     → IsStanding ps ds first es m → IsStanding ps ds first es (unwished_closed ps m)
 unfolding unwished_closed

@@ -1,4 +1,4 @@
--- What one more entry makes of the counts.
+-- The counts after one more entry.
 use Rattle.std.specs.Prelude.{length, ℕ, ◌≡◌, ◌≤◌, ◌+◌, nat_eq, Bool, true, false, List, [], ◌∷◌, ◌++◌, take}
 use Prim.Native.Nat.{suc, zero}
 use Rattle.std.proofs.Common.{arith, refl, subst}
@@ -14,15 +14,15 @@ use Rattle.ua_core.specs.declared.planned.Recorded.{Recorded}
 use Rattle.fw_message.specs.History.{EntryOf, applied_count, recorded_count, one_if, records_image, same_image}
 use Rattle.fwup_wire.proofs.SameCommands.{bytes_means, bytes_self, key_means, key_self}
 
--- the component that a record is of
+-- the component of a record
 abbrev pub recorded_component : List PackageText → Recorded → ComponentOf
 recorded_component ps r = component_at (package_at ps r.«package») r.component
 
--- more was applied than recorded, of this key and these bytes
+-- this key and these bytes were applied more often than recorded
 unfoldable pub IsPending : List PackageText → Key → List ℕ → List EntryOf → Type 0
 IsPending ps key bytes es = recorded_count ps key bytes es + 1 ≤ applied_count key bytes es
 
--- of no key and bytes was more recorded than applied
+-- no key and bytes were recorded more often than applied
 unfoldable pub NeverMore : List PackageText → List EntryOf → Type 0
 NeverMore ps es = (key : Key) (bytes : List ℕ) → recorded_count ps key bytes es ≤ applied_count key bytes es
 
@@ -103,7 +103,7 @@ never_recorded ps es r p h key bytes =
         let le = h key bytes in
         omega arith
 
--- an application that is noted is pending, and no harm to the balance
+-- an application that is noted is pending, and keeps the balance
 pub pending_applied : (ps : List PackageText) (es : List EntryOf) (p : KeyedImage) → NeverMore ps es
     → IsPending ps p.key p.bytes (es ++ EntryOf.Applied p ∷ [])
 unfolding IsPending NeverMore
@@ -131,7 +131,8 @@ never_activated ps es p h key bytes =
     let le = h key bytes in
     omega arith
 
--- what holds of each beginning, and of the whole with one more, holds of each beginning of that
+-- a property of each prefix, and of the whole with one more element, is a property of each prefix
+-- of that
 pub prefix_more : {A : Type 0} (P : List A → Type 0) (es : List A) (x : A) → ((n : ℕ) → P (take n es)) → P (es ++ x ∷ []) → (n : ℕ)
     → P (take n (es ++ x ∷ []))
 prefix_more P [] x h e zero = h 0

@@ -1,4 +1,4 @@
--- What the agent asks, and what the device answers, keeps what stands.
+-- The agent's commands, and the device's answers, keep the invariant.
 use Rattle.std.specs.Prelude.{◌≡◌, ℕ, ◌&&◌, not, Bool, true, false, if◌then◌else◌, List, Option, Some, None}
 use Rattle.std.specs.Option.{IfSome}
 use Rattle.std.proofs.Common.{refl, sym, subst}
@@ -19,7 +19,7 @@ use Rattle.fw_message.proofs.Safety.Loose.{cell}
 use Rattle.fw_message.proofs.Safety.Readings.{since}
 use Rattle.fw_message.proofs.Safety.Takes.{Stood, asking, cancel_stands, other_stands, query_stands, refused_stands, taken}
 
--- where a step is taken, what it leaves stands
+-- if a step is taken, its result keeps the invariant
 abbrev pub Leaves : List PackageText → List DescriptorOf → List RowOf → List EntryOf → Option Stepped → Type 0
 Leaves ps ds first es o = IfSome o (Stood ps ds first es)
 

@@ -1,4 +1,4 @@
--- A history that goes on: it stays safe, and tied with the device and the records.
+-- A history that grows stays safe, and tied with the device and the records.
 use Rattle.std.specs.Prelude.{ℕ, ◌≡◌, List, [], ◌∷◌, ◌++◌, map, All, Contains, Option, Some, None, IfSome, Bool, true, false}
 use Rattle.std.proofs.Common.{refl, sym, ap, ◌∙◌, subst}
 use Rattle.std.proofs.lemmas.List.Elements.{All-nil, All-cons, All-head, All-tail, All-push, Contains-push, Contains-append_left}
@@ -15,7 +15,7 @@ use Rattle.fw_message.proofs.Safety.Readings.{activating, activations_applied, a
 use Rattle.fwup_wire.proofs.SameCommands.{key_means}
 use Rattle.fw_message.proofs.Safety.Turns.{HasOne, drop_runs, one_dropped, one_sealed, one_switched, seal_runs, switch_turns}
 
--- where an activation goes on, nothing is applied
+-- during an activation, nothing is applied
 abbrev pub IsEnded : Option ActivationOf → List RowOf → Type 0
 IsEnded None rows = Unit {0}
 IsEnded (Some a) rows = NoneApplied rows
@@ -115,7 +115,7 @@ history_recorded ps ds first rows made es r named pending h = record {
   ended = rw (current_recorded es r) h.ended;
 }
 
--- what is applied is dropped
+-- the applied images are dropped
 was_dropped : (es : List EntryOf) (row : RowOf) → WasApplied es row → WasApplied es (row_without_applied row)
 was_dropped es row h = tt
 
@@ -136,7 +136,7 @@ history_dropped ps ds first rows made es h = record {
   ended = ended_dropped (current_of es) rows;
 }
 
--- what is applied is activated
+-- the applied images are activated
 balanced_all : (ps : List PackageText) (qs : List KeyedImage) (es : List EntryOf) → Balanced ps es
     → Balanced ps (history_with es (map EntryOf.Activated qs))
 balanced_all ps [] es h = h

@@ -1,4 +1,4 @@
--- What the session learns keeps what stands.
+-- The answers that the session learns keep the invariant.
 use Rattle.std.specs.Prelude.{◌≡◌, ℕ, ◌==◌, ◌||◌, Bool, true, false, if◌then◌else◌, List, [], ◌∷◌, map, Option, Some, None, Result, Ok, Err}
 use Rattle.std.proofs.Common.{refl, sym, subst, ap}
 use Rattle.std.proofs.lemmas.Bool.{cond_both, eqb-true}
@@ -37,7 +37,7 @@ fresh_time rows Phase.Idle h = tt
 fresh_time rows (Phase.Learn u) h = h
 fresh_time rows p h = absurd h
 
--- the record of the device's descriptors is the job's
+-- the job has the record of the device's descriptors
 chosen_planned : (p : PackageText) (ds : List DescriptorOf) (number : ℕ) (r : Result (List ℕ) PlanFault) → record_number p ds ≡ Some number
     → HasChosen p ds (first_stage (planned number r))
 chosen_planned p ds number (Err fault) e = tt
@@ -48,7 +48,7 @@ chosen_job : (p : PackageText) (ds : List DescriptorOf) (o : Option ℕ) → rec
 chosen_job p ds None e = tt
 chosen_job p ds (Some number) e = chosen_planned p ds number (plan_of p number) e
 
--- the pair after what is learnt
+-- the pair after an answer is learned
 abbrev after : PairOf → SessionOf → PairOf
 after m s = record m { session = s; down = None }
 
@@ -70,7 +70,7 @@ module _ (ps : List PackageText) (ds : List DescriptorOf) (es : List EntryOf) wh
   begun_at n rs c rows bytes (Phase.Download u w progress.Succeeded) command r h = begun_transfer n rs c rows bytes w command r h
   begun_at n rs c rows bytes p command r h = absurd h
 
-  -- what holds of the stage that a row leads to
+  -- the invariant for the stage that a row steps to
   abbrev Gone : PairOf → SessionOf → ℕ → Stage → Type 0
   Gone m s n g = Together ps ds (since es) (after m s) n g × Pending ps es (after m s) n g × HasChosen (package_at ps n) ds g
 

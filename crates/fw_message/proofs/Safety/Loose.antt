@@ -1,4 +1,4 @@
--- A device that goes to IDLE, and a session that begins nothing, keep what stands.
+-- A device that goes to IDLE, and a session that begins nothing, keep the invariant.
 use Rattle.std.specs.Prelude.{ℕ, Bool, true, false, List, Option, Some, None}
 use Rattle.std.proofs.Common.{inl, inr}
 use Rattle.fw_package.specs.Package.{DescriptorOf, PackageText, ComponentOf}
@@ -64,7 +64,7 @@ module _ (ps : List PackageText) (ds : List DescriptorOf) where
   stray_lost rs rows other p (Some CommandOf.CancelUpdateComponent) s = s
   stray_lost rs rows other p c s = tt
 
-  -- whatever the session and the cells are, a lost device agrees
+  -- for any session and cells, a device in no update agrees
   pub lost_together : (rs : List Recorded) (m : PairOf) (v : DeviceState) (n : ℕ) (g : Stage)
       → Together ps ds rs (record m { device = record v { phase = Phase.Idle } }) n g
   lost_together rs m v n (Stage.ClearOld j) = cleared_lost (reply_of m.down)
@@ -74,7 +74,7 @@ module _ (ps : List PackageText) (ds : List DescriptorOf) where
   lost_together rs m v n (Stage.Activate j) = activation_lost n rs v.rows (reply_of m.down)
   lost_together rs m v n g = tt
 
-  -- what is told to be applied still is
+  -- an application that was pending still is
   pub lost_pending : (es : List EntryOf) (m : PairOf) (v : DeviceState) (n : ℕ) (g : Stage) → Pending ps es m n g
       → Pending ps es (record m { device = record v { phase = Phase.Idle } }) n g
   lost_pending es m v n (Stage.Apply t) s = λ e. elim e [ inl bad ↦ absurd (cc) | inr told ↦ s (inr told) ]
@@ -134,7 +134,7 @@ module _ (ps : List PackageText) (ds : List DescriptorOf) where
   loose_chosen n (Stage.Failed c) l = tt
   loose_chosen n g l = absurd l
 
-  -- any row of the session into such a state
+  -- any row of the session into such a stage
   pub loose_stands : (first : List RowOf) (es : List EntryOf) (m : PairOf) (g : Stage) (n : ℕ) (down : Option CellContentOf) → IsOutsideUpdate g
       → Stray ps ds (since es) m.device.rows m.device.phase (asked_of down) → AreTold ds (reply_of down)
       → IsStanding ps ds first es m → IsStanding ps ds first es (loosened m g n down)

@@ -1,4 +1,4 @@
--- A device that moves on with its own work keeps what stands.
+-- A device that progresses with its own work keeps the invariant.
 use Rattle.std.specs.Prelude.{ℕ, Bool, true, false, List, length, Option, Some}
 use Rattle.fw_package.specs.Package.{ComponentOf, DescriptorOf, PackageText}
 use Rattle.fwup_wire.specs.Values.{AnswerOf, CommandOf}
@@ -17,7 +17,7 @@ use Rattle.fw_message.proofs.Safety.Readings.{since}
 abbrev pub with_device : PairOf → DeviceState → Option CellContentOf → PairOf
 with_device m v u = record m { device = v; up = u }
 
--- the same device with this stage, in this phase
+-- the same device in this phase, with this stage
 abbrev pub at_phase : DeviceState → Phase → List ℕ → State → DeviceState
 at_phase v p bytes previous = record v { phase = p; stage = bytes; previous = previous }
 
@@ -32,7 +32,8 @@ fresh_moves rows rows' p q (Some AnswerOf.RequestUpdate) lost fresh h = fresh h
 fresh_moves rows rows' p q r lost fresh h = lost h
 
 module _ (ps : List PackageText) (ds : List DescriptorOf) where
-  -- what holds of a device and its cell in each state of the session, carried from one device to another
+  -- the agreement of a device and its cell in each stage of the session carries over from one
+  -- device to another
   pub record IsMove (rs : List Recorded) (v w : DeviceState) (u x : Option CellContentOf) : Type 0 where
     pub lost : IsLost v.phase → IsLost w.phase
     pub fresh : FreshIn v.rows v.phase → FreshIn w.rows w.phase
@@ -86,7 +87,7 @@ module _ (ps : List PackageText) (ds : List DescriptorOf) where
   pending_moves es m v w u x n g k h = tt
 
   module _ (first : List RowOf) (es : List EntryOf) where
-    -- a move of a device that keeps its rows
+    -- a step of a device that keeps its rows
     pub moves_stand : (m : PairOf) (v : DeviceState) (p : Phase) (bytes : List ℕ) (previous : State) (u x : Option CellContentOf)
         → IsMove (since es) v (at_phase v p bytes previous) u x
         → OwnStands p (wish_at v.unit p (length bytes)) (command_of x) → StageForm p (length bytes) → (IsUnderWay p x → IsUnderWay v.phase u)

@@ -1,4 +1,4 @@
--- A list that comes in pieces.
+-- A list that is received in pieces.
 use Rattle.std.specs.Prelude.{◌≡◌, ◌≤◌, ◌+◌, ◌-◌, ◌++◌, ℕ, min, List, [], ◌∷◌, length, take}
 use Prim.Native.Nat.{suc, zero}
 use Rattle.std.proofs.Common.{refl, sym, subst, ap, ◌∙◌, arith}
@@ -11,13 +11,13 @@ take_own zero xs = refl
 take_own (suc k) [] = refl
 take_own (suc k) (x ∷ xs) = ap (λ ys. x ∷ ys) (take_own k xs)
 
--- what is cut of two lists is cut of the second
+-- a cut of two lists beyond the first is a cut of the second
 cut_behind : (k : ℕ) (xs ys : List ℕ) → length xs ≤ k → take k (xs ++ ys) ≡ xs ++ take (k - length xs) ys
 cut_behind k [] ys le = let none : k - 0 ≡ k = omega arith in rw none refl
 cut_behind zero (x ∷ xs) ys le = absurd (omega (arith, le))
 cut_behind (suc k) (x ∷ xs) ys le = let less : suc k - suc (length xs) ≡ k - length xs = omega arith in rw less (ap (λ zs. x ∷ zs) (cut_behind k xs ys (omega (arith, le))))
 
--- what was begun goes on by a window of the same list
+-- a prefix is continued by a window of the same list
 pub piece_kept : (law : WindowContinues) (image stage bytes : List ℕ) (size n : ℕ) → size ≡ length image → stage ≡ take (length stage) image
     → length stage ≤ size → bytes ≡ window image (length stage) n
     → stage ++ take (size - length stage) bytes ≡ take (length (stage ++ take (size - length stage) bytes)) image
@@ -30,7 +30,7 @@ piece_kept law image stage bytes size n long s le b =
     let is : stage ++ take (size - length stage) bytes ≡ take (length stage + n) image = sym (cut_behind size stage bytes le) ∙ put in
     rw is (take_own (length stage + n) image)
 
--- and stays within the list
+-- and it stays within the list
 pub piece_short : (stage bytes : List ℕ) (size : ℕ) → length stage ≤ size → length (stage ++ take (size - length stage) bytes) ≤ size
 piece_short stage bytes size le =
     let both : length (stage ++ take (size - length stage) bytes) ≡ length stage + length (take (size - length stage) bytes) = length-append stage (take (size - length stage) bytes) in

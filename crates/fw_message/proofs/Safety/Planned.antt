@@ -1,4 +1,4 @@
--- What is recorded is of the plan of its package.
+-- A recorded component is of the plan of its package.
 use Rattle.std.specs.Prelude.{◌≡◌, ℕ, ◌||◌, nat_lt, Bool, true, false, if◌then◌else◌, List, [], ◌∷◌, length, map, Contains, Ok, Err, slice_index_or}
 use Rattle.std.proofs.Common.{refl, sym, subst, ◌∙◌, ap, arith}
 use Prim.Native.Nat.{suc, zero}
@@ -26,7 +26,7 @@ contains_number is i h =
     let lt = h.1 in
     (h.0, omega arith, at_map is h.0 i ∙ ap number_of h.2)
 
--- a plan is the record's components
+-- a plan is the list of the record's components
 plan_uses : (p : PackageText) (number : ℕ) (ns : List ℕ) → plan_of p number ≡ Ok ns → (record_at p number).uses ≡ ns
 unfolding plan_of
 plan_uses p number ns e =

@@ -1,4 +1,4 @@
--- What one more entry makes of what is read of a history.
+-- The reading of a history after one more entry.
 use Rattle.std.specs.Prelude.{◌≡◌, List, [], ◌∷◌, ◌++◌, map, Some}
 use Rattle.std.proofs.Common.{refl, sym, ap, ◌∙◌, append_assoc, append-nil}
 use Rattle.fd_core.specs.Images.{KeyedImage}
@@ -6,7 +6,7 @@ use Rattle.ua_core.specs.declared.planned.Recorded.{Recorded}
 use Rattle.fw_message.specs.History.{ActivationOf, EntryOf, Reading, activations, and_current, applied_since, nothing_read, read_along, read_entry, recorded_in, image_or_replacement, running_after}
 use Rattle.fw_message.specs.Pairs.{history_with}
 
--- what was recorded since the last activation
+-- the records since the last activation
 unfoldable pub since : List EntryOf → List Recorded
 since es = (read_along nothing_read es).since
 
@@ -75,7 +75,7 @@ after_activated runs (EntryOf.Applied x ∷ es) p = after_activated runs es p
 after_activated runs (EntryOf.Recording x ∷ es) p = after_activated runs es p
 after_activated runs (EntryOf.Activated x ∷ es) p = after_activated (map (image_or_replacement x) runs) es p
 
--- what was applied
+-- the applied images
 pub since_push_applied : (ps : List KeyedImage) (es : List EntryOf) (p : KeyedImage)
     → applied_since ps (es ++ EntryOf.Applied p ∷ []) ≡ applied_since ps es ++ p ∷ []
 since_push_applied ps [] p = refl
@@ -90,7 +90,7 @@ since_push_recorded ps (EntryOf.Applied x ∷ es) r = since_push_recorded (ps ++
 since_push_recorded ps (EntryOf.Recording x ∷ es) r = since_push_recorded ps es r
 since_push_recorded ps (EntryOf.Activated x ∷ es) r = since_push_recorded [] es r
 
--- an image takes its place among those that run, and so do several
+-- an image replaces one of those that run, and so do several
 abbrev pub through : List KeyedImage → KeyedImage → KeyedImage
 through [] q = q
 through (p ∷ ps) q = through ps (image_or_replacement p q)
@@ -113,7 +113,7 @@ pub in_all : (ps : List KeyedImage) (es : List EntryOf) → recorded_in (history
 in_all [] es = refl
 in_all (p ∷ ps) es = in_all ps (es ++ EntryOf.Activated p ∷ []) ∙ in_activated es p
 
--- images join the activation that goes on
+-- images join the current activation
 abbrev pub activating : List ActivationOf → List Recorded → List KeyedImage → Reading
 activating ended before images = record { ended = ended; current = Some (record { before = before; images = images }); since = [] }
 

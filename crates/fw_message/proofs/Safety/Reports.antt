@@ -1,4 +1,4 @@
--- What the device learns keeps what stands.
+-- The answers that the device learns keep the invariant.
 use Rattle.std.specs.Prelude.{◌≡◌, ◌<◌, ◌≤◌, ◌-◌, ◌++◌, ◌==◌, ℕ, Bool, true, false, if◌then◌else◌, List, [], length, take, Option, Some, None}
 use Rattle.std.proofs.Common.{sym, subst, inl, inr, arith}
 use Rattle.std.proofs.lemmas.Bool.{cond_both}
@@ -27,7 +27,7 @@ use Rattle.fw_message.proofs.Safety.Readings.{since}
 put_form : (u : UpdateOf) (w : WorkOf) (have : ℕ) → have ≤ w.size → StageForm (Phase.Download u w (download_progress have w.size)) have
 put_form u w have le = full_either have w.size (λ a. StageForm (Phase.Download u w a) have) (λ lt. lt) (λ ge. omega (arith, le, ge))
 
--- nothing is under way
+-- no application is unrecorded
 not_sealed : (u : UpdateOf) (w : WorkOf) (p : Progress) (q : Phase) (x : Option CellContentOf) → IsUnderWay (Phase.Download u w p) None
     → IsUnderWay q x
 not_sealed u w p q x h = elim h [ inl bad ↦ absurd (cc) | inr bad ↦ absurd (cc) ]
@@ -47,7 +47,7 @@ module _ (ps : List PackageText) (ds : List DescriptorOf) where
         piece = tt;
       }
 
-  -- a download that got its answer
+  -- a download after its answer
   put_moves : (law : WindowContinues) (rs : List Recorded) (v : DeviceState) (u : UpdateOf) (w : WorkOf) (bytes : List ℕ) (p : Progress) (d : CommandOf) (asked : ℕ) (l : Bool)
       → CommandOf.RequestFirmwareData (length v.stage) asked ≡ d → length v.stage < w.size
       → IsMove ps ds rs (record v { phase = Phase.Download u w progress.InProgress }) (record v { phase = Phase.Download u w p; stage = stage_with v w bytes }) (Some (cell d (Some (AnswerOf.RequestFirmwareData bytes)) l)) None

@@ -1,4 +1,4 @@
--- Steps and runs keep what stands.
+-- Steps and runs keep the invariant.
 use Rattle.std.specs.Prelude.{◌≡◌, ◌≤◌, ℕ, List, [], ◌∷◌, map, take, All, Option, Some, None, slice_index_or}
 use Prim.Native.Nat.{suc, zero}
 use Rattle.std.specs.Option.{IfSome, option_map}
@@ -30,7 +30,7 @@ use Rattle.fw_message.proofs.Safety.Turns.{one_nothing}
 use Rattle.fw_message.proofs.Safety.Up.{agent_takes}
 use Rattle.fw_message.proofs.Safety.Verdicts.{device_judges}
 
--- the laws of sessions and packages that runs stand on
+-- the laws of sessions and packages that runs need
 pub record Laws : Type 0 where
   pub serves : ServesInPlan
   pub learns : LearnsInPlan
@@ -59,7 +59,7 @@ module _ (ps : List PackageText) (ds : List DescriptorOf) (first : List RowOf) w
   step_stands laws es m (StepOf.Restart sides.Agent) h = agent_restarts ps ds first es m h
   step_stands laws es m (StepOf.Restart sides.Device) h = device_restarts ps ds first es m h
 
-  -- what holds along a run
+  -- the invariant along a run
   abbrev pub Stands : PairRun → Type 0
   Stands r = IsStanding ps ds first r.entries r.pair
 
@@ -84,7 +84,7 @@ module _ (ps : List PackageText) (ds : List DescriptorOf) (first : List RowOf) w
   along_stands laws [] (Some r) h = h
   along_stands laws (s ∷ steps) (Some r) h = along_stands laws steps (run_after ps r s) (run_stands laws r s h)
 
--- how it begins
+-- the opening
 current_nothing : current_of [] ≡ None
 unfolding current_of read_along
 current_nothing = refl
@@ -150,7 +150,7 @@ opening_stands ps r h =
     let e : P r.pair.device.phase r.pair.session r.pair.down r.pair.up [] = subst (λ (x : Option CellContentOf). P r.pair.device.phase r.pair.session r.pair.down x []) (sym h.up) d in
     subst (λ (x : List EntryOf). P r.pair.device.phase r.pair.session r.pair.down r.pair.up x) (sym h.entries) e
 
--- what stands is safe and tied
+-- the invariant gives a safe and tied history
 safe_and_tied : (ps : List PackageText) (opening : PairRun) (o : Option PairRun)
     → IfSome o (Stands ps (map package_descriptor opening.pair.device.descriptors) opening.pair.device.rows)
     → IfSome o (IsSafeAndTied ps opening)

@@ -1,4 +1,4 @@
--- What the session answers keeps what stands.
+-- The session's answers keep the invariant.
 use Rattle.std.specs.Prelude.{◌≡◌, ℕ, ◌==◌, ◌++◌, Bool, true, false, List, [], ◌∷◌, length, take, Option, Some, None}
 use Rattle.std.proofs.Common.{◌∙◌, ap, arith}
 use Rattle.std.proofs.lemmas.Bool.{eqb-true}
@@ -52,7 +52,7 @@ module _ (ps : List PackageText) (ds : List DescriptorOf) (n : ℕ) (rs : List R
   application_refused (Phase.Apply u w (progress.Failed b)) r k h = (h.0, k)
   application_refused p r k h = absurd h
 
-  -- a good result that is told again
+  -- a good result that is sent again
   begun_again : (unit : «Unit») (p : Phase) (have result methods : ℕ) (r : Option AnswerOf)
       → OwnStands p (wish_at unit p have) (Some (CommandOf.ApplyComplete result methods))
       → IsBegunAt ps ds n rs c rows bytes p None → IsBegunAt ps ds n rs c rows bytes p r
@@ -127,7 +127,7 @@ module _ (ps : List PackageText) (ds : List DescriptorOf) (n : ℕ) (rs : List R
   verify_unsealed (Phase.Apply u w a) h e = h
   verify_unsealed p h e = absurd (cc)
 
-  -- ApplyComplete(0): what is sealed is recorded
+  -- ApplyComplete(0): the sealed image is recorded
   pub sealed_settles : (unit : «Unit») (p : Phase) (have result methods : ℕ) (r : Recorded) → (result == 0) ≡ true
       → OwnStands p (wish_at unit p have) (Some (CommandOf.ApplyComplete result methods))
       → r.«package» ≡ n → key_of (component_at (package_at ps r.«package») r.component) ≡ key_of c → Names ps ds n (key_of c) c.image

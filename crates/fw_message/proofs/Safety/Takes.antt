@@ -1,4 +1,4 @@
--- What the device answers without a change, or by going to IDLE, keeps what stands.
+-- Answers of the device without a change, or with a step to IDLE, keep the invariant.
 use Rattle.std.specs.Prelude.{◌≡◌, ℕ, Bool, List, [], Option, Some, None}
 use Rattle.std.proofs.Common.{refl, sym, subst, arith}
 use Rattle.fw_package.specs.Package.{DescriptorOf, PackageText}
@@ -18,11 +18,11 @@ use Rattle.fw_message.proofs.Safety.Loose.{cell, idle_device, lost_pending, lost
 use Rattle.fw_message.proofs.Safety.Histories.{history_dropped}
 use Rattle.fw_message.proofs.Safety.Readings.{since}
 
--- what a step leaves stands
+-- the result of a step keeps the invariant
 abbrev pub Stood : List PackageText → List DescriptorOf → List RowOf → List EntryOf → Stepped → Type 0
 Stood ps ds first es t = IsStanding ps ds first (history_with es t.noted) t.after
 
--- a reply doesn't touch what the cell asks
+-- a reply doesn't change the cell's command
 command_answered : (g : Stage) (wish : Option CommandOf) (c : CommandOf) (r s : Option AnswerOf) (l : Bool)
     → CommandStands g wish (Some (cell c r l)) → CommandStands g wish (Some (cell c s l))
 command_answered Stage.Idle wish c r s l h = tt
@@ -32,7 +32,7 @@ command_answered Stage.Cancelling wish c r s l h = tt
 command_answered (Stage.Failed x) wish c r s l h = tt
 command_answered g wish c r s l h = h
 
--- the pair as a command stands in the agent's cell, and as the device took it
+-- the pair with a command in the agent's cell, and after the device took it
 abbrev pub asking : PairOf → CommandOf → Bool → PairOf
 asking m c l = with_down m (Some (cell c None l))
 
@@ -44,7 +44,7 @@ pub told_command : (ps : List PackageText) (m : PairOf) (c : CommandOf) (a : Ans
     → CommandStands m.session.stage (down_wish ps m.session) (Some (cell c (Some a) l))
 told_command ps m c a l h = command_answered m.session.stage (down_wish ps m.session) c None (Some a) l h
 
--- the commands whose answers don't matter to what holds together
+-- the commands whose answers don't matter to the agreement
 abbrev pub IsOther : CommandOf → Type 0
 IsOther (CommandOf.RequestUpdate r) = ⊥
 IsOther (CommandOf.UpdateComponent o) = ⊥

@@ -1,4 +1,4 @@
--- What is applied under a key is one image, and a switch makes it run.
+-- The images applied under a key are one image, which runs after a switch.
 use Rattle.std.specs.Prelude.{ℕ, ◌≡◌, ◌⊎◌, Bool, true, false, List, [], ◌∷◌, map, All, Option, Some, None, IsSomeAnd, if◌then◌else◌}
 use Rattle.std.proofs.Common.{refl, sym, ap, ◌∙◌, inl, inr, subst}
 use Rattle.std.proofs.lemmas.Bool.{cond_both}
@@ -15,7 +15,7 @@ unfoldable pub AreApplied : (Key → Option ImageOf) → List RowOf → Type 0
 AreApplied f [] = Unit {0}
 AreApplied f (r ∷ rows) = (r.applied ≡ f r.key) × AreApplied f rows
 
--- rows of one key have the same applied
+-- rows with the same key have the same applied image
 pub record HasOne (rows : List RowOf) : Type 0 where
   pub of : Key → Option ImageOf
   pub are : AreApplied of rows
@@ -63,7 +63,7 @@ sealed_are f (r ∷ rows) key image h = (at_row (same_key r.key key) refl, seale
 pub one_sealed : (rows : List RowOf) (key : Key) (image : ImageOf) → HasOne rows → HasOne (rows_after_seal rows key image)
 one_sealed rows key image h = record { of = sealing h.of key image; are = sealed_are h.of rows key image h.are }
 
--- what is put in is what is applied under its key
+-- the activated image is the one applied under its key
 abbrev IsRight : (Key → Option ImageOf) → KeyedImage → Type 0
 IsRight f p = IsSomeAnd (f p.key) (λ image. image.bytes ≡ p.bytes)
 
@@ -101,7 +101,7 @@ unfolding AreApplied
 puts_right f [] h = All-nil (IsRight f)
 puts_right f (r ∷ rows) h = right_applied f r.key r.applied (applied_keyed_images rows) h.0 (puts_right f rows h.1)
 
--- through images of other keys
+-- replacing by images of other keys
 through_others : (f : Key → Option ImageOf) (ps : List KeyedImage) (q : KeyedImage) → f q.key ≡ None → All (IsRight f) ps → through ps q ≡ q
 through_others f [] q e all = refl
 through_others f (p ∷ ps) q e all = at_test (same_key q.key p.key) refl ∙ through_others f ps q e (All-tail (IsRight f) p ps all)
@@ -112,7 +112,7 @@ through_others f (p ∷ ps) q e all = at_test (same_key q.key p.key) refl ∙ th
         absurd (let right : IsSomeAnd (f p.key) (λ i. i.bytes ≡ p.bytes) = All-head (IsRight f) p ps all in subst (λ (o : Option ImageOf). IsSomeAnd o (λ i. i.bytes ≡ p.bytes)) none right)
     at_test false s = refl
 
--- through the image of its own key
+-- replacing by the image of its own key
 right_bytes : (f : Key → Option ImageOf) (p : KeyedImage) (image : ImageOf) → f p.key ≡ Some image → IsRight f p → p.bytes ≡ image.bytes
 right_bytes f p image e h = sym (subst (λ (o : Option ImageOf). IsSomeAnd o (λ i. i.bytes ≡ p.bytes)) e h)
 
@@ -152,7 +152,7 @@ kept_there : (k key : Key) (o : Option ImageOf) (qs : List KeyedImage) → HasPu
 kept_there k key None qs h = h
 kept_there k key (Some x) qs h = there_among k (put_of key x) qs h
 
--- these rows have their images among those
+-- the images of these rows are among those
 unfoldable ArePut : List RowOf → List KeyedImage → Type 0
 ArePut [] ps = Unit {0}
 ArePut (r ∷ rows) ps = ((image : ImageOf) → r.applied ≡ Some image → HasPut r.key ps) × ArePut rows ps
@@ -178,7 +178,7 @@ turned_all f ps (r ∷ rows) h all has =
     let both : P (running_image (row_after_switch r)) (map running_image (rows_after_switch rows)) ≡ P (through ps (running_image r)) (map (through ps) (map running_image rows)) = rw (first, rest) refl in
     both
 
--- a switch: all that is applied runs
+-- a switch: all applied images run
 pub switch_turns : (rows : List RowOf) → HasOne rows → map running_image (rows_after_switch rows) ≡ map (through (applied_keyed_images rows)) (map running_image rows)
 switch_turns rows h = turned_all h.of (applied_keyed_images rows) rows h.are (puts_right h.of rows h.are) (all_put rows)
 

@@ -1,4 +1,4 @@
--- What the device asks, and what the session answers, keeps what stands.
+-- The device's commands, and the session's answers, keep the invariant.
 use Rattle.std.specs.Prelude.{◌≡◌, ℕ, ◌==◌, ◌&&◌, ◌++◌, nat_lt, Bool, true, if◌then◌else◌, List, [], ◌∷◌, length, map, Option, Some, None}
 use Rattle.std.proofs.Common.{refl, inl, inr}
 use Rattle.std.proofs.lemmas.Bool.{cond_both}
@@ -37,7 +37,7 @@ abbrev record_at : ℕ → TaskOf → Recorded
 record_at n t = record { «package» = n; component = t.at_hand.component }
 
 module _ (ps : List PackageText) (ds : List DescriptorOf) (es : List EntryOf) where
-  -- what is known as the session takes a command
+  -- the facts when the session takes a command
   pub record IsAsking (m : PairOf) (c : CommandOf) (l : Bool) (n : ℕ) (g : Stage) : Type 0 where
     pub own : OwnStands m.device.phase (device_wish m.device) (Some c)
     pub command : CommandStands g (stage_wish m.session.unit (package_at ps n) g) m.down
@@ -47,7 +47,7 @@ module _ (ps : List PackageText) (ds : List DescriptorOf) (es : List EntryOf) wh
     pub plan : IsStageInPlan (package_at ps n) g
     pub chosen : HasChosen (package_at ps n) ds g
 
-  -- what is to be recorded
+  -- the component to be recorded
   pub record IsRecordable (m : PairOf) (n : ℕ) (t : TaskOf) : Type 0 where
     pub settled : Settled ps ds n (since es ++ record_at n t ∷ []) m.device.rows m.device.phase
     pub pending : IsPending ps (key_of (at_hand (package_at ps n) t)) (at_hand (package_at ps n) t).image es

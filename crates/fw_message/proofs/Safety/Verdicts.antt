@@ -1,4 +1,4 @@
--- Verdicts keep what stands.
+-- Verdicts keep the invariant.
 use Rattle.std.specs.Prelude.{◌++◌, ℕ, Bool, true, false, List, [], ◌∷◌, length, Option, Some, None}
 use Rattle.std.proofs.Common.{subst, inl, inr}
 use Rattle.fw_package.specs.Package.{ComponentOf, DescriptorOf, PackageText}
@@ -25,7 +25,7 @@ use Rattle.fw_message.proofs.Safety.Histories.{history_applied}
 use Rattle.fw_message.proofs.Safety.Moves.{IsMove, moves_stand, stray_moves, together_moves}
 use Rattle.fw_message.proofs.Safety.Readings.{since, since_applied}
 
--- a device that wished nothing has an empty cell
+-- a device without a pending command has an empty cell
 nothing_own : (c wish : Option CommandOf) → Holds None c → Holds wish c
 nothing_own None wish h = tt
 nothing_own (Some c) wish h = absurd (cc)

@@ -1,4 +1,4 @@
--- What holds of one pair holds of each device of a world.
+-- The invariant of a pair is kept for each device of a world.
 use Rattle.std.specs.Prelude.{ℕ, ◌≡◌, ◌==◌, ◌++◌, Bool, true, false, if◌then◌else◌, List, [], ◌∷◌, map, All, Option, Some, None, IfSome, IsSomeAnd}
 use Rattle.std.specs.Option.{option_map}
 use Rattle.std.proofs.Common.{refl, sym, ap, subst, ◌∙◌, append_assoc, append-nil}
@@ -83,7 +83,7 @@ history_apart : (device eid : ℕ) (history : List NotedOf) (es : List EntryOf) 
 history_apart device eid history es e =
     history_more eid history (map (noted_of device) es) ∙ ap (λ xs. history_of eid history ++ xs) (history_other device eid es e) ∙ append-nil (history_of eid history)
 
--- what stands of a device that began as this one
+-- the invariant of a device that began as this one
 abbrev At : List PackageText → NodeOf → Option NodeOf → List EntryOf → Type 0
 At ps n o es = IsSomeAnd o (λ m. Stands ps (map package_descriptor n.pair.device.descriptors) n.pair.device.rows (run_of m es))
 
@@ -137,7 +137,7 @@ restart_node : (laws : Laws) (ps : List PackageText) (n : NodeOf) (o : Option No
 restart_node laws ps n None es h = h
 restart_node laws ps n (Some m) es h = restart_pair laws ps (map package_descriptor n.pair.device.descriptors) n.pair.device.rows es m.pair h
 
--- what stands of all devices
+-- the invariant of all devices
 abbrev Nodes : MessageWorldOf → List NodeOf → List NotedOf → Type 0
 Nodes opening nodes history =
     (eid : ℕ) → IfSome (node_at opening.nodes eid) (λ n. At opening.packages n (node_at nodes eid) (history_of eid history))
@@ -193,7 +193,7 @@ world_steps laws opening steps None h = tt
 world_steps laws opening [] (Some w) h = h
 world_steps laws opening (s ∷ steps) (Some w) h = world_steps laws opening steps (message_world_after w s) (world_step laws opening w s h)
 
--- how it begins
+-- the opening
 opening_at : (ps : List PackageText) (ns : List NodeOf) (eid : ℕ) → All IsOpeningNode ns
     → IfSome (node_at ns eid) (λ n. At ps n (node_at ns eid) [])
 opening_at ps [] eid h = tt
@@ -212,7 +212,7 @@ opening_kept opening h = record {
   nodes = subst (λ (xs : List NotedOf). Nodes opening opening.nodes xs) (sym h.history) (λ eid. opening_at opening.packages opening.nodes eid h.nodes);
 }
 
--- what is kept is safe
+-- the invariant gives safety
 kept_at : (ps : List PackageText) (n : NodeOf) (o : Option NodeOf) (es : List EntryOf) → At ps n o es
     → IsSomeAnd o (λ m. IsSafeAndTied ps (run_of n []) (run_of m es))
 kept_at ps n None es h = h
@@ -234,7 +234,7 @@ pub worlds_are_safe : (laws : Laws) → WorldsAreSafe
 worlds_are_safe laws opening steps h =
     safe_if opening (world_along (Some opening) steps) (world_steps laws opening steps (Some opening) (opening_kept opening h))
 
--- a run that goes on
+-- a run that continues another
 pub along_append : (ss ts : List WorldStepOf) (o : Option MessageWorldOf) → world_along o (ss ++ ts) ≡ world_along (world_along o ss) ts
 along_append ss ts None = refl
 along_append [] ts (Some w) = refl

@@ -1,4 +1,4 @@
-//! What a step adds to the history, looked at before it is taken.
+//! Whether a step would add to the history, checked before it is taken.
 
 ghost use Rattle.std.specs.Prelude.{◌≡◌, true};
 ghost use Rattle.fw_message.specs.Nodes.{completes, follows_cell, may_take, waits};
@@ -14,8 +14,8 @@ use fwup_wire::Command;
 use ua_core::{Session, SessionState};
 
 impl<'a, B: Bank> Pair<'a, B> {
-    /// Whether a Take by the device adds to the history, if its bank works: what the agent asked waits to be taken, and the
-    /// device activates by it.
+    /// Whether a Take by the device adds to the history, if its bank works: the agent's command
+    /// waits to be taken, and the device activates by it.
     #[tactic(auto, using(crate::proofs::Growing::down_adds))]
     pub fn activates(&self, packages: &'a [Package<'a>], quiet: bool) -> bool
         ensures { result ≡ adds_entries (step_of packages.now self.now.node.pair (StepOf.TakeDown quiet true)) }
@@ -23,8 +23,8 @@ impl<'a, B: Bank> Pair<'a, B> {
         self.may_take(quiet) && follows(&self.device, &self.down)
     }
 
-    /// Whether a Take by the session adds to the history: what the device asked waits to be taken, and the session makes a
-    /// record of it.
+    /// Whether a Take by the session adds to the history: the device's command waits to be taken,
+    /// and the session makes a record of it.
     #[tactic(auto, using(crate::proofs::Completing::up_adds))]
     pub fn records(&self, packages: &'a [Package<'a>]) -> bool
         ensures { result ≡ adds_entries (step_of packages.now self.now.node.pair StepOf.TakeUp) }
@@ -32,7 +32,8 @@ impl<'a, B: Bank> Pair<'a, B> {
         waits(&self.up) && completes(&self.session, &self.up)
     }
 
-    /// Whether a verdict adds to the history, if the bank works: the device waits for it, and applies an image by it.
+    /// Whether a verdict adds to the history, if the bank works: the device waits for it, and
+    /// applies an image by it.
     #[tactic(auto, using(crate::proofs::Growing::verdict_adds))]
     pub fn applies(&self, packages: &'a [Package<'a>], verdict: Verdict) -> bool
         ensures { result ≡ adds_entries (step_of packages.now self.now.node.pair (StepOf.Judge verdict true)) }
@@ -40,7 +41,7 @@ impl<'a, B: Bank> Pair<'a, B> {
         awaits(&self.device, verdict) && verdict == Verdict::ApplyOk
     }
 
-    /// Whether what the agent asked waits to be taken by a device that is told so of its own requests.
+    /// Whether the agent's command waits, and the device may take it with this `quiet`.
     fn may_take(&self, quiet: bool) -> bool
         ensures { result ≡ may_take self.now.node.pair quiet }
     {
@@ -58,7 +59,7 @@ fn waits(cell: &Option<CellContent<'_>>) -> bool
     }
 }
 
-/// Whether a device activates by the command in a cell, if it takes it and its bank works.
+/// Whether a device activates by the command in a cell, if the device takes it and its bank works.
 fn follows<B: Bank>(device: &Device<B>, cell: &Option<CellContent<'_>>) -> bool
     ensures { result ≡ follows_cell device.now.device cell.now }
 {
@@ -70,7 +71,7 @@ fn follows<B: Bank>(device: &Device<B>, cell: &Option<CellContent<'_>>) -> bool
     }
 }
 
-/// Whether a session makes a record of the command in a cell, if it takes it.
+/// Whether a session makes a record of the command in a cell, if the session takes it.
 fn completes(session: &Session, cell: &Option<CellContent<'_>>) -> bool
     ensures { result ≡ completes (state_of session.now.session.stage) cell.now }
 {

@@ -1,4 +1,4 @@
-//! What is asked, and what is no longer waited for.
+//! Steps that ask commands, and that end waiting for an answer.
 
 ghost use Rattle.std.specs.Prelude.{◌≡◌, None, Some, false, if◌then◌else◌, true};
 ghost use Rattle.fw_message.specs.Pairs.{StepOf, cell_after_ask, closed_unless, dropped_cell, cell_after_give_up, step_without_entries, step_of, unwished_closed};
@@ -14,7 +14,8 @@ use fwup_wire::Command;
 use ua_core::Lent;
 
 impl<'a, B: Bank> Pair<'a, B> {
-    /// The agent asks what the session wishes. False where nothing is wished or the cell isn't empty.
+    /// The agent asks the session's pending command. False if none is pending or the cell isn't
+    /// empty.
     pub fn ask_down(&mut self, packages: &'a [Package<'a>]) -> bool
         ensures step { step_of packages.now self.old.node.pair StepOf.AskDown ≡ (if result then Some (step_without_entries self.new.node.pair) else None) }
         ensures same { result ≡ false → self.new ≡ self.old }
@@ -27,7 +28,7 @@ impl<'a, B: Bank> Pair<'a, B> {
         ask(&mut self.down, wish)
     }
 
-    /// The device asks what it wishes.
+    /// The device asks its pending command. False if none is pending or the cell isn't empty.
     pub fn ask_up(&mut self, packages: &'a [Package<'a>]) -> bool
         ensures step { step_of packages.now self.old.node.pair StepOf.AskUp ≡ (if result then Some (step_without_entries self.new.node.pair) else None) }
         ensures same { result ≡ false → self.new ≡ self.old }
@@ -38,7 +39,8 @@ impl<'a, B: Bank> Pair<'a, B> {
         ask(&mut self.up, wish)
     }
 
-    /// What nobody waits for in the cell of what the agent asks is gone.
+    /// Empties the cell of the agent's commands. False unless it has a command that nobody waits
+    /// for.
     pub fn drop_down(&mut self, packages: &'a [Package<'a>]) -> bool
         ensures step { step_of packages.now self.old.node.pair (StepOf.Drop ways.Down) ≡ (if result then Some (step_without_entries self.new.node.pair) else None) }
         ensures same { result ≡ false → self.new ≡ self.old }
@@ -48,7 +50,7 @@ impl<'a, B: Bank> Pair<'a, B> {
         drop_closed(&mut self.down)
     }
 
-    /// The same of what the device asks.
+    /// Empties the cell of the device's commands, likewise.
     pub fn drop_up(&mut self, packages: &'a [Package<'a>]) -> bool
         ensures step { step_of packages.now self.old.node.pair (StepOf.Drop ways.Up) ≡ (if result then Some (step_without_entries self.new.node.pair) else None) }
         ensures same { result ≡ false → self.new ≡ self.old }
@@ -58,7 +60,7 @@ impl<'a, B: Bank> Pair<'a, B> {
         drop_closed(&mut self.up)
     }
 
-    /// The agent waits no longer, and the session is told that there was no answer.
+    /// The agent no longer waits, and the session handles that there was no answer.
     pub fn give_up_down(&mut self, packages: &'a [Package<'a>]) -> bool
         ensures step { step_of packages.now self.old.node.pair (StepOf.GiveUp ways.Down) ≡ (if result then Some (step_without_entries self.new.node.pair) else None) }
         ensures same { result ≡ false → self.new ≡ self.old }
@@ -72,7 +74,7 @@ impl<'a, B: Bank> Pair<'a, B> {
         given_up
     }
 
-    /// The device waits no longer.
+    /// The device no longer waits.
     pub fn give_up_up(&mut self, packages: &'a [Package<'a>]) -> bool
         ensures step { step_of packages.now self.old.node.pair (StepOf.GiveUp ways.Up) ≡ (if result then Some (step_without_entries self.new.node.pair) else None) }
         ensures same { result ≡ false → self.new ≡ self.old }
@@ -82,7 +84,7 @@ impl<'a, B: Bank> Pair<'a, B> {
         give_up(&mut self.up)
     }
 
-    /// What is no longer wished is no longer waited for.
+    /// Ends waiting for each command that is no longer pending.
     #[tactic(auto, unfolding(crate::specs::Pairs::unwished_closed))]
     pub fn close_unwished(&mut self, packages: &'a [Package<'a>])
         ensures pair { self.new.node.pair ≡ unwished_closed packages.now self.old.node.pair }
@@ -97,7 +99,7 @@ impl<'a, B: Bank> Pair<'a, B> {
     }
 }
 
-/// An empty cell takes up what is wished.
+/// Puts the pending command into an empty cell.
 fn ask<'a>(cell: &mut Option<CellContent<'a>>, wish: Option<Command<'a>>) -> bool
     ensures asked { cell_after_ask cell.old (option_map command_of wish.entry) ≡ (if result then Some cell.new else None) }
     ensures same { result ≡ false → cell.new ≡ cell.old }
@@ -109,7 +111,7 @@ fn ask<'a>(cell: &mut Option<CellContent<'a>>, wish: Option<Command<'a>>) -> boo
     true
 }
 
-/// A cell that nobody waits for is emptied.
+/// Empties a cell that nobody waits for.
 fn drop_closed(cell: &mut Option<CellContent<'_>>) -> bool
     ensures dropped { dropped_cell cell.old ≡ (if result then Some cell.new else None) }
     ensures same { result ≡ false → cell.new ≡ cell.old }
@@ -122,7 +124,7 @@ fn drop_closed(cell: &mut Option<CellContent<'_>>) -> bool
     true
 }
 
-/// The asker waits no longer.
+/// Ends waiting for the command in a cell.
 fn give_up(cell: &mut Option<CellContent<'_>>) -> bool
     ensures given_up { cell_after_give_up cell.old ≡ (if result then Some cell.new else None) }
     ensures same { result ≡ false → cell.new ≡ cell.old }
@@ -136,7 +138,7 @@ fn give_up(cell: &mut Option<CellContent<'_>>) -> bool
     }
 }
 
-/// The asker waits no longer, unless this is what it wishes.
+/// Ends waiting for the command in a cell, unless it is the pending command.
 fn close_unless(cell: &mut Option<CellContent<'_>>, wish: &Option<Command<'_>>)
     ensures { cell.new ≡ closed_unless (option_map command_of wish.now) cell.old }
 {

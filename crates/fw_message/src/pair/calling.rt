@@ -16,7 +16,8 @@ impl<'a, B: Bank> Pair<'a, B> {
     /// The operator starts an update with the package of this number.
     ///
     /// # Errors
-    /// `Refused` while an update is under way, or without such a package; else `Memory` where memory for the records is refused.
+    /// `Refused` if an update is in progress or there is no such package; else `Memory` if memory
+    /// for the records is refused.
     pub fn start(
         &mut self,
         packages: &'a [Package<'a>],
@@ -39,7 +40,7 @@ impl<'a, B: Bank> Pair<'a, B> {
         }
     }
 
-    /// The operator cancels.
+    /// The operator cancels the update.
     pub fn cancel(&mut self, packages: &'a [Package<'a>])
         ensures step { step_of packages.now self.old.node.pair StepOf.Cancel ≡ Some (step_without_entries self.new.node.pair) }
         ensures eid { self.new.node.eid ≡ self.old.node.eid }
@@ -48,7 +49,7 @@ impl<'a, B: Bank> Pair<'a, B> {
         self.session.cancel();
     }
 
-    /// The operator activates. False where it isn't time for it.
+    /// The operator activates the images. False if it isn't time for it.
     pub fn activate(&mut self, packages: &'a [Package<'a>]) -> bool
         ensures step { step_of packages.now self.old.node.pair StepOf.Activate ≡ (if result then Some (step_without_entries self.new.node.pair) else None) }
         ensures same { result ≡ false → self.new ≡ self.old }
@@ -58,7 +59,7 @@ impl<'a, B: Bank> Pair<'a, B> {
         self.session.activate().is_ok()
     }
 
-    /// The agent restarts.
+    /// Restarts the session with the agent.
     pub fn restart_session(&mut self, packages: &'a [Package<'a>])
         ensures step { step_of packages.now self.old.node.pair (StepOf.Restart sides.Agent) ≡ Some (step_without_entries self.new.node.pair) }
         ensures eid { self.new.node.eid ≡ self.old.node.eid }
@@ -68,7 +69,7 @@ impl<'a, B: Bank> Pair<'a, B> {
         close(&mut self.down);
     }
 
-    /// The agent restarts, as a step of this pair.
+    /// Restarts the agent, as a step of this pair.
     #[tactic(auto, unfolding(crate::specs::Pairs::pair_after))]
     pub fn restart(&mut self, packages: &'a [Package<'a>])
         ensures { self.new ≡ counted_restarted packages.now self.old }
@@ -77,7 +78,7 @@ impl<'a, B: Bank> Pair<'a, B> {
         self.close_unwished(packages);
     }
 
-    /// The device restarts.
+    /// Restarts the device.
     #[tactic(auto, using(fd_core::proofs::Components::restart_components))]
     pub fn restart_device(&mut self, packages: &'a [Package<'a>])
         ensures step { step_of packages.now self.old.node.pair (StepOf.Restart sides.Device) ≡ Some (step_without_entries self.new.node.pair) }
@@ -89,7 +90,7 @@ impl<'a, B: Bank> Pair<'a, B> {
     }
 }
 
-/// The asker waits no longer.
+/// Ends waiting for the command in a cell.
 fn close(cell: &mut Option<CellContent<'_>>)
     ensures { cell.new ≡ cell_after_close cell.old }
 {

@@ -1,4 +1,4 @@
-//! Takes and verdicts that add nothing to the history: they need no memory, and are given none.
+//! Takes and verdicts that add nothing to the history, and so need no memory.
 
 ghost use Rattle.std.specs.Prelude.{◌≡◌, Bool, IfErr, IfOk, None, OnErr, OnOk, Ok, Some, false, true};
 ghost use Rattle.fd_core.specs.Banks.{CountsFailure};
@@ -11,7 +11,8 @@ use fd_core::{Bank, Verdict};
 use fw_package::Package;
 
 impl<'a, B: Bank> Pair<'a, B> {
-    /// The device takes what the agent asked, and activates nothing. Answers whether the bank worked.
+    /// The device takes the agent's command, and activates nothing. Returns whether the bank
+    /// worked.
     #[tactic(auto, using(crate::proofs::Growing::quiet_take))]
     pub fn take_quietly(
         &mut self,
@@ -33,7 +34,7 @@ impl<'a, B: Bank> Pair<'a, B> {
         }
     }
 
-    /// The session takes what the device asked, and makes no record of it.
+    /// The session takes the device's command, and makes no record of it.
     #[tactic(auto, using(crate::proofs::Growing::quiet_step))]
     pub fn serve_quietly(&mut self, packages: &'a [Package<'a>]) -> Result<(), MessageStepFault>
         requires { adds_entries (step_of packages.now self.old.node.pair StepOf.TakeUp) ≡ false }
@@ -49,7 +50,8 @@ impl<'a, B: Bank> Pair<'a, B> {
         }
     }
 
-    /// A verdict on the image that the device has written, which applies nothing. Answers whether the bank worked.
+    /// A verdict on the image that the device has written, which applies nothing. Returns whether
+    /// the bank worked.
     #[tactic(auto, using(crate::proofs::Growing::quiet_verdict))]
     pub fn judge_quietly(
         &mut self,

@@ -1,4 +1,4 @@
-//! What is taken, learnt and judged.
+//! Commands that are taken, answers that are learned, and verdicts.
 
 ghost use Rattle.std.specs.Prelude.{[], ◌≡◌, ◌≤◌, ◌∷◌, Bool, length, vec_capacity, IfNone, IfOk, IfSome, None, Some, false, if◌then◌else◌, is_some, map, option_map, option_to_list, true};
 ghost use Rattle.fd_core.specs.Images.{applied_of, row_of};
@@ -24,8 +24,8 @@ use std::alloc::{AllocError, Global};
 use ua_core::{Lent, Recorded};
 
 impl<'a, B: Bank> Pair<'a, B> {
-    /// The session takes what the device asked, and answers it. None where nothing waits to be taken; else what the
-    /// session recorded.
+    /// The session takes the device's command, and answers it. Returns `None` if no command waits
+    /// to be taken, else the session's record, if it made one.
     #[tactic(auto, unfolding(crate::specs::Pairs::up_taken), using(crate::proofs::Records::recorded_behind))]
     pub fn take_up(&mut self, packages: &'a [Package<'a>]) -> Option<Option<Recorded>>
         ensures step { step_of packages.now self.old.node.pair StepOf.TakeUp ≡ option_map (λ r. record { after = self.new.node.pair; noted = map EntryOf.Recording (option_to_list r) }) result }
@@ -46,8 +46,9 @@ impl<'a, B: Bank> Pair<'a, B> {
         Some(self.session.records().get(made).copied())
     }
 
-    /// The device takes what the agent asked, and answers it. None where nothing waits to be taken, or where the device
-    /// would be told that it is quiet while its own cell isn't empty; else whether its bank worked.
+    /// The device takes the agent's command, and answers it. Returns `None` if no command waits to
+    /// be taken, or if `quiet` is true and the device's own cell isn't empty; else whether its bank
+    /// worked.
     #[tactic(auto, unfolding(crate::specs::Pairs::down_taken), using(fd_core::proofs::Components::take_components, fd_core::proofs::BankCalls::bank_calls))]
     pub fn take_down(&mut self, packages: &'a [Package<'a>], quiet: bool) -> Option<bool>
         ensures step { IfSome result (λ works. step_of packages.now self.old.node.pair (StepOf.TakeDown quiet works) ≡ Some (record {
@@ -73,7 +74,8 @@ impl<'a, B: Bank> Pair<'a, B> {
         Some(works)
     }
 
-    /// What the device activates if it takes what the agent asked: nothing, unless that is ActivateFirmware.
+    /// Returns the images that the device activates if it takes the agent's command: none, unless
+    /// that is ActivateFirmware.
     #[tactic(auto, using(crate::proofs::Applied::all_applied))]
     pub fn images_to_activate(
         &self,
@@ -100,7 +102,7 @@ impl<'a, B: Bank> Pair<'a, B> {
         }
     }
 
-    /// The bytes of the image that a verdict applies: those staged where it is ApplyOk, and else 0.
+    /// Returns the bytes of the image that a verdict applies: those staged for ApplyOk, else 0.
     pub fn room_for(&self, verdict: Verdict) -> usize
         ensures exact { result ≡ room_of verdict (staged_of self.now.node.pair.device.phase) }
         ensures enough { verdict ≡ Verdict.ApplyOk → IfSome (staged_of self.now.node.pair.device.phase) (λ s. s.1 ≤ result) }
@@ -108,7 +110,8 @@ impl<'a, B: Bank> Pair<'a, B> {
         room_for(&self.device, verdict)
     }
 
-    /// A verdict on the image that the device has written. None where it doesn't count; else whether its bank worked.
+    /// A verdict on the image that the device has written. Returns `None` if the device doesn't
+    /// wait for it, else whether its bank worked.
     #[tactic(auto, using(fd_core::proofs::Components::judge_components, crate::proofs::Working::judges_alike, fd_core::proofs::BankCalls::bank_calls))]
     pub fn judge(&mut self, packages: &'a [Package<'a>], verdict: Verdict) -> Option<bool>
         ensures step { IfSome result (λ works. step_of packages.now self.old.node.pair (StepOf.Judge verdict works) ≡ Some (record {
@@ -128,7 +131,8 @@ impl<'a, B: Bank> Pair<'a, B> {
         Some(verdict != Verdict::ApplyOk || !has_failed(&self.device))
     }
 
-    /// The same, with a copy of the image that is applied by it. `room` is empty, with the capacity of that image.
+    /// The same, with a copy of the image that it applies. `room` must be empty, with the capacity
+    /// of that image.
     #[tactic(auto, using(crate::proofs::Sealing::applies, crate::proofs::Working::applies_nothing))]
     pub fn judge_noting(
         &mut self,
@@ -161,7 +165,7 @@ impl<'a, B: Bank> Pair<'a, B> {
         Some((works, copied(packages, self.device.bank(), key, room)))
     }
 
-    /// The session learns the answer that it waits for. False where there is none.
+    /// The session learns the answer that it waits for. False if there is none.
     pub fn learn_down(&mut self, packages: &'a [Package<'a>]) -> bool
         ensures step { step_of packages.now self.old.node.pair StepOf.LearnDown ≡ (if result then Some (step_without_entries self.new.node.pair) else None) }
         ensures same { result ≡ false → self.new ≡ self.old }
@@ -183,7 +187,8 @@ impl<'a, B: Bank> Pair<'a, B> {
         true
     }
 
-    /// The device learns the answer that it waits for. None where there is none; else whether its bank worked.
+    /// The device learns the answer that it waits for. Returns `None` if there is none, else
+    /// whether its bank worked.
     #[tactic(auto, using(fd_core::proofs::Components::learn_components, crate::proofs::Working::learns_failed, fd_core::proofs::BankCalls::bank_calls))]
     pub fn learn_up(&mut self, packages: &'a [Package<'a>]) -> Option<bool>
         ensures step { IfSome result (λ works. step_of packages.now self.old.node.pair (StepOf.LearnUp works) ≡ Some (step_without_entries self.new.node.pair)) }

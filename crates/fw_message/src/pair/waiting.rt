@@ -1,4 +1,4 @@
-//! Time-outs: as many ticks without a change as they take.
+//! Time-outs: the ticks without progress that they take.
 
 ghost use Rattle.std.specs.Prelude.{◌≡◌, None, Some, false, if◌then◌else◌, true};
 ghost use Rattle.fd_core.specs.Steps.{device_timeout, times_out as device_times_out};
@@ -12,7 +12,7 @@ use fw_package::Package;
 use ua_core::{IDLE_LIMIT, Session};
 
 impl<'a, B: Bank> Pair<'a, B> {
-    /// The session has waited too long. False where it doesn't wait.
+    /// The session's wait times out. False if the session doesn't wait.
     pub fn time_out_session(&mut self, packages: &'a [Package<'a>]) -> bool
         ensures step { step_of packages.now self.old.node.pair (StepOf.TimeOut sides.Agent) ≡ (if result then Some (step_without_entries self.new.node.pair) else None) }
         ensures same { result ≡ false → self.new ≡ self.old }
@@ -26,7 +26,7 @@ impl<'a, B: Bank> Pair<'a, B> {
         true
     }
 
-    /// The device has waited too long. False where it is idle.
+    /// The device's wait times out. False if the device is idle.
     #[tactic(auto, using(fd_core::proofs::Components::timeout_components))]
     pub fn time_out_device(&mut self, packages: &'a [Package<'a>]) -> bool
         ensures step { step_of packages.now self.old.node.pair (StepOf.TimeOut sides.Device) ≡ (if result then Some (step_without_entries self.new.node.pair) else None) }
@@ -42,7 +42,7 @@ impl<'a, B: Bank> Pair<'a, B> {
     }
 }
 
-/// Ticks pass until a session that waits has waited too long.
+/// Ticks a session that waits until it times out.
 fn wait_for_session(session: &mut Session)
     requires { session_times_out session.old.session.stage ≡ true }
     ensures { session.new.session ≡ agent_timeout session.old.session }
@@ -55,7 +55,7 @@ fn wait_for_session(session: &mut Session)
     }
 }
 
-/// Ticks pass until a device that isn't idle has waited too long.
+/// Ticks a device that isn't idle until it times out.
 fn wait_for_device<B: Bank>(device: &mut Device<B>)
     requires { device_times_out device.old.device.phase ≡ true }
     ensures device { device.new.device ≡ device_timeout device.old.device }

@@ -4,7 +4,7 @@ use Rattle.fw_node.specs.AgentViews.{half_in}
 use Rattle.fw_node.specs.Agents.{IsAddressed, again_packets, begin_messages, session_half_aged, log_after_part}
 use Rattle.fw_node.proofs.agent_node.grow_all.Given as goal
 
--- the parts so far have grown older, and what they send is sent and what happened is noted
+-- the halves so far are aged, their packets are sent and their events are noted
 abbrev pub invariant-loop-half : goal.invariant-loop-half
 invariant-loop-half l =
     record {

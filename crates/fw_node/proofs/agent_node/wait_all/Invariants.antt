@@ -3,7 +3,8 @@ use Rattle.fw_node.specs.AgentViews.{half_in}
 use Rattle.fw_node.specs.Agents.{begin_messages, session_half_after, ended_packets, log_after_part, session_half_idle}
 use Rattle.fw_node.proofs.agent_node.wait_all.Given as goal
 
--- the parts so far have waited, and what they send is sent and what happened is noted
+-- the halves so far have done their second and third parts, their packets are sent and their events
+-- are noted
 abbrev pub invariant-loop-half : goal.invariant-loop-half
 invariant-loop-half l =
     record {

@@ -2,7 +2,7 @@ use Rattle.std.proofs.Common.{◌≡◌, ◌+◌, ◌++◌, take, length, map}
 use Rattle.fw_node.specs.Packets.{packets_of}
 use Rattle.fw_node.proofs.outbox.push_pieces.Given as goal
 
--- the pieces so far stand behind the packets that were there
+-- the pieces so far are after the packets that were there
 abbrev pub invariant-loop-number : goal.invariant-loop-number
 invariant-loop-number l =
     record {

@@ -1,7 +1,7 @@
 use Rattle.std.proofs.Common.{◌≡◌, ◌+◌, ◌<◌}
 use Rattle.fw_message.proofs.pair.waiting.wait_for_device.Given as goal
 
--- nothing changed but the count of ticks
+-- only the count of ticks changed
 abbrev pub invariant-loop : goal.invariant-loop
 invariant-loop g l =
     (l.device.device ≡ l.fn.device.device) × (l.device.idle ≡ l.fn.device.idle + l.counter)
