@@ -1,14 +1,17 @@
 //! A bank that fails once, for tests of what a failure leads to.
 
-ghost use Rattle.std.specs.Prelude.{◌≡◌, ◌-◌, ◌==◌, Err, false, not, true};
+ghost use Rattle.std.specs.Prelude.{◌≡◌, ◌↔◌, ◌+◌, ◌-◌, ◌≤◌, ◌==◌, [], Err, IfErr, IsSome, IsSomeAnd, None, OnErr, OnOk, Some, false, length, not, true};
 ghost use Rattle.fd_core.specs.Banks.{CountsFailure};
+ghost use Rattle.fd_core.specs.Codes.{longest_image};
+ghost use Rattle.fd_core.specs.Images.{row_of, rows_after_drop, rows_after_switch, sealed_by, staged_with};
 
 use crate::bank::{Bank, BankFault};
 use crate::labels::Label;
 use crate::memory::MemBank;
 use fwup_wire::Key;
 
-/// A bank in memory of which one call fails, once, with `Device`. `begin`, `put`, `seal` and `switch` count.
+/// A bank in memory of which one call fails, once, with `Device`. `begin`, `put`, `seal` and `switch` count, also if they
+/// fail; no other call does.
 #[derive(Drop)]
 pub struct FailBank {
     bank: MemBank,
@@ -82,7 +85,18 @@ impl Bank for FailBank {
         self.bank.applied(key)
     }
 
-    fn begin(&mut self, key: Key, size: u32, label: &Label) -> Result<(), BankFault> {
+    fn begin(&mut self, key: Key, size: u32, label: &Label) -> Result<(), BankFault>
+        requires known { IsSome (row_of self.old.bank.rows key) }
+        requires size { size ≤ longest_image }
+        ensures left { self.new.left ≡ self.old.left - 1 }
+        ensures device { (result ≡ Err BankFault.Device) ↔ (self.old.left ≡ 1) }
+        ensures same { self.old.left ≡ 1 → self.new.bank ≡ self.old.bank }
+        ensures kept { OnErr result (self.new.bank.stage ≡ self.old.bank.stage) }
+        ensures worked { OnOk result (self.new.faults ≡ self.old.faults) }
+        ensures failed { OnErr result (CountsFailure self.old.faults self.new.faults) }
+        ensures ok { OnOk result (self.new.bank.stage ≡ Some (record { key = key; size = size; label = label.now; bytes = [] })) }
+        ensures rows { self.new.bank.rows ≡ self.old.bank.rows }
+    {
         if !self.works() {
             return Err(BankFault::Device);
         }
@@ -92,28 +106,62 @@ impl Bank for FailBank {
         }
     }
 
-    fn put(&mut self, piece: &[u8]) -> Result<(), BankFault> {
+    fn put(&mut self, piece: &[u8]) -> Result<(), BankFault>
+        requires { IsSomeAnd self.old.bank.stage (λ s. length s.bytes + length piece.now ≤ s.size) }
+        ensures left { self.new.left ≡ self.old.left - 1 }
+        ensures device { (result ≡ Err BankFault.Device) ↔ (self.old.left ≡ 1) }
+        ensures cause { IfErr result (λ e. e ≡ BankFault.Device) }
+        ensures kept { OnErr result (self.new.bank ≡ self.old.bank) }
+        ensures worked { OnOk result (self.new.faults ≡ self.old.faults) }
+        ensures failed { OnErr result (CountsFailure self.old.faults self.new.faults) }
+        ensures ok { OnOk result (self.new.bank.stage ≡ staged_with self.old.bank.stage piece.now) }
+        ensures rows { self.new.bank.rows ≡ self.old.bank.rows }
+    {
         if !self.works() {
             return Err(BankFault::Device);
         }
         self.bank.put(piece)
     }
 
-    fn seal(&mut self) -> Result<(), BankFault> {
+    fn seal(&mut self) -> Result<(), BankFault>
+        requires { IsSomeAnd self.old.bank.stage (λ s. length s.bytes ≡ s.size) }
+        ensures left { self.new.left ≡ self.old.left - 1 }
+        ensures device { (result ≡ Err BankFault.Device) ↔ (self.old.left ≡ 1) }
+        ensures cause { IfErr result (λ e. e ≡ BankFault.Device) }
+        ensures kept { OnErr result (self.new.bank ≡ self.old.bank) }
+        ensures worked { OnOk result (self.new.faults ≡ self.old.faults) }
+        ensures failed { OnErr result (CountsFailure self.old.faults self.new.faults) }
+        ensures ok { OnOk result (self.new.bank.stage ≡ None) }
+        ensures rows { OnOk result (self.new.bank.rows ≡ sealed_by self.old.bank.rows self.old.bank.stage) }
+    {
         if !self.works() {
             return Err(BankFault::Device);
         }
         self.bank.seal()
     }
 
-    fn switch(&mut self) -> Result<(), BankFault> {
+    fn switch(&mut self) -> Result<(), BankFault>
+        ensures left { self.new.left ≡ self.old.left - 1 }
+        ensures device { (result ≡ Err BankFault.Device) ↔ (self.old.left ≡ 1) }
+        ensures cause { IfErr result (λ e. e ≡ BankFault.Device) }
+        ensures kept { OnErr result (self.new.bank ≡ self.old.bank) }
+        ensures worked { OnOk result (self.new.faults ≡ self.old.faults) }
+        ensures failed { OnErr result (CountsFailure self.old.faults self.new.faults) }
+        ensures ok { OnOk result (self.new.bank.stage ≡ None) }
+        ensures rows { OnOk result (self.new.bank.rows ≡ rows_after_switch self.old.bank.rows) }
+    {
         if !self.works() {
             return Err(BankFault::Device);
         }
         self.bank.switch()
     }
 
-    fn drop_pending(&mut self) {
+    fn drop_pending(&mut self)
+        ensures left { self.new.left ≡ self.old.left }
+        ensures rows { self.new.bank.rows ≡ rows_after_drop self.old.bank.rows }
+        ensures stage { self.new.bank.stage ≡ None }
+        ensures faults { self.new.faults ≡ self.old.faults }
+    {
         self.bank.drop_pending();
     }
 

@@ -4,7 +4,7 @@ ghost use Rattle.std.proofs.Common.{rules};
 ghost use Rattle.std.specs.Cmp.Lexicographic.{pointwise};
 ghost use Rattle.std.specs.Cmp.Rules.{comparing};
 ghost use Rattle.std.specs.Ordering.{eq_of_both, on};
-ghost use Rattle.std.specs.Prelude.{[], ◌+◌, ◌++◌, ◌==◌, ◌≡◌, ◌≤◌, ◌∷◌, length};
+ghost use Rattle.std.specs.Prelude.{IsTrue, [], ◌↔◌, ◌+◌, ◌++◌, ◌==◌, ◌≡◌, ◌≤◌, ◌∷◌, length};
 ghost use Rattle.fwup_wire.specs.Descriptors.{HasDescriptorWidths, descriptor_bytes, descriptor_size, descriptors_bytes};
 ghost use Rattle.fwup_wire.specs.Lent.{device_descriptor_of};
 
@@ -43,7 +43,10 @@ impl PartialEq for DescriptorList {
 
     ghost laws = { Prim.search (comparing, rules) };
 
-    fn eq(&self, other: &DescriptorList) -> bool {
+    fn eq(&self, other: &DescriptorList) -> bool
+        ensures entries { IsTrue result ↔ (self.now ≡ other.now) }
+        ensures bytes { result ≡ eq_of_both (on length ◌==◌) (on descriptors_bytes (pointwise ◌==◌)) self.now other.now }
+    {
         self.lent() == other.lent()
     }
 }

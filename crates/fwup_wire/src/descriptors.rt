@@ -38,7 +38,10 @@ impl<'a> PartialEq for DeviceDescriptors<'a> {
 
     ghost laws = { Prim.search (comparing, rules) };
 
-    fn eq(&self, other: &DeviceDescriptors<'a>) -> bool {
+    fn eq(&self, other: &DeviceDescriptors<'a>) -> bool
+        ensures entries { IsTrue result ↔ (self.now ≡ other.now) }
+        ensures bytes { result ≡ eq_of_both (on length ◌==◌) (on descriptors_bytes (pointwise ◌==◌)) self.now other.now }
+    {
         self.len() == other.len() && self.as_bytes() == other.as_bytes()
     }
 }
