@@ -4,7 +4,7 @@ use Rattle.std.proofs.lemmas.Bool.{ltb-false, ltb-true}
 use Rattle.fw_edge.specs.Fates.{fate_by, fate_of, word_after, word_of}
 use Rattle.fw_edge.specs.Roughening.{FatesAreWithin, IsWithinRoughness}
 use Rattle.fw_edge.specs.declared.fates.Fate.TheVariants as fates
-use Rattle.fw_edge.specs.declared.fates.Roughness.{Roughness}
+use Rattle.fwupd_base.specs.declared.roughness.Roughness.{Roughness}
 
 by_tests : (r : Roughness) (lost doubled first second : ℕ) (a b : Bool) → nat_lt (lost % 100) r.loss ≡ a → nat_lt (doubled % 100) r.duplicate ≡ b
     → IsWithinRoughness r (if a then fates.Lost else (if b then fates.Twice (first % (r.delay + 1)) (second % (r.delay + 1)) else fates.Once (first % (r.delay + 1))))

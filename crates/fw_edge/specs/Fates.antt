@@ -2,7 +2,7 @@
 use Rattle.std.specs.Prelude.{ℕ, ◌≡◌, ◌+◌, ◌%◌, if◌then◌else◌, nat_lt}
 use Rattle.fw_edge.specs.declared.fates.Fate.{Fate}
 use Rattle.fw_edge.specs.declared.fates.Fate.TheVariants as fates
-use Rattle.fw_edge.specs.declared.fates.Roughness.{Roughness}
+use Rattle.fwupd_base.specs.declared.roughness.Roughness.{Roughness}
 use Rattle.rand_pcg.specs.Lcg.{Lcg}
 use Rattle.rand_pcg.specs.Pcg.{pcg32}
 

@@ -6,7 +6,7 @@ use Rattle.fw_edge.specs.Frames.{frames_of}
 use Rattle.fw_edge.specs.Links.{LinkBytes, GrowsAt, CountsOne}
 use Rattle.fw_edge.specs.declared.fates.Fate.{Fate}
 use Rattle.fw_edge.specs.declared.fates.Fate.TheVariants as fates
-use Rattle.fw_edge.specs.declared.fates.Roughness.{Roughness}
+use Rattle.fwupd_base.specs.declared.roughness.Roughness.{Roughness}
 use Rattle.fw_edge.specs.declared.rough.DelayedPacket.{DelayedPacket}
 use Rattle.fw_message.specs.declared.side.Side.{Side}
 use Rattle.fw_message.specs.declared.side.Side.TheVariants as sides

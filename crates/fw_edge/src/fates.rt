@@ -3,38 +3,9 @@
 ghost use Rattle.std.specs.Prelude.{◌≡◌, ◌<◌, ◌%◌, false, true};
 ghost use Rattle.fw_edge.specs.Fates.{fate_of, generator_after, word_after, word_of};
 
+use fwupd_base::Roughness;
 use rand_core::utils::NextWord;
 use rand_pcg::Pcg32;
-
-/// How rough a link is, and by which chances.
-#[derive(Clone, Copy, Debug, PartialEq, Eq)]
-pub struct Roughness {
-    /// How many of a hundred packets are lost, on the average: 0 to 100.
-    pub loss: u8,
-    /// How many of a hundred that aren't lost come twice.
-    pub duplicate: u8,
-    /// How many turns a packet is late at most.
-    pub delay: u8,
-    /// What the chances begin with: the same seed gives the same again.
-    pub seed: u64,
-}
-
-impl Roughness {
-    /// No roughness: each packet comes once, and at once.
-    pub fn none() -> Roughness
-        ensures loss { result.loss ≡ 0 }
-        ensures duplicate { result.duplicate ≡ 0 }
-        ensures delay { result.delay ≡ 0 }
-        ensures seed { result.seed ≡ 0 }
-    {
-        Roughness {
-            loss: 0,
-            duplicate: 0,
-            delay: 0,
-            seed: 0,
-        }
-    }
-}
 
 /// What becomes of a packet: how often it comes, and each time how many turns late.
 #[derive(Clone, Copy, Debug, PartialEq, Eq)]

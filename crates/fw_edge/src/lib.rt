@@ -18,7 +18,7 @@ mod stream;
 mod tally;
 
 pub use driving::{Driven, EdgeFault, drive};
-pub use fates::{Fate, Roughness};
+pub use fates::Fate;
 pub use frame::{FrameFault, read_frame, write_frame};
 pub use hearing::heard;
 pub use link::Link;

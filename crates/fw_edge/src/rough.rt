@@ -10,11 +10,12 @@ ghost use Rattle.fw_edge.specs.Ledgers.{TakesPackets};
 ghost use Rattle.fw_edge.specs.Links.{AsksForFrame, FailsCall, GrowsAt, CountsOne, CountsOneIf, SendsPacket, packet_if};
 ghost use Rattle.fw_edge.specs.Roughening.{GoOut, PassesOn, PassesSome, Releases, at_once, ends_turn, helds_of, idle_after, is_due, is_late, waits_of};
 
-use crate::fates::{Fate, Roughness, next_fate};
+use crate::fates::{Fate, next_fate};
 use crate::frame::FrameFault;
 use crate::link::Link;
 use crate::tally::Tally;
 use fw_world::Side;
+use fwupd_base::Roughness;
 use mctp_wire::{RawPacket, copy_of};
 use rand_pcg::Pcg32;
 use std::alloc::{AllocError, Global};

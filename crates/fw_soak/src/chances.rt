@@ -2,7 +2,8 @@
 
 ghost use Rattle.std.specs.Prelude.{◌<◌};
 
-use fw_edge::{Fate, Roughness};
+use fw_edge::Fate;
+use fwupd_base::Roughness;
 use rand_core::utils::NextWord;
 use rand_pcg::Pcg32;
 

@@ -12,8 +12,8 @@ use crate::course::SoakCourse;
 use crate::setup::Setup;
 use crate::summary::Summary;
 use crate::turns::run;
-use fw_edge::Roughness;
 use fw_world::Step;
+use fwupd_base::Roughness;
 use std::alloc::{AllocError, Global};
 
 /// What many runs came to.

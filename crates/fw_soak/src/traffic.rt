@@ -5,8 +5,9 @@ ghost use Rattle.fw_soak.specs.Courses.{ContinuesRun};
 use crate::chances::Chances;
 use crate::course::SoakCourse;
 use fd_core::FailBank;
-use fw_edge::{Fate, Roughness};
+use fw_edge::Fate;
 use fw_world::{Step, World};
+use fwupd_base::Roughness;
 use std::alloc::{AllocError, Global};
 use std::collections::VecDeque;
 

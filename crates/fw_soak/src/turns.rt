@@ -11,9 +11,9 @@ use crate::course::SoakCourse;
 use crate::setup::Setup;
 use crate::traffic::Traffic;
 use fd_core::{FailBank, Verdict};
-use fw_edge::Roughness;
 use fw_message::awaits;
 use fw_world::{Missed, Step, World};
+use fwupd_base::Roughness;
 use std::alloc::{AllocError, Global};
 use ua_core::SessionState;
 

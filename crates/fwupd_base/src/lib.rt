@@ -6,6 +6,7 @@ mod forms;
 mod inspection;
 mod responder;
 mod retries;
+mod roughness;
 mod stream;
 mod text;
 
@@ -13,4 +14,5 @@ pub use drops::LineDropCause;
 pub use forms::Form;
 pub use inspection::{InspectFault, beginning_of, inspect, inspect_beginning};
 pub use retries::{read_some, write_whole};
+pub use roughness::Roughness;
 pub use stream::{AnswerFault, answer_stream};

@@ -2,7 +2,7 @@
 use Rattle.std.specs.Prelude.{ℕ, suc, ◌≡◌, ◌≤◌, ◌⊎◌, Bool, true, List, [], ◌∷◌, Option, None, Some, IfSome, length, slice_get, take}
 use Rattle.std.specs.List.{AllByRecursion}
 use Rattle.fw_edge.specs.declared.driving.EdgeFault.TheVariants as edges
-use Rattle.fw_edge.specs.declared.fates.Roughness.{Roughness}
+use Rattle.fwupd_base.specs.declared.roughness.Roughness.{Roughness}
 use Rattle.fw_json.specs.Forms.{report_in}
 use Rattle.fwupd_base.specs.declared.forms.Form.{Form}
 use Rattle.fw_steps.specs.Worlds.{SiteOf, WorldOf}

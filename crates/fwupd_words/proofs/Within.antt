@@ -9,7 +9,7 @@ use Rattle.clap.specs.Words.{App, fault_of, subcommand_of}
 use Rattle.fwupd_words.specs.CommandLine.{Forms, answer, number_between, command_line, option_rule, package_rule, plan, run, soak, text_option, word_rule}
 use Rattle.fwupd_words.specs.Reading.{IsNoByte, HasAllowedRoughness, IsWithinBounds}
 use Rattle.fwupd_words.specs.Words.{AsksForJob, AsksNumber, AsksOrder, AsksRoughness, AsksSmall, AsksSoak, given_by}
-use Rattle.fw_edge.specs.declared.fates.Roughness.{Roughness}
+use Rattle.fwupd_base.specs.declared.roughness.Roughness.{Roughness}
 use Rattle.fwupd_words.specs.declared.asked.Order.{Order}
 use Rattle.fwupd_words.specs.declared.asked.SoakOrder.{SoakOrder}
 use Rattle.fwupd_words.specs.declared.asked.Job.{Job}

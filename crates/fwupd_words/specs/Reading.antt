@@ -7,7 +7,7 @@ use Rattle.clap.specs.declared.error.kind.ErrorKind.TheVariants as kinds
 use Rattle.clap.specs.declared.parser.matches.ArgMatches.{ArgMatches}
 use Rattle.uuid.specs.Text.{parsed}
 use Rattle.fwupd_words.specs.Words.{AsksForJob, Given, given_by, number_of, text_under}
-use Rattle.fw_edge.specs.declared.fates.Roughness.{Roughness}
+use Rattle.fwupd_base.specs.declared.roughness.Roughness.{Roughness}
 use Rattle.fwupd_words.specs.declared.asked.Job.{Job}
 use Rattle.fwupd_words.specs.declared.asked.Job.TheVariants as jobs
 

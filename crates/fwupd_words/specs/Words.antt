@@ -3,7 +3,7 @@ use Rattle.std.specs.Prelude.{ℕ, ◌≡◌, ◌<◌, ◌^◌, Bool, true, fals
 use Rattle.std.specs.Str.Parse.{IsNumeral, digits_value, without_leading_plus}
 use Rattle.clap.specs.Words.{Row, Text, first_of, first_value, found_of, one_of, one_text}
 use Rattle.clap.specs.declared.parser.matches.ArgMatches.{ArgMatches}
-use Rattle.fw_edge.specs.declared.fates.Roughness.{Roughness}
+use Rattle.fwupd_base.specs.declared.roughness.Roughness.{Roughness}
 use Rattle.fwupd_base.specs.declared.forms.Form.{Form}
 use Rattle.fwupd_base.specs.declared.forms.Form.TheVariants as forms
 use Rattle.mctp_ctl.specs.declared.answers.Endpoint.{Endpoint}

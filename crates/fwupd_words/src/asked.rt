@@ -1,7 +1,6 @@
 //! What the words of a command line ask for.
 
-use fw_edge::Roughness;
-use fwupd_base::Form;
+use fwupd_base::{Form, Roughness};
 use mctp_ctl::Endpoint;
 
 /// What the words ask for.

@@ -1,8 +1,9 @@
 //! Frames, read and written.
 
 use crate::tests::links::{BadLink, Trouble};
-use fw_edge::{FrameFault, Link, MemLink, Rough, Roughness, StreamLink, read_frame, write_frame};
+use fw_edge::{FrameFault, Link, MemLink, Rough, StreamLink, read_frame, write_frame};
 use fw_world::Side;
+use fwupd_base::Roughness;
 use mctp_wire::{RawPacket, Unit};
 use std::alloc::Global;
 use std::io::{self, Read, Write};

@@ -3,9 +3,10 @@
 use crate::tests::runs::{is_silent, started};
 use crate::tests::setup::{DEVICE, driven_over, is_updated, runs_first};
 use crate::tests::trials::{Trial, holds};
-use fw_edge::{Link, MemLink, Rough, Roughness};
+use fw_edge::{Link, MemLink, Rough};
 use fw_package::Package;
 use fw_world::Side;
+use fwupd_base::Roughness;
 use mctp_wire::RawPacket;
 use std::alloc::{AllocError, Global};
 use std::test::Fail;

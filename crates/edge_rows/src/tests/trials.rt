@@ -8,7 +8,7 @@ use crate::tests::runs::{self, echoes, fails_at_each, one_fails_alone, passes_ti
 use crate::tests::silence::is_left_as_alone;
 use crate::tests::stories::{cancels, cancels_undelivered};
 use crate::tests::units::{self, goes_so};
-use fw_edge::Roughness;
+use fwupd_base::Roughness;
 use std::alloc::Global;
 
 /// What is tried, by the name of the function that tries it.

@@ -4,10 +4,10 @@ ghost use Rattle.std.specs.Prelude.{◌≡◌, Err, IfErr, IfSome, None, OnOk, S
 ghost use Rattle.fwupd_watch.specs.Files.{any_file};
 
 use fd_core::Bank;
-use fw_edge::{Link, MemLink, Roughness, StreamLink};
+use fw_edge::{Link, MemLink, StreamLink};
 use fw_setup::SystemStores;
 use fw_world::{Step, World};
-use fwupd_base::Form;
+use fwupd_base::{Form, Roughness};
 use fwupd_jobs::{
     Beginning, FileFault, FileIdentity, Files, Observer, ObserverFault, Order, Output, RunFault,
     Show, TraceForm, Wires, plan_file, update_checked,

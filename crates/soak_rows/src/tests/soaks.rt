@@ -1,9 +1,9 @@
 //! Soaks of the worked devices.
 
 use crate::tests::histories::{package_file, worked};
-use fw_edge::Roughness;
 use fw_package::Package;
 use fw_soak::{Setup, SoakObserver, Soaked, Summary, soak, summary_text};
+use fwupd_base::Roughness;
 use std::alloc::Global;
 use std::test::Fail;
 
