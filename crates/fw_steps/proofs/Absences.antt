@@ -22,7 +22,7 @@ halves_again : (packages : List PackageText) (hs : List (HalfOf TimedOf))
 halves_again packages [] = refl
 halves_again packages (h ∷ hs) = ap (λ (xs : List (HalfOf TimedOf)). half_restarts (session_core packages) h ∷ xs) (halves_again packages hs)
 
--- An agent that restarted, ticked and restarts is one that restarted.
+-- An agent that restarted, ticked and restarts again is one that restarted.
 agent_again : (packages : List PackageText) (now : ℕ) (n : AgentOf) → agent_restarts packages (agent_ticks packages now (agent_restarts packages n)) ≡ agent_restarts packages n
 agent_again packages now n = rw (halves_again packages n.halves) refl
 
@@ -55,7 +55,7 @@ dropped_twice : (rows : List RowOf) → rows_after_drop (rows_after_drop rows) �
 dropped_twice [] = refl
 dropped_twice (r ∷ rs) = ap (λ (xs : List RowOf). row_without_applied r ∷ xs) (dropped_twice rs)
 
--- A device that restarted, ticked and restarts is one that restarted.
+-- A device that restarted, ticked and restarts again is one that restarted.
 device_again : (n : DeviceNodeOf) → device_restarts (device_after_call (device_restarts n) DeviceCall.Ticks) ≡ device_restarts n
 device_again n = rw (dropped_twice n.half.core.device.rows) refl
 
@@ -93,7 +93,7 @@ still_some true f None e = absurd (cc)
 still_some true f (Some q) e = refl
 still_some false f o e = e
 
--- what holds of every process holds of one that is there
+-- a property of every process is a property of a process that is there
 holds_there : (P : DeviceProcess → Type 0) (o : Option DeviceProcess) → is_some o ≡ true → ((q : DeviceProcess) → P q) → IsSomeAnd o P
 holds_there P None e h = absurd (cc)
 holds_there P (Some q) e h = h q

@@ -1,5 +1,5 @@
--- What a packet makes of a device that is ready: it activates exactly where it is in ACTIVATE then, and else, where it is still
--- ready, its bank has what it had.
+-- A ready device after a packet: it activated exactly if it is in ACTIVATE then, and else, if it is
+-- still ready, its bank is unchanged.
 use Rattle.std.proofs.Common.{◌≡◌, ◌==◌, ◌&&◌, ℕ, Bool, true, false, length, if◌then◌else◌, List, [], Option, Result, Ok, Err, refl}
 use Rattle.mctp_reasm.specs.Held.{Held}
 use Rattle.mctp_reasm.specs.Pieces.{MessageOf}
@@ -22,12 +22,13 @@ use Rattle.fw_node.specs.Nodes.{DeviceNodeOf, device_on_packet, node_outcome_of}
 use Rattle.fw_steps.specs.Sites.{is_activated, is_ready}
 use Rattle.fw_steps.specs.Worlds.{activated_at, activated_when}
 
--- these images are activated exactly where a ready device is active then, and else a device that is still ready has these rows
+-- these images are activated exactly if a ready device is in ACTIVATE then, and else a device that
+-- is still ready has these rows
 pub record Tells (v w : DeviceState) (images : List KeyedImage) : Type 0 where
   pub activated : images ≡ (if is_ready v.phase && is_activated w.phase then applied_keyed_images v.rows else [])
   pub kept : is_ready v.phase ≡ true → is_ready w.phase ≡ true → w.rows ≡ v.rows
 
--- the device stays in its state
+-- the device stays in its phase
 never_both : (p : Phase) → (is_ready p && is_activated p) ≡ false
 never_both (Phase.Ready u) = refl
 never_both p = refl
@@ -35,7 +36,7 @@ never_both p = refl
 unmoved : (v w : DeviceState) → w.phase ≡ v.phase → w.rows ≡ v.rows → Tells v w []
 unmoved v w phase rows = record { activated = rw (phase, never_both v.phase) refl; kept = λ a b. rows }
 
--- it goes to a state that is neither of these, or stays with its rows
+-- it goes to a phase that is neither of these, or keeps its rows
 and_false : (b : Bool) → (b && false) ≡ false
 and_false true = refl
 and_false false = refl
@@ -64,7 +65,7 @@ returned : (v : DeviceState) (row : ReturnRow) → Tells v (return_by v row).aft
 returned v (ReturnRow.RefuseReturn code) = unmoved v v refl refl
 returned v (ReturnRow.ReturnReady u) = moves v (return_by v (ReturnRow.ReturnReady u)).after refl (λ e. refl)
 
--- a switch is made where the device is ready
+-- a switch is made if the device is ready
 when_ready : (components : List BankComponent) (rows : List RowOf) (p : Phase) (works : Bool) → switch_row components rows p works ≡ SwitchRow.Switch → is_ready p ≡ true
 when_ready components rows Phase.Idle works e = absurd (cc)
 when_ready components rows (Phase.Ready u) works e = refl
@@ -112,7 +113,7 @@ learns_at v (Phase.Verify u w p) a works = verifies v u w (report_row p (verifie
 learns_at v (Phase.Apply u w p) a works = applies v u w (report_row p (applied_row a))
 learns_at v p a works = unmoved v v refl refl
 
--- what a half hears
+-- an outcome of a half
 abbrev pub TellsHeard : DeviceState → (quiet works : Bool) → HalfOutcome TimedDevice → Type 0
 TellsHeard v quiet works (HalfOutcome.Went half sent) = Tells v half.core.device []
 TellsHeard v quiet works (HalfOutcome.Took half sent command answer) =

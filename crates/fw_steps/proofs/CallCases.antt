@@ -1,4 +1,4 @@
--- What calls a bank, judged by hand.
+-- The calls of a bank, judged by hand.
 use Rattle.std.proofs.Common.{refl}
 use Rattle.fw_steps.specs.CallCases.{CalledBanks, CallingPackets, UncallingPackets}
 

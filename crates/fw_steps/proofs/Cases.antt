@@ -1,4 +1,4 @@
--- Which differences worlds that agree in a device can't have.
+-- The differences that worlds that agree in a device can't have.
 use Rattle.std.specs.Prelude.{ℕ, ◌≡◌, Option, None, Some}
 use Rattle.std.proofs.Common.{◌∙◌, ap, sym}
 use Rattle.ua_core.specs.Session.{TimedOf}
@@ -8,7 +8,7 @@ use Rattle.fw_steps.specs.Isolation.{SharedOf, shared_by, shared_with}
 use Rattle.fw_steps.specs.Worlds.{SiteOf, WorldOf, site_for}
 use Rattle.fw_steps.specs.Cases.{AgreementSeesThePair}
 
--- what is shared, where it is there
+-- the shared state, if it is there
 abbrev shared_or : SharedOf → Option SharedOf → SharedOf
 shared_or other None = other
 shared_or other (Some s) = s

@@ -1,4 +1,4 @@
--- No call of a device's node changes which components the device and its bank have.
+-- No call of a device's node changes the components that the device and its bank have.
 use Rattle.std.proofs.Common.{◌+◌, ◌==◌, ℕ, Bool, true, false, nat_lt, if◌then◌else◌, List, [], ◌∷◌, Option, Some, None, Result, Ok, Err}
 use Rattle.mctp_reasm.specs.Held.{Held}
 use Rattle.mctp_reasm.specs.Pieces.{MessageOf}

@@ -1,4 +1,4 @@
--- What a world is made of fits the fields of messages.
+-- The values of a world fit the fields of messages.
 use Rattle.std.proofs.Common.{◌≡◌, ◌<◌, ◌≤◌, ◌+◌, ◌*◌, ℕ, List, [], ◌∷◌, length, map, drop, get_or, arith, Bool, true, false, Option, Some, IfSome, if◌then◌else◌, ◌||◌, ◌∙◌, refl, sym, ap, subst}
 use Rattle.std.specs.List.{AllByRecursion}
 use Rattle.std.proofs.lemmas.Bool.{eq-eqb}
@@ -28,7 +28,7 @@ widths (d ∷ ds) h short =
 pub descriptors_fit : (ds : List DeviceDescriptorOf) (room : ℕ) → room + length (descriptors_bytes ds) ≡ 246 → AllByRecursion HasKindWidth ds → HasDescriptorListWidths ds
 descriptors_fit ds room is h = record { widths = widths ds h (omega (arith, is)); few = omega (arith, is, many ds); short = omega (arith, is) }
 
--- what runs, as it was found
+-- the running image, as it was found
 pub image_has_widths : (o : Option ImageOf) (image : ImageOf) → Some image ≡ o → HasImageWidths image → IfSome o HasImageWidths
 image_has_widths o image is h = subst (λ x. IfSome x HasImageWidths) is h
 
@@ -45,7 +45,7 @@ keys_fit : (rows : List RowOf) (cs : List BankComponent) → AllByRecursion (Has
 keys_fit rows [] h = tt
 keys_fit rows (c ∷ cs) h = (h.0.key, keys_fit rows cs h.1)
 
--- what is found under each of the keys can be told
+-- the label found under each of the keys can be encoded
 abbrev KeysFind : List RowOf → List Key → Type 0
 KeysFind rows keys = AllByRecursion (λ k. IfSome (active_of (row_of rows k)) HasImageWidths) keys
 
@@ -53,7 +53,7 @@ keys_find : (rows : List RowOf) (cs : List BankComponent) → AllByRecursion (Ha
 keys_find rows [] h = tt
 keys_find rows (c ∷ cs) h = (h.0.label, keys_find rows cs h.1)
 
--- behind the first row, where its key doesn't stand twice
+-- after the first row, if its key isn't there twice
 behind_if : (same : Bool) (row : RowOf) (rows : List RowOf) (key : Key) → same ≡ false → IfSome (active_of (if same then Some row else row_of rows key)) HasImageWidths → IfSome (active_of (row_of rows key)) HasImageWidths
 behind_if false row rows key e h = h
 behind_if true row rows key e h = absurd (cc)
@@ -82,6 +82,6 @@ has_widths_as_new v descriptors keys few = λ components idle none. record {
   phase = subst (λ p. HasPhaseWidths p (length v.stage)) (sym idle) tt;
 }
 
--- one before those of which something holds
+-- a list in which one element comes before others that have the property
 pub one_before : {X : Type 0} (P : X → Type 0) (xs : List X) (i : ℕ) (x : X) → i < length xs → x ≡ get_or xs i x → P x → AllByRecursion P (drop (i + 1) xs) → AllByRecursion P (drop i xs)
 one_before P xs i x lt is here rest = subst (AllByRecursion P) (sym (drop_more xs i x lt ∙ ap (λ y. y ∷ drop (i + 1) xs) (sym is))) (here, rest)

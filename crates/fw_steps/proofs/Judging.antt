@@ -1,4 +1,4 @@
--- What is noted after a verdict.
+-- The entries after a verdict.
 use Rattle.std.proofs.Common.{◌≡◌, ◌≤◌, ◌∙◌, ◌++◌, ℕ, Bool, true, false, IfSome, is_some, List, [], ◌∷◌, length, map, Option, Some, None, ap, refl, sym, subst}
 use Rattle.std.specs.Option.{option_map}
 use Rattle.fd_core.specs.Components.{HasComponents}
@@ -35,7 +35,7 @@ none_noted old new verdict entries k none = images_noted old new verdict entries
 pub other_noted : (old new : SiteOf) (verdict : Verdict) (entries : List NotedOf) → HandlesVerdictAtSite old verdict new → is_apply_ok verdict ≡ false → NotesVerdictAtSite old verdict new entries entries
 other_noted old new verdict entries k other = none_noted old new verdict entries k (applies_nothing old.node.half.core.device verdict k.works other)
 
--- a device that waits for ApplyOk is in APPLY: it fails exactly where its bank does
+-- a device that waits for ApplyOk is in APPLY: it fails exactly if its bank does
 fails_at : (v : DeviceState) (p : Phase) (works : Bool) → v.phase ≡ p → is_some (verdict_at v p verdicts.ApplyOk works) ≡ true
     → (works ≡ false → applied_by v verdicts.ApplyOk works ≡ []) × (works ≡ false → has_failed (verdict_after v verdicts.ApplyOk works).phase ≡ true)
     × (works ≡ true → has_failed (verdict_after v verdicts.ApplyOk works).phase ≡ false) × (is_some (staged_of v.phase) ≡ true)
@@ -106,7 +106,7 @@ pub application_noted : (old new : SiteOf) (verdict : Verdict) (before after : L
 application_noted old new verdict before after staged capacity images is k h whole at fits worked copy noted =
     rw is (applied_noted old new before after staged capacity images (subst (λ v. HandlesVerdictAtSite old v new) is k) h whole at fits worked copy noted)
 
--- a verdict that counts, at a device with its packets
+-- a verdict that the device waits for, at a device with its packets
 pub judged_here : (old new : DeviceNodeOf) (since : ℕ) (packets : List Sent) (verdict : Verdict) → HandlesVerdict old verdict new → new.tid ≡ old.tid → new.endpoint ≡ old.endpoint
     → HandlesVerdictAtSite (record { node = old; since_miss = since; packets = packets }) verdict (record { node = new; since_miss = since; packets = packets })
 judged_here old new since packets verdict k tid endpoint = record {
@@ -120,6 +120,6 @@ judged_here old new since packets verdict k tid endpoint = record {
   called = k.called;
 }
 
--- where it counts it isn't refused
+-- if the device waits for it, it isn't refused
 pub never_refused : (v : DeviceState) (verdict : Verdict) {A : Type 0} → ((works : Bool) → is_some (device_verdict v verdict works) ≡ true) → ((works : Bool) → device_verdict v verdict works ≡ None) → A
 never_refused v verdict counts refused = absurd (let c = counts true in let r = refused true in cc)

@@ -1,4 +1,4 @@
--- Each step of the world's code leads on as its definition says.
+-- Each step of the world's code follows its definition.
 use Rattle.std.proofs.Common.{◌≡◌, ◌∙◌, ◌++◌, ◌==◌, ◌&&◌, not, ◌<◌, ◌≤◌, ℕ, zero, suc, [], ◌∷◌, Bool, true, false, is_some, length, List, map, nat_le, nat_lt, slice_get, slice_set, Option, Some, None, ap, arith, inl, inr, refl, subst, sym}
 use Rattle.std.proofs.lemmas.Bool.{le-leb, lt-ltb}
 use Rattle.std.proofs.lemmas.Bool.Decides.{eqb_tells}
@@ -44,7 +44,7 @@ tick_leads w v missed may after = leads w v (steps.Tick missed) may after
 pub start_leads : (w v : WorldOf) (device number : ℕ) → may_step w (steps.Start device number) ≡ None → v ≡ world_after_call w device (λ h. half_after_start w.packages h number) → StepsTo w (steps.Start device number) v
 start_leads w v device number may after = leads w v (steps.Start device number) may after
 
--- a start may be where its package is there and the session is free
+-- a start is allowed if its package is there and the session is free
 pub may_start_there : (packages : List PackageText) (number : ℕ) (free : Option Bool) → (number ≡ 0 → ⊥) → number ≤ length packages → free ≡ Some true
     → start_fault (is_package packages number) free ≡ None
 may_start_there packages number free some there is = rw is (
@@ -91,7 +91,7 @@ device_restart_leads w v node place is at within after =
 pub log_leads : (w v : WorldOf) (bytes : ArrayVec ℕ 64 (Unit {0})) → v ≡ world_after_log_request w bytes.items → StepsTo w (steps.Sel bytes) v
 log_leads w v bytes after = leads w v (steps.Sel bytes) refl after
 
--- a packet that comes
+-- a packet that is delivered
 it_comes : (works : Bool) (faults : ℕ) (w : WorldOf) (node : ℕ) (p : Option Sent) (bytes : List ℕ) → option_map (λ s. s.bytes) p ≡ Some bytes
     → world_after_deliver works faults w node p ≡ world_after_packet works faults w node bytes
 it_comes works faults w node None bytes e = absurd (cc)
@@ -104,7 +104,7 @@ agent_leads w v device number node bytes may there is after =
     leads w v (steps.Deliver device number node) may
     (after ∙ sym (it_comes true (faults_before w (steps.Deliver device number node)) w node (item_numbered (packets_of w device) number) bytes there ∙ rw is refl))
 
--- the node at a place becomes another
+-- the node at a place changes
 site_there : (w : WorldOf) (eid place : ℕ) (x : SiteOf) → place_of w.sites eid ≡ Some place → slice_get w.sites place ≡ Some x → site_for w.sites eid ≡ Some x
 site_there w eid place x at there = ap (site_at w.sites) at ∙ there
 
@@ -129,7 +129,7 @@ comes_there w v node bytes k =
     ∙ sym (ap (at_device h.works k.heard.became.node.faults w bytes (place_of w.sites node)) (site_there w node k.place k.heard.site k.at k.heard.there)
     ∙ ap (λ p. at_device h.works k.heard.became.node.faults w bytes p (Some k.heard.site)) k.at)
 
--- whether it has a bank called
+-- whether it calls a bank
 calls_there : (w : WorldOf) (node : ℕ) (p : Option Sent) (bytes : List ℕ) → option_map (λ s. s.bytes) p ≡ Some bytes
     → delivery_calls_bank w node p ≡ (not (node == w.agent.endpoint.eid) && receipt_calls_bank bytes (site_for w.sites node))
 calls_there w node None bytes e = absurd (cc)

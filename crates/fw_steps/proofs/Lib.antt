@@ -1,45 +1,50 @@
--- The proofs of the packet world, in reading order: a folder for each rung of the ladder, then what single functions need.
+-- The proofs of the packet world, in reading order: a folder for each main law, from the lowest,
+-- then the lemmas of single functions.
 --
--- THE LADDER, from below: links are lanes, links are messages, packets are safe, devices are isolated.
--- - `LinksAreLanes`: why a step of a link is steps of its two lanes, and why each step of the world is one of each link.
--- - `LinksAreMessages`: why each step of a link is steps of its pair over whole messages, and why all of them go on together.
+-- THE MAIN LAWS, from the lowest: links are lanes, links are messages, packets are safe, devices
+-- are isolated.
+-- - `LinksAreLanes`: a step of a link is steps of its two lanes, and each step of the world is a
+--   step of each link.
+-- - `LinksAreMessages`: each step of a link is steps of its pair over whole messages, and all links
+--   take their steps together.
 -- - `Running`: runs of the world, one after another.
--- - `ReadingBack`: why in every run the answers can be read again and the wishes written.
--- - `PacketsAreSafe`: why a run of packets is one of whole messages, and so keeps what these keep.
--- - `DevicesAreIsolated`: why what is between the agent and a device depends on no other device.
--- - `Reaching`: worlds that steps led to: where a step leads from there, and what is promised of them.
--- - `Cases`: which differences worlds that agree in a device can't have.
--- - `StepCases`, `WorldCases`, `CallCases`: steps, worlds, and what calls a bank, judged by hand.
+-- - `ReadingBack`: in every run the answers can be decoded and the pending commands encoded.
+-- - `PacketsAreSafe`: a run of packets is a run of whole messages, and so is safe.
+-- - `DevicesAreIsolated`: the state between the agent and a device depends on no other device.
+-- - `Reaching`: worlds that steps reach: the steps from there, and the laws of these worlds.
+-- - `Cases`: the differences that worlds that agree in a device can't have.
+-- - `StepCases`, `WorldCases`, `CallCases`: steps, worlds, and the calls of a bank, judged by hand.
 --
--- SEPARATE PROCESSES, each with a node of its own.
--- - `NodesAlone`: why each node of a run is as its own calls leave it.
--- - `PacketsAreTheirs`: why the packets of a device are what the agent and it sent in their own
---   calls.
--- - `ProcessesAreSafe`: why the headline holds of nodes whose calls are those of one run.
--- - `PlaysAreRuns`: why a play, in which all processes tick at once, is a run of a world.
--- - `TracesArePlays`: why a trace, in which each process ticks by itself, is a play.
--- - `TracesAreCut`: why the acts up to a unit that all processes have reached are a trace by
+-- SEPARATE PROCESSES, each with its own node.
+-- - `NodesAlone`: each node of a run is as its own calls leave it.
+-- - `PacketsAreTheirs`: the packets of a device are those that the agent and the device sent in
+--   their own calls.
+-- - `ProcessesAreSafe`: the headline holds for nodes whose calls are those of one run.
+-- - `PlaysAreRuns`: a play, in which all processes tick at once, is a run of a world.
+-- - `TracesArePlays`: a trace, in which each process ticks by itself, is a play.
+-- - `TracesAreCut`: the acts up to a unit that all processes have reached are a trace by
 --   themselves.
--- - `TracesAreSafe`: why the headline holds of separate processes.
--- - `Absences`: why an absence is restarts and ticks.
+-- - `TracesAreSafe`: the headline holds for separate processes.
+-- - `Absences`: an absence is restarts and ticks.
 --
 -- STEPS of the code.
--- - `Opening`: the nodes of a world as it begins.
--- - `Fit`: what a world is made of fits the fields of messages.
--- - `Leading`: each step of the world's code leads on as its definition says.
--- - `Places`: what stands at a place, and room there.
+-- - `Opening`: the nodes of an opening world.
+-- - `Fit`: the values of a world fit the fields of messages.
+-- - `Leading`: each step of the world's code follows its definition.
+-- - `Places`: the site at a place, and room there.
 -- - `Rooms`: room for more in a list.
--- - `Components`: no call of a device's node changes which components the device and its bank have.
--- - `Spans`: the bytes of packets that stand one behind the other.
--- - `Aging`: packets that can't come any more.
--- - `Ticking`: a tick leaves a device that is ready as it was.
+-- - `Components`: no call of a device's node changes the components that the device and its bank
+--   have.
+-- - `Spans`: the bytes of packets that are in one list, in order.
+-- - `Aging`: packets that can't be received any more.
+-- - `Ticking`: a tick leaves a ready device unchanged.
 --
 -- THE HISTORY that the code notes.
--- - `Activating`: what a packet makes of a device that is ready: it activates exactly where it is in ACTIVATE then, and else,
---   where it is still ready, its bank has what it had.
--- - `Noting`: what is noted after a device's node heard a packet.
--- - `Recording`: what is noted of the agent's records after a packet.
--- - `Judging`: what is noted after a verdict.
+-- - `Activating`: a ready device after a packet: it activated exactly if it is in ACTIVATE then,
+--   and else, if it is still ready, its bank is unchanged.
+-- - `Noting`: the entries after a device's node handled a packet.
+-- - `Recording`: the entries of the agent's records after a packet.
+-- - `Judging`: the entries after a verdict.
 mod Absences
 mod Activating
 mod Aging

@@ -1,8 +1,8 @@
--- Absences: a process that isn't there for some units, since it wasn't started yet, was stopped or
+-- Absences: a process that is absent for some units, because it wasn't started yet, was stopped or
 -- was killed. In a trace (`specs/Traces`) it restarts, and then ticks and restarts once for each
 -- unit that it misses. The law is `AbsencesAreDeeds`: these acts may be done at any time, send
--- nothing, and leave a node that has just restarted. So a process that comes back after an absence,
--- with a node that restarts, is one that did these acts, and the headline holds of it.
+-- nothing, and leave a node that has just restarted. So a process that returns after an absence,
+-- with a node that restarts, has done these acts, and the headline holds for it.
 use Rattle.std.specs.Prelude.{ℕ, ◌≡◌, ◌≤◌, ◌+◌, ◌-◌, ◌^◌, ◌==◌, ◌∷◌, [], zero, suc, true, if◌then◌else◌, is_some, List, map}
 use Rattle.std.specs.Option.{option_map}
 use Rattle.fw_package.specs.Package.{PackageText}

@@ -1,12 +1,11 @@
--- A node alone: the calls that it gets, and what they make of it, without a world. A run of a world
--- gives each of its nodes a list of calls. Three laws say that a world is no more to its nodes than
--- these lists:
+-- A node alone: its calls, and its state after them, without a world. A run of a world gives each
+-- of its nodes a list of calls. Three laws say that a node depends on nothing but its list:
 -- 1. `AgentIsAlone`, `DevicesAreAlone`: at the end of a run each node is as its own calls leave it.
--- 2. `PacketsAreTheirs`: the packets of a device are what the agent and the device sent in their
---    own calls, dated, in order.
--- 3. `ProcessesAreSafe`: the headline holds of nodes that separate processes hold, if their calls
+-- 2. `PacketsAreTheirs`: the packets of a device are those that the agent and the device sent in
+--    their own calls, dated, in order.
+-- 3. `ProcessesAreSafe`: the headline holds for the nodes of separate processes, if their calls are
+--    those of one run. `specs/Plays` and `specs/Traces` say when the calls of separate processes
 --    are those of one run.
--- `specs/Plays` and `specs/Traces` say when the calls of separate processes are those of one run.
 use Rattle.std.specs.Prelude.{ℕ, ◌≡◌, ◌+◌, ◌==◌, ◌&&◌, ◌++◌, ◌∷◌, [], Bool, true, false, not, if◌then◌else◌, IfSome, IsSomeAnd, List, map, Option, Some, None}
 use Rattle.std.specs.List.{filter}
 use Rattle.exch_lane.specs.Lanes.{Sent, item_numbered}
@@ -72,8 +71,8 @@ abbrev pub agent_after_calls : List PackageText → AgentOf → List AgentCall �
 agent_after_calls packages n [] = n
 agent_after_calls packages n (c ∷ cs) = agent_after_calls packages (agent_after_call packages n c) cs
 
--- the agent's call when a packet comes to a node: none if there is no packet, or the node isn't the
--- agent's
+-- the agent's call when a packet is delivered to a node: none if there is no packet, or the node
+-- isn't the agent's
 abbrev pub agent_receipt : (mine : Bool) → (now : ℕ) → Option Sent → List AgentCall
 agent_receipt true now (Some p) = AgentCall.Receives now p.bytes ∷ []
 agent_receipt mine now p = []
@@ -100,8 +99,8 @@ AgentIsAlone = (w v : WorldOf) (ss : List Step) (run : Run w ss v) → v.agent �
 
 -- A DEVICE
 
--- A call of a device's node. `works` says whether the call of its bank succeeds, of which it makes
--- at most one. `faults` is the bank's count of failures after it.
+-- A call of a device's node. `works` says whether the call of its bank succeeds; it makes at most
+-- one. `faults` is the bank's count of failures after it.
 pub data DeviceCall : Type 0 where
   Receives : (works : Bool) → (faults : ℕ) → (bytes : List ℕ) → DeviceCall
   Ticks : DeviceCall
@@ -121,7 +120,8 @@ device_call_packets n (DeviceCall.Receives works faults bytes) = all_packets n.h
 device_call_packets n DeviceCall.Ticks = all_packets n.half.unit (half_ticks device_core true n.half).sent
 device_call_packets n call = []
 
--- what a call adds to the history of the device: the images that it activates or applies
+-- the entries that a call adds to the history of the device: the images that it activates or
+-- applies
 abbrev pub device_call_entries : DeviceNodeOf → DeviceCall → List EntryOf
 device_call_entries n (DeviceCall.Receives works faults bytes) = map EntryOf.Activated (activated_at works n bytes)
 device_call_entries n (DeviceCall.Judges works faults verdict) = map EntryOf.Applied (applied_by n.half.core.device verdict works)
@@ -132,8 +132,8 @@ abbrev pub device_after_calls : DeviceNodeOf → List DeviceCall → DeviceNodeO
 device_after_calls n [] = n
 device_after_calls n (c ∷ cs) = device_after_calls (device_after_call n c) cs
 
--- the device's call when a packet comes to a node: none if there is no packet, or the node isn't
--- this device's
+-- the device's call when a packet is delivered to a node: none if there is no packet, or the node
+-- isn't this device's
 abbrev pub device_receipt : (mine : Bool) → (works : Bool) → (faults : ℕ) → Option Sent → List DeviceCall
 device_receipt true works faults (Some p) = DeviceCall.Receives works faults p.bytes ∷ []
 device_receipt mine works faults p = []
@@ -160,8 +160,8 @@ DevicesAreAlone =
 
 -- PROCESSES
 
--- A device's node and the agent's half for it, as a pair: whatever is said of a pair of a world can
--- be said of two nodes.
+-- A device's node and the agent's half for it, as a pair, so that the laws of a pair apply to two
+-- nodes.
 abbrev pub pair_of_nodes : AgentOf → (eid : ℕ) → DeviceNodeOf → Option PairOf
 pair_of_nodes agent eid n = pair_with (half_for agent eid) (Some (record { node = n; since_miss = 8; packets = [] }))
 
@@ -183,7 +183,7 @@ ProcessesAreSafe =
 
 -- PACKETS
 
--- whether a packet is for this endpoint, which its second byte says (DSP0236)
+-- whether a packet is for this endpoint, from its second byte (DSP0236)
 abbrev pub is_for : ℕ → List ℕ → Bool
 is_for eid (version ∷ dest ∷ rest) = dest == eid
 is_for eid bytes = false

@@ -1,5 +1,5 @@
--- Whether a step has a device call its bank: a packet comes to the device's node and has it call, or a verdict does. The agent
--- has no bank, and no other step calls one.
+-- Whether a device calls its bank in a step: for a packet that is delivered to its node, or for a
+-- verdict. The agent has no bank, and no other step calls one.
 use Rattle.std.specs.Prelude.{ℕ, ◌==◌, ◌&&◌, Bool, false, not, List, Option, Some, None}
 use Rattle.exch_lane.specs.Lanes.{Sent, item_numbered}
 use Rattle.fd_core.specs.BankCalls.{verdict_calls_bank}
@@ -15,7 +15,7 @@ abbrev pub receipt_calls_bank : List ℕ → Option SiteOf → Bool
 receipt_calls_bank bytes None = false
 receipt_calls_bank bytes (Some x) = packet_calls_bank device_core x.node.half bytes
 
--- a packet, if there is one, that comes to a node
+-- a packet, if there is one, that is delivered to a node
 abbrev pub delivery_calls_bank : WorldOf → (node : ℕ) → Option Sent → Bool
 delivery_calls_bank w node None = false
 delivery_calls_bank w node (Some p) = not (node == w.agent.endpoint.eid) && receipt_calls_bank p.bytes (site_for w.sites node)

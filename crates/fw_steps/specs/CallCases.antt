@@ -1,4 +1,4 @@
--- Packets and steps by hand, on which the definition of what calls a bank is tried.
+-- Packets and steps by hand, to test the definition of the calls of a bank.
 use Rattle.std.specs.Prelude.{ℕ, ◌≡◌, ◌∷◌, [], Bool, List, None, Some, false, replicate, true}
 use Rattle.mctp_wire.specs.declared.unit.Unit.TheVariants.{U64}
 use Rattle.mctp_reasm.specs.Pieces.{MessageOf}
@@ -19,7 +19,7 @@ use Rattle.fw_steps.specs.declared.step.Step.TheVariants as steps
 
 -- PACKETS
 
--- any half of a device of one component, in this state and with this in its bank
+-- any half of a device with one component, in this phase and with these rows in its bank
 abbrev pub half_in : PartsOf → Phase → List RowOf → HalfOf TimedDevice
 half_in p phase rows =
     record p.site.node.half {
@@ -37,7 +37,7 @@ half_in p phase rows =
 abbrev pub calls : PartsOf → Phase → List RowOf → IncomingOf → Bool
 calls p phase rows incoming = incoming_calls_bank device_core (half_in p phase rows) incoming
 
--- where its image isn't applied
+-- rows without an applied image
 abbrev pub none_applied : List RowOf
 none_applied = bank old_boot None
 
@@ -48,7 +48,7 @@ downloading = Phase.Download update work progress.InProgress
 abbrev pub piece : List ℕ → IncomingOf
 piece reply = IncomingOf.Learnt (record { command = 0x15; reply = reply })
 
--- a request without data, or with these
+-- a request without data, and a request with these data
 abbrev pub any_message : MessageOf
 any_message = record { dest = 9; source = 8; to = true; tag = 1; bytes = [] }
 
@@ -60,13 +60,14 @@ request pldm_type command body =
       body = body;
     })
 
--- the bytes that were asked for, 32 of them with padding; and ActivateFirmware where all is applied
+-- the bytes that were requested, 32 with padding; and ActivateFirmware with everything applied
 pub record CallingPackets : Type 0 where
   pub bytes : (p : PartsOf) → calls p downloading none_applied (piece (0 ∷ replicate 32 7)) ≡ true
   pub activation : (p : PartsOf) → calls p (Phase.Ready update) all_applied (request 5 0x1A (1 ∷ [])) ≡ true
 
--- A byte too few; a refusal; bytes where all are there; and bytes in another state. ActivateFirmware where nothing is applied, in
--- another state, with data that are none, or of another PLDM type; another command; and what brings nothing new.
+-- A byte too few; a refusal; bytes after all were written; and bytes in another state.
+-- ActivateFirmware with nothing applied, in another state, with invalid data, or of another PLDM
+-- type; another command; and no content, a repeated request or a stray message.
 pub record UncallingPackets : Type 0 where
   pub too_few : (p : PartsOf) → calls p downloading none_applied (piece (0 ∷ replicate 31 7)) ≡ false
   pub refused : (p : PartsOf) → calls p downloading none_applied (piece (1 ∷ [])) ≡ false
@@ -85,7 +86,7 @@ pub record UncallingPackets : Type 0 where
 
 -- STEPS
 
--- a world whose device 9 is in this state, with a packet
+-- a world whose device 9 is in this phase, with a packet
 abbrev pub world_in : PartsOf → Phase → WorldOf
 world_in p phase =
     world_with p [] (record (site_with p.site 9 0 (bank old_boot None)) {
@@ -100,8 +101,9 @@ world_in p phase =
 abbrev pub applying : PartsOf → WorldOf
 applying p = world_in p (Phase.Apply update work progress.InProgress)
 
--- ApplyOk calls the bank where it is awaited. No other verdict does, nor ApplyOk for an image that is applied, or for another node;
--- nor a packet at the agent, a packet that there isn't, a tick, a call of the operator, a restart and a request to the log.
+-- ApplyOk calls the bank if the device waits for it. No other verdict does, nor ApplyOk for an
+-- image that is applied, or for another node; nor a packet at the agent, a packet that isn't there,
+-- a tick, a call of the operator, a restart and a request to the log.
 pub record CalledBanks : Type 0 where
   pub apply : (p : PartsOf) → step_calls_bank (applying p) (steps.Verdict 9 verdicts.ApplyOk) ≡ true
   pub apply_fails : (p : PartsOf) → step_calls_bank (applying p) (steps.Verdict 9 verdicts.ApplyFail) ≡ false

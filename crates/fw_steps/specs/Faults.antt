@@ -1,10 +1,10 @@
--- The words for why a step isn't taken.
+-- The names of the causes why a step isn't taken.
 use Rattle.std.specs.Prelude.{ℕ, List, codes}
 use Rattle.fw_steps.specs.declared.step.Refusal.TheVariants as refusals
 use Rattle.fw_steps.specs.declared.step.StepFault.{StepFault}
 use Rattle.fw_steps.specs.declared.step.StepFault.TheVariants as faults
 
--- the word that names a fault; a refusal's has its reason behind a colon
+-- the name of a fault; that of a refusal ends with a colon and its reason
 abbrev pub fault_name : StepFault → List ℕ
 fault_name faults.NoSuchPacket = codes "NoSuchPacket"
 fault_name faults.Dead = codes "Dead"

@@ -1,4 +1,4 @@
--- A link as a pair over whole messages: what stands in each lane's cell is what the pair's cell holds.
+-- A link as a pair over whole messages: each lane's cell matches the pair's cell.
 use Rattle.std.specs.Prelude.{◌≡◌, ℕ, Bool, true, false, List, Option, Some, None, Ok}
 use Rattle.pldm_exch.specs.Caller.{Open}
 use Rattle.exch_lane.specs.Cells.{Cell}
@@ -11,7 +11,7 @@ use Rattle.fw_message.specs.Pairs.{CellContentOf, PairOf, down_wish, is_wished}
 use Rattle.fw_node.specs.Halves.{still_wished}
 use Rattle.fw_steps.specs.Links.{LinkOf}
 
--- the bytes are this command
+-- the bytes decode to this command
 pub record DecodesToCommand (command : ℕ) (body : List ℕ) (c : CommandOf) : Type 0 where
   pub code : command ≡ command_code c
   pub reads : command_read command body ≡ Ok c
@@ -22,7 +22,7 @@ pub record IsAskedAs (command : ℕ) (body : List ℕ) (live : Bool) (h : CellCo
   pub reply : h.reply ≡ None
   pub live_is : h.live ≡ live
 
--- a request and its reply are a command and its answer, as they are read
+-- a request and its reply decode to a command and its answer
 pub record IsAnsweredAs (command : ℕ) (body reply : List ℕ) (live : Bool) (h : CellContentOf) : Type 0 where
   pub said : DecodesToCommand command body h.command
   pub answer : AnswerOf
@@ -30,19 +30,19 @@ pub record IsAnsweredAs (command : ℕ) (body reply : List ℕ) (live : Bool) (h
   pub reads : answer_in command reply ≡ Some answer
   pub live_is : h.live ≡ live
 
--- what a lane's cell is over whole messages
+-- a lane's cell matches a cell over whole messages
 abbrev pub MatchesCell : Cell → Option CellContentOf → Type 0
 MatchesCell Cell.Empty None = Unit {0}
 MatchesCell (Cell.Asked command body live) (Some h) = IsAskedAs command body live h
 MatchesCell (Cell.Answered command body reply live) (Some h) = IsAnsweredAs command body reply live h
 MatchesCell cell held = ⊥
 
--- what is waited for is what its asker wishes
+-- a command that its asker waits for is the pending command
 abbrev pub IsWishedIn : Option CellContentOf → Option CommandOf → Type 0
 IsWishedIn None wish = Unit {0}
 IsWishedIn (Some h) wish = h.live ≡ true → is_wished h.command wish ≡ true
 
--- a command is one that the agent answers, or that a device answers
+-- a command that the agent answers, or that a device answers
 abbrev pub IsCommandFor : (agent : Bool) → CommandOf → Type 0
 IsCommandFor agent c = is_asked_of_agent (command_code c) ≡ agent
 
@@ -50,7 +50,7 @@ abbrev pub IsCellFor : (agent : Bool) → Option CellContentOf → Type 0
 IsCellFor agent None = Unit {0}
 IsCellFor agent (Some h) = IsCommandFor agent h.command
 
--- a cell after its asker gave up what it no longer wishes
+-- a cell after its asker gave up a command that is no longer pending
 abbrev pub cell_kept : Bool → Cell → Cell
 cell_kept false (Cell.Asked command body live) = Cell.Asked command body false
 cell_kept false (Cell.Answered command body reply live) = Cell.Answered command body reply false
@@ -60,8 +60,9 @@ abbrev pub cell_unless : Option CommandOf → Option Open → Cell → Cell
 cell_unless wish None cell = cell
 cell_unless wish (Some o) cell = cell_kept (still_wished wish o) cell
 
--- A link and a pair: the same session, the same device, and in each way the lane's cell is the pair's. Each half has one deaf
--- count, what is waited for is wished, and each command is one that the other half answers.
+-- A link and a pair: the same session, the same device, and for each way the lane's cell matches
+-- the pair's. Both ends of a half are deaf for as long, each command that its asker waits for is
+-- pending, and each command is one that the other half answers.
 pub record LinkMatchesPair (packages : List PackageText) (l : LinkOf) (down_cell up_cell : Cell) (m : PairOf) : Type 0 where
   pub session : m.session ≡ l.agent.core.session
   pub device : m.device ≡ l.device.core.device

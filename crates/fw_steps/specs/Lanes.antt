@@ -1,5 +1,5 @@
--- The two lanes of a link: down, in which the agent asks, and up, in which the device asks; and what a step of the link is for
--- each of them.
+-- The two lanes of a link: down, in which the agent asks, and up, in which the device asks; and the
+-- steps of each lane in a step of the link.
 use Rattle.std.specs.Prelude.{◌≡◌, ◌⊎◌, ℕ, ◌+◌, ◌==◌, Bool, true, false, List, [], ◌∷◌, length, take, Option, Some, None}
 use Rattle.std.specs.List.{AllByRecursion, filter}
 use Rattle.pldm_base.specs.declared.header.PldmHead.{PldmHead}
@@ -26,7 +26,8 @@ use Rattle.fw_node.specs.Halves.{CoreOf, HalfOf, RepliedBy, read_by, half_with_c
 use Rattle.mctp_wire.specs.declared.unit.Unit.{«Unit»}
 use Rattle.fw_steps.specs.Links.{LinkOf, LinkStep}
 
--- the time, and how many ticks the half that asks and the other one counted since they last missed one
+-- the time, and the ticks that the half that asks and the half that answers counted since they last
+-- missed one
 pub record Times : Type 0 where
   pub now : ℕ
   pub asker_since_miss : ℕ
@@ -60,7 +61,7 @@ lane_of t a b packets entries =
       entries = entries;
     }
 
--- the packet goes between these: it is a request from the one, or a reply from the other
+-- the packet is of this lane: a request from the half that asks, or a reply from the other half
 abbrev pub is_of : (u : «Unit») (asker taker : ℕ) → Sent → Bool
 is_of u asker taker s = in_lane u asker taker s.bytes
 
@@ -70,7 +71,7 @@ is_down l s = is_of l.agent.unit l.agent.own l.device.own s
 abbrev pub is_up : LinkOf → Sent → Bool
 is_up l s = is_of l.device.unit l.device.own l.agent.own s
 
--- one way between two halves: the lane in which the first asks, with its packets among all
+-- the lane between two halves in which the first asks, with its packets among all
 abbrev pub way_of : {A B : Type 0} → Times → HalfOf A → HalfOf B → List Sent → List LaneEntryOf → LaneOf
 way_of t a b packets entries = lane_of t a b (filter (is_of a.unit a.own b.own) packets) entries
 
@@ -84,12 +85,12 @@ down_lane now l entries = way_of (times_of now l) l.agent l.device l.packets ent
 abbrev pub up_lane : (now : ℕ) → LinkOf → List LaneEntryOf → LaneOf
 up_lane now l entries = way_of (turned_times (times_of now l)) l.device l.agent l.packets entries
 
--- the number of a packet in its lane: how many of the lane stand up to it
+-- the number of a packet in its lane: the number of the lane's packets up to it
 abbrev pub number_in : (Sent → Bool) → List Sent → ℕ → ℕ
 number_in test packets number = length (filter test (take number packets))
 
--- A tick of the half that asks: the lane's tick; then, where it hears, what is no longer wished is given up, and what is
--- wished begins.
+-- A tick of the half that asks: the lane's tick; then, if the half hears, an open request that is
+-- no longer the pending command is given up, and a pending command begins.
 abbrev pub begin_steps : Bool → CommandOf → List LaneStepOf
 begin_steps true c = LaneStepOf.Begin (command_code c) (command_bytes c) ∷ []
 begin_steps false c = []
@@ -125,11 +126,11 @@ counted_steps core false h = []
 abbrev pub tick_steps : {C : Type 0} → CoreOf C → (asker taker : Bool) → HalfOf C → List LaneStepOf
 tick_steps core asker taker h = LaneStepOf.Tick asker taker ∷ counted_steps core asker h
 
--- A half whose core is another now gives up its open request, where it is no longer wished.
+-- A half with a new core gives up its open request if it is no longer the pending command.
 abbrev pub settle_steps : {C : Type 0} → CoreOf C → (asked : Option Open) → C → List LaneStepOf
 settle_steps core asked x = abandon_steps (core.wish x) asked []
 
--- A packet at a half, in the lane in which it answers: nothing if the packet is none of this lane.
+-- A packet at a half, in the lane in which it answers: no steps if the packet isn't of this lane.
 abbrev pub replied_by : {C : Type 0} → CoreOf C → (works : Bool) → HalfOf C → PldmHead → List ℕ → RepliedBy C
 replied_by core works h head body =
     reply_read core (is_quiet h.asker.caller) works h.core (read_by core head.command body)
@@ -143,8 +144,9 @@ answer_steps core works h true number bytes =
     LaneStepOf.Deliver number ends.Taker (reply_in core works h (taker_row h.unit h.own h.peer h.taker bytes)) ∷ []
 answer_steps core works h false number bytes = []
 
--- A packet at a half, in the lane in which it asks: a reply, after which its core may wish something else; or nothing, but
--- the half may take a request from the other lane, after which its core may wish something else too.
+-- A packet at a half, in the lane in which it asks: the steps for a reply, after which its core may
+-- have another pending command; or no steps, but the half may take a request of the other lane,
+-- after which its core may have another pending command too.
 abbrev pub learn_steps : {C : Type 0} → CoreOf C → (works : Bool) → HalfOf C → AskerRow → List LaneStepOf
 learn_steps core works h (AskerRow.Learns replies caller heard) =
     settle_steps core caller.asked (core.learn h.core (answer_read heard.command heard.reply) works)
@@ -160,7 +162,7 @@ ask_steps core works h true number bytes =
     LaneStepOf.Deliver number ends.Asker [] ∷ learn_steps core works h (asker_row h.unit h.own h.peer h.asker bytes)
 ask_steps core works h false number bytes = take_steps core works h (taker_row h.unit h.own h.peer h.taker bytes)
 
--- A call that leaves a half so.
+-- A call of a half, from the half before and after it.
 abbrev pub call_steps : {C : Type 0} → CoreOf C → (before after : HalfOf C) → List LaneStepOf
 call_steps core before after = settle_steps core before.asker.caller.asked after.core
 
@@ -172,7 +174,7 @@ abbrev pub judge_steps : LinkOf → Option VerdictEffect → List LaneStepOf
 judge_steps l None = []
 judge_steps l (Some j) = call_steps device_core l.device (half_with_core device_core l.device (record { device = j.after; idle = 0 }))
 
--- a packet of the link comes to a side
+-- a packet of the link is delivered to a side
 abbrev pub down_packet_steps : List PackageText → LinkOf → Side → (works : Bool) → (number : ℕ) → Option Sent → List LaneStepOf
 down_packet_steps packages l to works number None = []
 down_packet_steps packages l sides.Agent works number (Some p) =
@@ -187,7 +189,7 @@ up_packet_steps packages l sides.Agent works number (Some p) =
 up_packet_steps packages l sides.Device works number (Some p) =
     ask_steps device_core works l.device (is_up l p) (number_in (is_up l) l.packets number) p.bytes
 
--- What a step of the link is for the lane in which the agent asks.
+-- The steps of the lane in which the agent asks, for a step of the link.
 abbrev pub down_steps : List PackageText → LinkOf → LinkStep → List LaneStepOf
 down_steps packages l (LinkStep.Deliver number to works) = down_packet_steps packages l to works number (item_numbered l.packets number)
 down_steps packages l (LinkStep.Tick agent device) = tick_steps (session_core packages) agent device l.agent
@@ -198,7 +200,7 @@ down_steps packages l (LinkStep.Judge verdict works) = []
 down_steps packages l (LinkStep.Restart sides.Agent) = LaneStepOf.Restart ends.Asker ∷ []
 down_steps packages l (LinkStep.Restart sides.Device) = LaneStepOf.Restart ends.Taker ∷ []
 
--- What it is for the lane in which the device asks.
+-- The steps of the lane in which the device asks.
 abbrev pub up_steps : List PackageText → LinkOf → LinkStep → List LaneStepOf
 up_steps packages l (LinkStep.Deliver number to works) = up_packet_steps packages l to works number (item_numbered l.packets number)
 up_steps packages l (LinkStep.Tick agent device) = tick_steps device_core device agent l.device
@@ -207,7 +209,8 @@ up_steps packages l (LinkStep.Restart sides.Agent) = LaneStepOf.Restart ends.Tak
 up_steps packages l (LinkStep.Restart sides.Device) = LaneStepOf.Restart ends.Asker ∷ []
 up_steps packages l s = []
 
--- A lane, whatever its history, is explained: steps from a new lane lead to it, and its cell's run is not stuck on them.
+-- A lane, with any history, is explained: steps from a new lane reach it, and its cell can take all
+-- of them.
 pub record Explained (u : «Unit») (asker taker : ℕ) (lane : List LaneEntryOf → LaneOf) : Type 0 where
   pub steps : List LaneStepOf
   pub may : MayRun (lane_new u asker taker) steps
@@ -215,8 +218,8 @@ pub record Explained (u : «Unit») (asker taker : ℕ) (lane : List LaneEntryOf
   pub along : cells_along (lane_new u asker taker) steps (Some no_cell_yet) ≡ Some run
   pub is : lane_run (lane_new u asker taker) steps ≡ lane run.entries
 
--- A link is explained: both nodes have one transmission unit, which the agent's answers fit; both of its lanes are explained;
--- and each packet that can still come is of one of them.
+-- A link is explained: both nodes have one transmission unit, which the agent's answers fit; both
+-- of its lanes are explained; and each packet that can still be received is of one of them.
 pub record LinkExplained (now : ℕ) (l : LinkOf) : Type 0 where
   pub unit : l.device.unit ≡ l.agent.unit
   pub session_unit : l.agent.core.session.unit ≡ l.agent.unit

@@ -1,5 +1,6 @@
--- A link: the agent's half for a device, the device's half for the agent, and every packet sent between them. What a step of
--- the world is for one device, control and base messages and the event log aside.
+-- A link: the agent's half for a device, the device's half for the agent, and every packet sent
+-- between them. A step of the world for one device is a step of its link, without control and base
+-- messages and the event log.
 use Rattle.std.specs.Prelude.{ℕ, ◌+◌, ◌-◌, ◌^◌, ◌&&◌, Bool, true, if◌then◌else◌, nat_lt, List, [], ◌∷◌, ◌++◌, map, Option, Some, None}
 use Rattle.mctp_reasm.specs.Pieces.{MessageOf}
 use Rattle.pldm_exch.specs.Caller.{is_quiet}
@@ -22,7 +23,8 @@ use Rattle.fw_node.specs.Cores.{TimedDevice, device_core, package_of, session_co
 use Rattle.mctp_wire.specs.declared.unit.Unit.{«Unit»}
 use Rattle.fw_node.specs.Halves.{HalfOutcome, HalfOf, half_on_packet, half_restarts, half_ticks, half_with_core}
 
--- both halves, the packets, dated, in the order of sending, and how many ticks each node counted since it last missed one
+-- both halves, the packets, dated, in the order of sending, and the ticks that each node counted
+-- since it last missed one
 pub record LinkOf : Type 0 where
   pub agent : HalfOf TimedOf
   pub device : HalfOf TimedDevice
@@ -30,8 +32,8 @@ pub record LinkOf : Type 0 where
   pub agent_since_miss : ℕ
   pub device_since_miss : ℕ
 
--- What can happen on a link. `works` says whether the one call of its bank that the step makes succeeds; a tick says which of
--- the two nodes count it.
+-- A step of a link. `works` says whether the one call of its bank that the step makes succeeds. A
+-- tick has a flag for each of the two nodes: whether it counts the tick.
 pub data LinkStep : Type 0 where
   Deliver : (number : ℕ) → (to : Side) → (works : Bool) → LinkStep
   Tick : (agent device : Bool) → LinkStep
@@ -41,21 +43,22 @@ pub data LinkStep : Type 0 where
   Judge : (verdict : Verdict) → (works : Bool) → LinkStep
   Restart : (side : Side) → LinkStep
 
--- a link after a step, and what happened to its device
+-- a link after a step, and the entries of its device
 pub record LinkStepped : Type 0 where
   pub after : LinkOf
   pub noted : List EntryOf
 
--- packets with those of these messages behind them, cut at this transmission unit
+-- packets with those of these messages appended, cut at this transmission unit
 abbrev pub packets_with_messages : «Unit» → (now : ℕ) → List Sent → List MessageOf → List Sent
 packets_with_messages u now ps [] = ps
 packets_with_messages u now ps (m ∷ ms) = packets_with_messages u now (ps ++ packets_of_message u now m) ms
 
--- nothing happened to the device
+-- a step without entries of the device
 abbrev pub link_step_without_entries : LinkOf → LinkStepped
 link_step_without_entries l = record { after = l; noted = [] }
 
--- what the agent's half heard; a control message or one of another PLDM type isn't sent on a link
+-- the step for an outcome of the agent's half; a control message or a message of another PLDM type
+-- isn't sent on a link
 abbrev pub link_step_of_agent : (now : ℕ) → List PackageText → LinkOf → HalfOutcome TimedOf → Option LinkStepped
 link_step_of_agent now packages l (HalfOutcome.Went half sent) =
     Some (link_step_without_entries (record l { agent = half; packets = packets_with_messages l.agent.unit now l.packets sent }))
@@ -66,7 +69,7 @@ link_step_of_agent now packages l (HalfOutcome.Took half sent command answer) =
     })
 link_step_of_agent now packages l heard = None
 
--- what the device's half heard
+-- the step for an outcome of the device's half
 abbrev pub link_step_of_device : (now : ℕ) → Bool → LinkOf → HalfOutcome TimedDevice → Option LinkStepped
 link_step_of_device now works l (HalfOutcome.Went half sent) =
     Some (link_step_without_entries (record l { device = half; packets = packets_with_messages l.device.unit now l.packets sent }))
@@ -77,18 +80,19 @@ link_step_of_device now works l (HalfOutcome.Took half sent command answer) =
     })
 link_step_of_device now works l heard = None
 
--- one of them hears these bytes
+-- one of the halves handles these bytes
 abbrev pub link_step_of_packet : (now : ℕ) → List PackageText → LinkOf → Side → Bool → List ℕ → Option LinkStepped
 link_step_of_packet now packages l sides.Agent works bytes = link_step_of_agent now packages l (half_on_packet (session_core packages) true l.agent bytes)
 link_step_of_packet now packages l sides.Device works bytes = link_step_of_device now works l (half_on_packet device_core works l.device bytes)
 
--- a packet comes as long as it lives
+-- a packet is delivered as long as it lives
 abbrev pub delivers_on : (now : ℕ) → List PackageText → LinkOf → Side → Bool → Option Sent → Option LinkStepped
 delivers_on now packages l to works None = None
 delivers_on now packages l to works (Some p) =
     if nat_lt (lives_until p) now then None else link_step_of_packet now packages l to works p.bytes
 
--- both tick, and what they send is dated with the new time, the agent's before the device's
+-- both tick, and the packets that they send are dated with the new time, the agent's before the
+-- device's
 abbrev pub link_ticks : (now : ℕ) → List PackageText → LinkOf → (agent device : Bool) → LinkOf
 link_ticks now packages l agent device =
     record {
@@ -113,7 +117,7 @@ link_step_of_verdict l (Some j) =
       noted = map EntryOf.Applied j.applied;
     })
 
--- A step of a link at this moment, if it may be taken.
+-- A step of a link at this time, if it may be taken.
 abbrev pub link_after : (now : ℕ) → List PackageText → LinkOf → LinkStep → Option LinkStepped
 link_after now packages l (LinkStep.Deliver number to works) =
     delivers_on now packages l to works (item_numbered l.packets number)
@@ -134,7 +138,7 @@ link_after now packages l (LinkStep.Restart sides.Agent) =
 link_after now packages l (LinkStep.Restart sides.Device) =
     Some (link_step_without_entries (record l { device = half_restarts device_core l.device }))
 
--- the time after it
+-- the time after the step
 abbrev pub time_after : (now : ℕ) → LinkStep → ℕ
 time_after now (LinkStep.Tick agent device) = now + 1
 time_after now s = now

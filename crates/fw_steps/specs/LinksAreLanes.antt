@@ -1,4 +1,5 @@
--- A link's step is steps of its two lanes, each of which may be taken, so that the cell of each lane goes along.
+-- A link's step is steps of its two lanes, each of which may be taken, so that the cell of each
+-- lane takes its steps too.
 use Rattle.mctp_wire.specs.declared.unit.Unit.TheVariants.{U64}
 use Rattle.std.specs.Prelude.{◌≡◌, ℕ, Bool, true, List, nat_le, Some, IfSome, IsSomeAnd, is_some}
 use Rattle.fwup_wire.specs.Commands.{CommandRoundTrips}
@@ -15,14 +16,15 @@ use Rattle.fw_node.specs.Nodes.{TakenAnswerRoundTrips}
 use Rattle.fw_steps.specs.Lanes.{LinkExplained, down_lane, down_steps, up_lane, up_steps}
 use Rattle.fw_steps.specs.Links.{LinkOf, LinkStep, LinkStepped, link_after, time_after}
 
--- The step may be taken: a packet that comes was sent, and lives; a tick isn't the last, and a node misses it only
--- where it counted eight since the last that it missed; and the calls are allowed.
+-- The step may be taken: a packet that is delivered was sent, and lives; a tick isn't the last, and
+-- a node misses it only if it counted eight since the last one it missed; and the calls are
+-- allowed.
 abbrev pub MayHappen : (now : ℕ) → List PackageText → LinkOf → LinkStep → Type 0
 MayHappen now packages l (LinkStep.Deliver number to works) = IsSomeAnd (item_numbered l.packets number) (IsAlive now)
 MayHappen now packages l s = is_some (link_after now packages l s) ≡ true
 
--- What is known of codecs: the answer that a core gives can be read again; and where a half hears after a tick, what its core
--- wishes can be written.
+-- The facts about codecs: the answer of a core round-trips; and if a half hears after a tick, its
+-- core's pending command can be encoded.
 abbrev pub AnswerRoundTripsOn : List PackageText → LinkOf → Side → (works : Bool) → List ℕ → Type 0
 AnswerRoundTripsOn packages l sides.Agent works bytes = TakenAnswerRoundTrips l.agent.core.session.unit (half_on_packet (session_core packages) true l.agent bytes)
 AnswerRoundTripsOn packages l sides.Device works bytes = TakenAnswerRoundTrips U64 (half_on_packet device_core works l.device bytes)
@@ -36,7 +38,8 @@ LinkStepRoundTrips packages l (LinkStep.Tick agent device) =
     (agent ≡ true → PendingRoundTrips (session_core packages) l.agent) × (device ≡ true → PendingRoundTrips device_core l.device)
 LinkStepRoundTrips packages l s = Unit {0}
 
--- One lane through a step of its link: the steps may be taken, they lead to the lane after it, and its cell goes along.
+-- One lane in a step of its link: the lane's steps may be taken, they give the lane after the
+-- link's step, and its cell takes them too.
 pub record StepsLane (before after : List LaneEntryOf → LaneOf) (steps : List LaneStepOf) (was is : CellRun) : Type 0 where
   pub may : MayRun (before was.entries) steps
   pub leads : lane_run (before was.entries) steps ≡ after is.entries
@@ -44,7 +47,8 @@ pub record StepsLane (before after : List LaneEntryOf → LaneOf) (steps : List 
   pub cell_before : IsCellOf (before was.entries) was
   pub cell_after : IsCellOf (after is.entries) is
 
--- The link takes the step and stays between its two nodes, it is explained again, and both of its lanes go along.
+-- The link takes the step and stays between its two nodes, it is explained again, and both of its
+-- lanes take their steps.
 pub record StepsInLanes (now : ℕ) (packages : List PackageText) (l : LinkOf) (s : LinkStep) (before : LinkExplained now l) : Type 0 where
   pub stepped : LinkStepped
   pub after : link_after now packages l s ≡ Some stepped
@@ -56,7 +60,8 @@ pub record StepsInLanes (now : ℕ) (packages : List PackageText) (l : LinkOf) (
   pub down : StepsLane (down_lane now l) (down_lane (time_after now s) stepped.after) (down_steps packages l s) before.down.run explained.down.run
   pub up : StepsLane (up_lane now l) (up_lane (time_after now s) stepped.after) (up_steps packages l s) before.up.run explained.up.run
 
--- From every link that is explained, whatever is lost, repeated, reordered or late and whoever restarts.
+-- This holds for every link that is explained, with any packets lost, repeated, reordered or late
+-- and any nodes restarted.
 abbrev pub LinksAreLanes : Type 0
 LinksAreLanes =
     (now : ℕ) (packages : List PackageText) (l : LinkOf) (s : LinkStep) (before : LinkExplained now l)

@@ -1,5 +1,5 @@
--- A link's step is steps of its pair over whole messages: what the two halves do with packets, tags and time is what a device
--- and its session do with commands and answers.
+-- A link's step is steps of its pair over whole messages: the two halves, with packets, tags and
+-- time, do the same as a device and its session with commands and answers.
 use Rattle.std.specs.Prelude.{◌≡◌, ◌∷◌, [], ℕ, List, Some}
 use Rattle.std.specs.List.{AllByRecursion}
 use Rattle.exch_lane.specs.Cells.{Cell}
@@ -13,13 +13,14 @@ use Rattle.fw_steps.specs.Lanes.{LinkExplained}
 use Rattle.fw_steps.specs.LinksAreLanes.{LinkStepRoundTrips, StepsInLanes}
 use Rattle.fw_steps.specs.Links.{LinkOf, LinkStep, LinkStepped}
 
--- A restart of the agent is one of its session; any other step of a link is steps that don't restart a session alone.
+-- A restart of the agent is one restart of its session. Any other step of a link is steps other
+-- than a restart of the session.
 abbrev pub AreStepsOf : LinkStep → List StepOf → Type 0
 AreStepsOf (LinkStep.Restart sides.Agent) steps = steps ≡ StepOf.Restart sides.Agent ∷ []
 AreStepsOf s steps = AllByRecursion HasName steps
 
--- From this pair, these steps over whole messages may be taken, whatever happened before; they note what the link's step notes,
--- and they lead to a pair that is the link's after it.
+-- These steps over whole messages may be taken from this pair, with any history. They add the
+-- entries of the link's step, and they give a pair that matches the link after it.
 pub record StepsInMessages (packages : List PackageText) (m : PairOf) (s : LinkStep) (t : LinkStepped) (down_cell up_cell : Cell) : Type 0 where
   pub steps : List StepOf
   pub named : AreStepsOf s steps
@@ -28,8 +29,8 @@ pub record StepsInMessages (packages : List PackageText) (m : PairOf) (s : LinkS
       ≡ Some (record { pair = pair; entries = history_with es t.noted })
   pub joined : LinkMatchesPair packages t.after down_cell up_cell pair
 
--- From every link that is explained and a pair that is joined with it, whatever is lost, repeated, reordered or late and
--- whoever restarts.
+-- This holds for every link that is explained and a pair that matches it, with any packets lost,
+-- repeated, reordered or late and any nodes restarted.
 abbrev pub LinksAreMessages : Type 0
 LinksAreMessages =
     (now : ℕ) (packages : List PackageText) (l : LinkOf) (s : LinkStep) (before : LinkExplained now l)

@@ -1,8 +1,8 @@
--- Plays: what separate processes do, each with a node of its own, in the order of real time and
+-- Plays: the calls of separate processes, each with its own node, in the order of real time and
 -- unit by unit. There is no world. The law is `PlaysAreRuns`: every play in which packets are
 -- received after they were sent is a run of a world, and that world has the nodes of the processes
 -- at its end. Read `specs/Alone` first, for the calls of a node. In a play all processes tick at
--- once; `specs/Traces` does without that.
+-- once; `specs/Traces` doesn't need that.
 use Rattle.std.specs.Prelude.{ℕ, ◌≡◌, ◌≤◌, ◌<◌, ◌+◌, ◌-◌, ◌^◌, ◌==◌, ◌++◌, ◌∷◌, [], Bool, true, false, if◌then◌else◌, is_some, IfSome, IsSomeAnd, List, None}
 use Rattle.std.specs.List.{AllByRecursion, Contains}
 use Rattle.arrayvec.specs.declared.array_vec.ArrayVec.{ArrayVec}
@@ -68,8 +68,8 @@ device_calls_of eid h = []
 
 -- PROCESSES
 
--- A process: the unit in which it is, its node, and all packets that it sent, each with the unit of
--- the call that sent it.
+-- A process: its unit, its node, and all packets that it sent, each with the unit of the call that
+-- sent it.
 pub record AgentProcess : Type 0 where
   pub unit : ℕ
   pub node : AgentOf
@@ -80,8 +80,8 @@ pub record DeviceProcess : Type 0 where
   pub node : DeviceNodeOf
   pub sent : List Sent
 
--- A process after a step: its node has had its calls of the step, and what it sent in them is
--- stamped with the unit of the step.
+-- A process after a step: its node has handled its calls of the step, and the packets that it sent
+-- in them are stamped with the unit of the step.
 abbrev pub agent_process_after_step : List PackageText → AgentProcess → PlayStep → AgentProcess
 agent_process_after_step packages p h =
     record {
@@ -116,7 +116,7 @@ abbrev pub device_play_calls : (eid : ℕ) → List PlayStep → List DeviceCall
 device_play_calls eid [] = []
 device_play_calls eid (h ∷ hs) = device_calls_of eid h ++ device_play_calls eid hs
 
--- what the agent records in a call, with the device that each record is of
+-- the records that the agent makes in a call, with the device of each
 abbrev pub agent_call_notes : List PackageText → AgentOf → AgentCall → List NotedOf
 agent_call_notes packages n (AgentCall.Receives now bytes) = recorded_from n (agent_on_packet packages n bytes now).agent (sender_of (any_packet bytes))
 agent_call_notes packages n call = []
@@ -129,8 +129,8 @@ abbrev pub device_step_entries : DeviceNodeOf → List DeviceCall → List Entry
 device_step_entries n [] = []
 device_step_entries n (c ∷ cs) = device_call_entries n c
 
--- What a step and a play add to the history of a device: what the agent records of it, and what its
--- own calls add.
+-- The entries that a step and a play add to the history of a device: the agent's records of it, and
+-- the entries of its own calls.
 abbrev pub pair_step_entries : (eid : ℕ) → List PackageText → AgentOf → (unit : ℕ) → DeviceNodeOf → PlayStep → List EntryOf
 pair_step_entries eid packages agent unit node h = history_of eid (agent_step_notes packages agent (agent_calls_of unit h)) ++ device_step_entries node (device_calls_of eid h)
 
@@ -146,7 +146,7 @@ agent_process_after opening play = agent_process_after_steps opening.packages (r
 abbrev pub device_process_after : (eid : ℕ) → DeviceNodeOf → List PlayStep → DeviceProcess
 device_process_after eid node play = device_process_after_steps eid (record { unit = 0; node = node; sent = [] }) play
 
--- WHICH STEPS MAY FOLLOW
+-- THE STEPS THAT MAY FOLLOW
 
 -- The node takes the call: a call of the operator isn't refused, a verdict is one for which the
 -- device waits, and the bank's count of failures is as the call of the bank left it.
@@ -156,8 +156,8 @@ AgentMayCall packages n (AgentCall.Cancels now device) = is_some (half_for n dev
 AgentMayCall packages n (AgentCall.Activates now device) = (is_some (half_for n device) ≡ true) × (ready_fault (ready_for n device) ≡ None)
 AgentMayCall packages n call = Unit {0}
 
--- A call of a bank that works leaves its count of failures as it is. One that fails raises it, and only a call of the node that
--- calls the bank has one that fails.
+-- A call of a bank that works leaves its count of failures as it is. One that fails raises it, and
+-- only a call of the node that calls the bank has one that fails.
 pub record CallsBank (calls : Bool) (before : ℕ) (works : Bool) (faults : ℕ) : Type 0 where
   pub worked : works ≡ true → faults ≡ before
   pub failed : works ≡ false → CountsFailure before faults
@@ -173,7 +173,7 @@ DeviceMayCall n call = Unit {0}
 
 -- A packet is received after its peer sent it with this stamp, and no later than 8 units after the
 -- stamp. A device receives only packets that are for it. The clock counts up to 2^32 - 1. A verdict
--- and a restart are of a device that there is.
+-- and a restart are of a device of the world.
 abbrev pub IsCarried : WorldOf → List PlayStep → PlayStep → Type 0
 IsCarried opening before PlayStep.UnitPasses = (agent_process_after opening before).unit < 2 ^ 32 - 1
 IsCarried opening before (PlayStep.AgentReceives device stamp bytes) =
@@ -186,7 +186,8 @@ IsCarried opening before (PlayStep.Judges device works faults verdict) = is_devi
 IsCarried opening before (PlayStep.DeviceRestarts device) = is_device opening device ≡ true
 IsCarried opening before h = Unit {0}
 
--- A step may follow these steps: what it carries was sent, and each node takes its call.
+-- A step may follow these steps: the packet that it delivers was sent, and each node takes its
+-- call.
 pub record MayFollow (opening : WorldOf) (before : List PlayStep) (h : PlayStep) : Type 0 where
   pub carried : IsCarried opening before h
   pub agent : AllByRecursion (AgentMayCall opening.packages (agent_process_after opening before).node) (agent_calls_of (agent_process_after opening before).unit h)
@@ -199,9 +200,9 @@ EachMayFollow opening before (h ∷ hs) = MayFollow opening before h × EachMayF
 
 -- PLAYS ARE RUNS
 
--- A play is a run: steps lead the opening world to a world with the nodes of the processes
--- (`agent`, `devices`). The history of each device in that world is what the two processes noted of
--- it (`noted`). The calls of the processes are those of the run (`parts`).
+-- A play is a run: steps from the opening world give a world with the nodes of the processes
+-- (`agent`, `devices`). The history of each device in that world is the list of entries that the
+-- two processes noted of it (`noted`). The calls of the processes are those of the run (`parts`).
 pub record IsRun (opening : WorldOf) (play : List PlayStep) : Type 0 where
   pub steps : List Step
   pub world : WorldOf
@@ -216,15 +217,15 @@ pub record IsRun (opening : WorldOf) (play : List PlayStep) : Type 0 where
 abbrev pub PlaysAreRuns : Type 0
 PlaysAreRuns = (opening : WorldOf) (play : List PlayStep) → IsOpeningWorld opening → EachMayFollow opening [] play → IsRun opening play
 
--- The agent's session for each device and the device, as their processes have them after the play,
--- are safe, and tied with the history of the device in this world.
+-- The agent's session for each device and the device, from their processes after the play, are
+-- safe, and tied with the history of the device in this world.
 abbrev pub EndsSafely : (opening : WorldOf) → (play : List PlayStep) → (world : WorldOf) → Type 0
 EndsSafely opening play world =
     (eid : ℕ) → IfSome (pair_for opening eid) (λ m. IfSome (site_for opening.sites eid)
     (λ x. IsSomeAnd (pair_of_nodes (agent_process_after opening play).node eid (device_process_after eid x.node play).node)
     (λ n. IsSafeAndTied opening.packages (pair_run m []) (pair_run n (history_of eid world.history)))))
 
--- So the headline holds of the processes of a play.
+-- So the headline holds for the processes of a play.
 abbrev pub PlaysAreSafe : Type 0
 PlaysAreSafe =
     (opening : WorldOf) (play : List PlayStep) → IsOpeningWorld opening → EachMayFollow opening [] play

@@ -1,4 +1,4 @@
--- Why a step isn't taken, at which a replay stops; and which steps need memory.
+-- The cause why a step isn't taken, which stops a replay; and the steps that need memory.
 use Rattle.std.specs.Prelude.{◌≡◌, ◌⊎◌, Bool, true, false, Some, None}
 use Rattle.fw_steps.specs.Headline.{may_step}
 use Rattle.fd_core.specs.declared.states.Verdict.{Verdict}
@@ -9,7 +9,7 @@ use Rattle.fw_steps.specs.declared.step.Step.TheVariants as steps
 use Rattle.fw_steps.specs.declared.step.StepFault.{StepFault}
 use Rattle.fw_steps.specs.declared.step.StepFault.TheVariants as faults
 
--- of the verdicts ApplyOk adds an entry of the history
+-- only the verdict ApplyOk adds an entry to the history
 abbrev pub adds_entry : Verdict → Bool
 adds_entry verdicts.ApplyOk = true
 adds_entry verdict = false
@@ -22,6 +22,7 @@ needs_memory (steps.Start device number) = true
 needs_memory (steps.Verdict device verdict) = adds_entry verdict
 needs_memory s = false
 
--- Why a step isn't taken: it may not be, for this reason; or it may, and memory that it needs is refused.
+-- The cause why a step isn't taken: it may not be taken, for this cause; or it may, and memory that
+-- it needs is refused.
 abbrev pub RefusesStep : WorldOf → Step → StepFault → Type 0
 RefusesStep w s e = (may_step w s ≡ Some e) ⊎ ((e ≡ faults.Memory) × (needs_memory s ≡ true) × (may_step w s ≡ None))

@@ -1,4 +1,5 @@
--- Steps by hand, on which two definitions are tried: which steps of a schedule concern a device, and which steps need memory.
+-- Steps by hand, to test two definitions: the steps of a schedule that concern a device, and the
+-- steps that need memory.
 use Rattle.std.specs.Prelude.{ℕ, ◌≡◌, ◌∷◌, [], List, false, true}
 use Rattle.fd_core.specs.declared.states.Verdict.TheVariants as verdicts
 use Rattle.fw_steps.specs.Isolation.{ConcernOf, steps_of}
@@ -19,7 +20,7 @@ log_request = steps.Sel (record { items = 0x40 ∷ [] })
 abbrev pub with_agent : WorldOf → ℕ → WorldOf
 with_agent w eid = record w { agent = record w.agent { endpoint = record w.agent.endpoint { eid = eid } } }
 
--- a schedule of an agent 8 and devices 9 and 10
+-- a schedule of agent 8 and devices 9 and 10
 abbrev pub schedule : List Step
 schedule =
     steps.Start 9 1 ∷ steps.Start 10 2 ∷ full_tick
@@ -30,8 +31,8 @@ schedule =
     ∷ steps.Activate 9 ∷ steps.Activate 10
     ∷ log_request ∷ steps.Restart 10 ∷ steps.Restart 9 ∷ steps.Restart 8 ∷ []
 
--- what of it concerns the device 9: a packet of its own at either end, and no packet at another's; and of each tick whether the
--- agent and the device count it
+-- the parts of it that concern device 9: its own packets at either end, and none at another device;
+-- and of each tick whether the agent and the device count it
 abbrev pub concerns_of_9 : List ConcernOf
 concerns_of_9 =
     ConcernOf.Takes (steps.Start 9 1) ∷ ConcernOf.Passes true true
@@ -44,7 +45,8 @@ concerns_of_9 =
 abbrev pub steps_for : WorldOf → (device : ℕ) → List Step → List ConcernOf
 steps_for w device ss = steps_of (with_agent w 8) device ss
 
--- Other steps of another device change nothing; another order, or another step of this one, does.
+-- Other steps of another device change nothing; another order, or another step of this device,
+-- does.
 pub record ConcernsAreJudged : Type 0 where
   pub whole : (w : WorldOf) → steps_for w 9 schedule ≡ concerns_of_9
   pub foreign : (w : WorldOf) → steps_for w 9 (steps.Start 10 2 ∷ steps.Deliver 10 1 8 ∷ steps.Restart 10 ∷ log_request ∷ []) ≡ []
@@ -53,7 +55,7 @@ pub record ConcernsAreJudged : Type 0 where
   pub order : (w : WorldOf) → steps_for w 9 (steps.Cancel 9 ∷ full_tick ∷ []) ≡ steps_for w 9 (full_tick ∷ steps.Cancel 9 ∷ []) → ⊥
   pub left_out : (w : WorldOf) → steps_for w 9 (steps.Restart 8 ∷ []) ≡ [] → ⊥
 
--- what adds packets, entries or records, and what adds none
+-- the steps that add packets, entries or records, and the steps that add none
 pub record MemoryIsJudged : Type 0 where
   pub deliver : needs_memory (steps.Deliver 9 1 8) ≡ true
   pub tick : needs_memory full_tick ≡ true

@@ -1,14 +1,13 @@
--- Traces: what separate processes do in the order of real time, each by its own clock. A process
--- ticks whenever it will. It receives a packet after its peer sent it, with a stamp that isn't
+-- Traces: the acts of separate processes in the order of real time, each by its own clock. A
+-- process ticks at any time. It receives a packet after its peer sent it, with a stamp that isn't
 -- later than its own unit, and at most 8 units earlier. Nothing is assumed of rates, phases or
--- stops. The laws, from below:
--- 1. `TracesArePlays`: a trace is a play. Sorted by their units, ticks first, its acts are the
---    steps of one.
+-- stops. The laws, in order:
+-- 1. `TracesArePlays`: a trace is a play. Its acts, sorted by their units, ticks first, are the
+--    steps of a play.
 -- 2. `TracesAreCut`: the acts up to a unit that all processes have reached are a trace by
 --    themselves.
--- 3. `TracesAreSafe`: so the processes are safe at the end of each such unit.
--- Read `specs/Alone` first, for the calls of a node, and of `specs/Plays` the processes and
--- `IsRun`.
+-- 3. `TracesAreSafe`: the processes are safe at the end of each such unit. Read `specs/Alone`
+--    first, for the calls of a node, and `specs/Plays` for the processes and `IsRun`.
 use Rattle.std.specs.Prelude.{ℕ, ◌≡◌, ◌≤◌, ◌<◌, ◌+◌, ◌-◌, ◌^◌, ◌==◌, ◌++◌, ◌∷◌, [], Bool, true, if◌then◌else◌, nat_le, IfSome, IsSomeAnd, List, Option, Some, None}
 use Rattle.std.specs.List.{Contains}
 use Rattle.std.specs.Option.{option_map}
@@ -73,7 +72,7 @@ device_act_call (DeviceAct.Receives works faults stamp bytes) = DeviceCall.Recei
 device_act_call (DeviceAct.Judges works faults verdict) = DeviceCall.Judges works faults verdict
 device_act_call DeviceAct.Restarts = DeviceCall.Restarts
 
--- a process after an act: what it sends is stamped with the unit after the act
+-- a process after an act: the packets that it sends are stamped with the unit after the act
 abbrev pub agent_process_after_act : List PackageText → AgentProcess → AgentAct → AgentProcess
 agent_process_after_act packages p d =
     record {
@@ -107,8 +106,7 @@ abbrev pub processes_after : List PackageText → ProcessesOf → List Act → P
 processes_after packages ps [] = ps
 processes_after packages ps (a ∷ xs) = processes_after packages (processes_after_act packages ps a) xs
 
--- A device's process as it begins, and all processes as they begin: with the nodes of an opening
--- world.
+-- A device's new process, and all new processes, with the nodes of an opening world.
 abbrev pub new_process : SiteOf → DeviceProcess
 new_process x = record { unit = 0; node = x.node; sent = [] }
 
@@ -116,7 +114,7 @@ abbrev pub processes_of : WorldOf → ProcessesOf
 processes_of opening =
     record { agent = record { unit = 0; node = opening.agent; sent = [] }; device = λ eid. option_map new_process (site_for opening.sites eid) }
 
--- WHICH ACTS MAY FOLLOW
+-- THE ACTS THAT MAY FOLLOW
 
 -- A packet is received in the unit of its stamp or in one of the 8 units after it, as the receiver
 -- counts them.
@@ -124,8 +122,8 @@ pub record IsTimely (stamp unit : ℕ) : Type 0 where
   pub no_later : stamp ≤ unit
   pub living : unit ≤ stamp + 8
 
--- A packet is received after its peer sent it with this stamp. The agent's clock counts up to 2^32
--- - 1.
+-- A packet is received after its peer sent it with this stamp. The agent's clock counts up to
+-- 2^32 - 1.
 abbrev pub AgentMayAct : ProcessesOf → AgentAct → Type 0
 AgentMayAct ps AgentAct.Ticks = ps.agent.unit < 2 ^ 32 - 1
 AgentMayAct ps (AgentAct.Receives device stamp bytes) = IsTimely stamp ps.agent.unit × IsSomeAnd (ps.device device) (λ q. Contains q.sent (sent_at stamp bytes))
@@ -152,7 +150,8 @@ pub record AreAtUnit (unit : ℕ) (ps : ProcessesOf) : Type 0 where
 
 -- TRACES ARE PLAYS
 
--- A play in which each step may follow those before it, and after which the processes are these.
+-- A play in which each step may follow those before it, and after which the processes are equal to
+-- `ps`.
 pub record IsPlay (opening : WorldOf) (ps : ProcessesOf) : Type 0 where
   pub play : List PlayStep
   pub may : EachMayFollow opening [] play
@@ -185,13 +184,13 @@ pub record HaveReachedUnit (unit : ℕ) (ps : ProcessesOf) : Type 0 where
   pub agent : unit ≤ ps.agent.unit
   pub devices : (eid : ℕ) → IfSome (ps.device eid) (λ q. unit ≤ q.unit)
 
--- These acts are a trace, and all processes are in this unit after it.
+-- These acts are a trace, after which all processes are in this unit.
 pub record IsTraceTo (packages : List PackageText) (unit : ℕ) (ps : ProcessesOf) (trace : List Act) : Type 0 where
   pub may : EachMayAct packages ps trace
   pub ends : AreAtUnit unit (processes_after packages ps trace)
 
--- The acts up to a unit that all processes have reached are a trace by themselves, whatever was
--- done later.
+-- The acts up to a unit that all processes have reached are a trace by themselves, with any acts
+-- after them.
 abbrev pub TracesAreCut : Type 0
 TracesAreCut =
     (opening : WorldOf) (trace : List Act) (unit : ℕ) → EachMayAct opening.packages (processes_of opening) trace
@@ -206,15 +205,16 @@ processes_at opening trace unit = processes_after opening.packages (processes_of
 
 -- These processes are those at the end of a play (`play`), which is a run of a world (`run`). The
 -- agent's session for each device and the device are safe, and tied with the history of the device
--- in that world (`safe`), which is what the two processes noted of it (`noted` of `IsRun`).
+-- in that world (`safe`), which is the list of entries that the two processes noted of it (`noted`
+-- of `IsRun`).
 pub record AreSafeProcesses (opening : WorldOf) (ps : ProcessesOf) : Type 0 where
   pub play : IsPlay opening ps
   pub run : IsRun opening play.play
   pub safe : (eid : ℕ) → IfSome (pair_for opening eid) (λ m. IfSome (ps.device eid)
       (λ q. IsSomeAnd (pair_of_nodes ps.agent.node eid q.node) (λ n. IsSafeAndTied opening.packages (pair_run m []) (pair_run n (history_of eid run.world.history)))))
 
--- The headline of separate processes: whatever they do, each by its own clock, they are safe at the
--- end of each unit that all of them have reached.
+-- The headline of separate processes: for any acts of them, each by its own clock, they are safe at
+-- the end of each unit that all of them have reached.
 abbrev pub TracesAreSafe : Type 0
 TracesAreSafe =
     (opening : WorldOf) (trace : List Act) (unit : ℕ) → IsOpeningWorld opening → EachMayAct opening.packages (processes_of opening) trace

@@ -1,5 +1,5 @@
--- Which devices, sessions and packages fit the fields of messages: what a device answers then decodes to the same answer, and
--- what either node wishes to ask can be encoded.
+-- The devices, sessions and packages that fit the fields of messages: a device's answer then
+-- decodes to itself, and each node's pending command can be encoded.
 use Rattle.std.specs.Prelude.{ℕ, ◌≡◌, ◌≤◌, ◌<◌, ◌^◌, List, IfSome, length}
 use Rattle.std.specs.List.{AllByRecursion}
 use Rattle.fw_package.specs.Package.{ComponentOf, PackageText}
@@ -37,7 +37,7 @@ HasKeyWidths key = (key.classification < 256 ^ 2) × (key.identifier < 256 ^ 2)
 abbrev pub HasComponentKeyWidths : BankComponent → Type 0
 HasComponentKeyWidths c = HasKeyWidths c.key
 
--- The work at hand fits its reports, with `have` bytes of the image written.
+-- The current work fits its reports, with `have` bytes of the image written.
 abbrev pub HasPhaseWidths : Phase → (have : ℕ) → Type 0
 HasPhaseWidths (Phase.Download u w p) have = HasLabelWidths w.label × (have ≤ w.size) × (w.size < 256 ^ 4)
 HasPhaseWidths (Phase.Verify u w p) have = HasLabelWidths w.label
@@ -50,7 +50,7 @@ pub record HasDescriptorListWidths (ds : List DeviceDescriptorOf) : Type 0 where
   pub few : length ds < 256
   pub short : length (descriptors_bytes ds) ≤ 246
 
--- What a device is configured with fits its answers.
+-- The configuration of a device fits its answers.
 pub record HasConfigurationWidths (v : DeviceState) : Type 0 where
   pub descriptors : HasDescriptorListWidths v.descriptors
   pub components : AllByRecursion HasComponentKeyWidths v.components
@@ -61,11 +61,11 @@ pub record HasDeviceWidths (v : DeviceState) : Type 0 where
   pub rows : AllByRecursion HasRowWidths v.rows
   pub phase : HasPhaseWidths v.phase (length v.stage)
 
--- The same of a device as it is made.
+-- The same for a new device.
 abbrev pub HasWidthsAsNew : DeviceState → Type 0
 HasWidthsAsNew v = HasComponents v → v.phase ≡ Phase.Idle → AllByRecursion IsUnapplied v.rows → HasDeviceWidths v
 
--- A component's key, and the label of the image of it that runs.
+-- A component's key, and the label of its running image, fit.
 pub record HasKeyAndLabelWidths (rows : List RowOf) (c : BankComponent) : Type 0 where
   pub key : HasComponentKeyWidths c
   pub label : IfSome (active_of (row_of rows c.key)) HasImageWidths
@@ -86,7 +86,7 @@ HasPackageWidths p = AllByRecursion HasPlannedWidths p.components
 abbrev pub SessionIsInPlan : List PackageText → SessionOf → Type 0
 SessionIsInPlan packages s = IsStageInPlan (package_at packages s.number) s.stage
 
--- A device, its session, and the command on its way to the device.
+-- A device, its session, and the command in the cell for the device fit.
 pub record HasPairWidths (packages : List PackageText) (m : PairOf) : Type 0 where
   pub device : HasDeviceWidths m.device
   pub session : SessionIsInPlan packages m.session
@@ -95,11 +95,11 @@ pub record HasPairWidths (packages : List PackageText) (m : PairOf) : Type 0 whe
 abbrev pub HavePackageWidths : List PackageText → Type 0
 HavePackageWidths packages = AllByRecursion HasPackageWidths packages
 
--- A pair after a step.
+-- A pair after a step fits.
 abbrev pub HasSteppedWidths : List PackageText → Stepped → Type 0
 HasSteppedWidths packages t = HasPairWidths packages t.after
 
--- All devices of a world of messages, and its packages.
+-- All devices of a world of messages, and its packages, fit.
 pub record HaveMessageWidths (w : MessageWorldOf) : Type 0 where
   pub packages : HavePackageWidths w.packages
   pub pairs : AllByRecursion (λ (n : NodeOf). HasPairWidths w.packages n.pair) w.nodes

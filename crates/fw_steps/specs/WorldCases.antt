@@ -1,5 +1,5 @@
--- Worlds by hand, on which three definitions are tried: two tied moments, the same world over whole messages, and a bank that
--- didn't fail.
+-- Worlds by hand, to test three definitions: two tied moments, the same world over whole messages,
+-- and a bank that didn't fail.
 use Rattle.std.specs.Prelude.{ℕ, ◌-◌, ◌^◌, ◌∷◌, [], List, None, Some, map, take}
 use Rattle.fd_core.specs.Images.{RowOf}
 use Rattle.fd_core.specs.States.{Phase}
@@ -20,7 +20,7 @@ pub record PartsOf : Type 0 where
   pub site : SiteOf
   pub half : HalfOf TimedOf
 
--- a device's node with this identifier, whose bank has these images and failed so often
+-- a device's node with this identifier, whose bank has these images and this count of failures
 abbrev pub site_with : SiteOf → (eid faults : ℕ) → List RowOf → SiteOf
 site_with x eid faults rows =
     record x {
@@ -37,7 +37,7 @@ site_with x eid faults rows =
 abbrev pub half_with : HalfOf TimedOf → (peer : ℕ) → List Recorded → HalfOf TimedOf
 half_with h peer made = record h { peer = peer; core = record h.core { session = record h.core.session { records = made } } }
 
--- a world of the agent 8, with these nodes and this history
+-- a world of agent 8, with these nodes and this history
 abbrev pub world_with : PartsOf → List (HalfOf TimedOf) → List SiteOf → List NotedOf → WorldOf
 world_with p halves sites history =
     record (with_agent p.world 8) {
@@ -47,7 +47,7 @@ world_with p halves sites history =
       history = history;
     }
 
--- with the device 9 alone
+-- the same with only device 9
 abbrev pub world_of : PartsOf → List RowOf → List Recorded → List NotedOf → WorldOf
 world_of p rows made history = world_with p (half_with p.half 9 made ∷ []) (site_with p.site 9 0 rows ∷ []) history
 
@@ -63,15 +63,16 @@ before_activation p = world_of p (bank old_boot (Some (image new_boot))) (record
 abbrev pub after_update : PartsOf → WorldOf
 after_update p = world_of p (bank new_boot None) (recorded_component 1 0 ∷ []) (map (noted_of 9) worked_update)
 
--- any two of these are tied, in order, and each with itself
+-- any two of these worlds are tied, in order, and each with itself
 pub record TiedMoments : Type 0 where
   pub whole : (p : PartsOf) → IsTiedBetween (before_update p) (after_update p)
   pub first : (p : PartsOf) → IsTiedBetween (before_update p) (before_activation p)
   pub rest : (p : PartsOf) → IsTiedBetween (before_activation p) (after_update p)
   pub same : (p : PartsOf) → IsTiedBetween (after_update p) (after_update p)
 
--- What isn't tied: the old image that still runs, an image that runs and wasn't activated since, an applied image of before the
--- activation, a record that is missing, one that wasn't made since, an activation of another device, and a device that is gone.
+-- Worlds that aren't tied: the old image still runs, an image runs that wasn't activated since, an
+-- applied image is of before the activation, a record is missing, a record wasn't made since, the
+-- activation was of another device, or a device is gone.
 pub record UntiedMoments : Type 0 where
   pub old_runs : (p : PartsOf) →
       IsTiedBetween (before_update p) (world_of p (bank old_boot None) (recorded_component 1 0 ∷ []) (map (noted_of 9) worked_update)) → ⊥
@@ -110,8 +111,8 @@ messages_of agent nodes history = record { agent = agent; packages = packages; n
 abbrev pub message_world : PartsOf → MessageWorldOf
 message_world p = messages_of 8 (message_node p 9 (bank new_boot None) (recorded_component 1 0 ∷ []) ∷ []) (map (noted_of 9) worked_update)
 
--- the same world, and one that differs from it in its packages, its agent, an identifier, a device, a session, the history, or the
--- number of its devices
+-- the same world, and worlds that differ from it in the packages, the agent, an identifier, a
+-- device, a session, the history, or the number of devices
 pub record SameWorlds : Type 0 where
   pub same : (p : PartsOf) → IsSameWorld (after_update p) (message_world p)
   pub packages : (p : PartsOf) → IsSameWorld (after_update p) (record (message_world p) { packages = [] }) → ⊥
@@ -130,11 +131,11 @@ pub record SameWorlds : Type 0 where
 
 -- A BANK THAT DIDN'T FAIL
 
--- the devices 9 and 10, whose banks failed so often
+-- devices 9 and 10, whose banks have these counts of failures
 abbrev pub banks_failed : PartsOf → (first second : ℕ) → WorldOf
 banks_failed p first second = world_with p [] (site_with p.site 9 first [] ∷ site_with p.site 10 second [] ∷ []) []
 
--- The count of the device's own bank matters, and it may not be at its last value.
+-- Only the count of the device's own bank matters, and it may not be at its last value.
 pub record UnfailedBanks : Type 0 where
   pub same : (p : PartsOf) → IsUnfailed 9 (banks_failed p 3 0) (banks_failed p 3 0)
   pub other_rose : (p : PartsOf) → IsUnfailed 9 (banks_failed p 3 0) (banks_failed p 3 1)
@@ -142,7 +143,7 @@ pub record UnfailedBanks : Type 0 where
   pub last : (p : PartsOf) → IsUnfailed 9 (banks_failed p (2 ^ 64 - 1) 0) (banks_failed p (2 ^ 64 - 1) 0) → ⊥
   pub second_rose : (p : PartsOf) → IsUnfailed 10 (banks_failed p 3 0) (banks_failed p 3 1) → ⊥
 
--- The definitions hold where they are to hold, and nowhere near.
+-- The definitions accept and refuse as they should.
 pub record WorldsAreJudged : Type 0 where
   pub tied : TiedMoments
   pub untied : UntiedMoments

@@ -1,5 +1,6 @@
--- The packet world: an agent, its devices, every packet that was ever sent between them, and what happened. What a step makes
--- of it is what the step's node makes of it. A packet stays after it came, so that it may come again, later, or never.
+-- The packet world: an agent, its devices, every packet that was ever sent between them, and the
+-- history. In a step the step's node changes. A packet stays after it was delivered, so that it may
+-- be delivered again, later, or never.
 use Rattle.std.specs.Prelude.{ℕ, ◌+◌, ◌==◌, ◌∷◌, ◌++◌, [], Bool, true, false, not, if◌then◌else◌, List, length, map, option_to_list, slice_get, slice_set, Option, Some, None, Result, Ok, Err}
 use Rattle.std.specs.List.{list_any}
 use Rattle.mctp_wire.specs.declared.fault.WireFault.{WireFault}
@@ -28,15 +29,15 @@ use Rattle.fw_node.specs.Packets.{all_packets}
 use Rattle.fw_steps.specs.declared.step.Step.{Step}
 use Rattle.fw_steps.specs.declared.step.Step.TheVariants as steps
 
--- a device's node, how many ticks it counted since it last missed one, and every packet that was sent between it and the agent,
--- dated, in the order of sending
+-- a device's node, the ticks that it counted since it last missed one, and every packet that was
+-- sent between it and the agent, dated, in the order of sending
 pub record SiteOf : Type 0 where
   pub node : DeviceNodeOf
   pub since_miss : ℕ
   pub packets : List Sent
 
--- The world: the packages, the units of time that have passed, the nodes, how many ticks the agent counted since it last missed one, the
--- last answer of the event log, and what happened.
+-- The world: the packages, the units of time that have passed, the nodes, the ticks that the agent
+-- counted since it last missed one, the last answer of the event log, and the history.
 pub record WorldOf : Type 0 where
   pub packages : List PackageText
   pub now : ℕ
@@ -46,7 +47,7 @@ pub record WorldOf : Type 0 where
   pub answer : Option (List ℕ)
   pub history : List NotedOf
 
--- where the device of this identifier stands, counted from a number on
+-- the place of the device with this identifier, with places counted from `n`
 abbrev pub place_from : ℕ → List SiteOf → ℕ → Option ℕ
 place_from n [] eid = None
 place_from n (x ∷ xs) eid = if x.node.endpoint.eid == eid then Some n else place_from (n + 1) xs eid
@@ -54,7 +55,7 @@ place_from n (x ∷ xs) eid = if x.node.endpoint.eid == eid then Some n else pla
 abbrev pub place_of : List SiteOf → ℕ → Option ℕ
 place_of xs eid = place_from 0 xs eid
 
--- what stands there
+-- the site at a place
 abbrev pub site_at : List SiteOf → Option ℕ → Option SiteOf
 site_at xs None = None
 site_at xs (Some place) = slice_get xs place
@@ -62,11 +63,12 @@ site_at xs (Some place) = slice_get xs place
 abbrev pub site_for : List SiteOf → ℕ → Option SiteOf
 site_for xs eid = site_at xs (place_of xs eid)
 
--- packets that are sent at this moment
+-- packets that are sent at this time
 abbrev pub sent_now : ℕ → List (List ℕ) → List Sent
 sent_now now packets = map (sent_at now) packets
 
--- A packet of the agent is put behind those of the device that it is for, which its second byte says (DSP0236).
+-- A packet of the agent is appended to those of the device that it is for, from its second byte
+-- (DSP0236).
 abbrev pub place_for : List SiteOf → List ℕ → Option ℕ
 place_for xs (version ∷ dest ∷ rest) = place_of xs dest
 place_for xs bytes = None
@@ -82,7 +84,7 @@ abbrev pub posts : ℕ → List SiteOf → List (List ℕ) → List SiteOf
 posts now xs [] = xs
 posts now xs (packet ∷ packets) = posts now (post now xs packet) packets
 
--- how many records a session has, and the one that stands behind so many
+-- the number of records of a session, and the record after the first `made`
 abbrev pub record_count_of : Option (HalfOf TimedOf) → ℕ
 record_count_of None = 0
 record_count_of (Some h) = length h.core.session.records
@@ -91,18 +93,18 @@ abbrev pub record_after : ℕ → Option (HalfOf TimedOf) → Option Recorded
 record_after made None = None
 record_after made (Some h) = slice_get h.core.session.records made
 
--- with the sender of a packet
+-- the sender of a packet
 abbrev pub sender_of : Result (Head × List ℕ) WireFault → Option ℕ
 sender_of (Ok p) = Some p.0.source
 sender_of (Err fault) = None
 
--- what the agent records in a call: the record that stands behind those of before
+-- the record that the agent makes in a call: the one after those of before
 abbrev pub recorded_from : AgentOf → AgentOf → Option ℕ → List NotedOf
 recorded_from before after None = []
 recorded_from before after (Some device) =
     map (λ r. noted_of device (EntryOf.Recording r)) (option_to_list (record_after (record_count_of (half_for before device)) (half_for after device)))
 
--- The agent hears these bytes.
+-- The agent handles these bytes.
 abbrev pub at_agent : WorldOf → List ℕ → WorldOf
 at_agent w bytes =
     record w {
@@ -112,7 +114,7 @@ at_agent w bytes =
           ++ recorded_from w.agent (agent_on_packet w.packages w.agent bytes w.now).agent (sender_of (any_packet bytes));
     }
 
--- what a device activates when its half hears: the images of a command that it takes
+-- the images that a device activates at an outcome of its half: those of a command that it takes
 abbrev pub activated_when : DeviceState → (quiet works : Bool) → HalfOutcome TimedDevice → List KeyedImage
 activated_when v quiet works (HalfOutcome.Took half sent command answer) = (device_take v command quiet works).activated
 activated_when v quiet works heard = []
@@ -137,7 +139,7 @@ at_device works faults w bytes (Some place) (Some x) =
     }
 at_device works faults w bytes place x = w
 
--- A packet comes to a node. One that it isn't for drops it.
+-- A packet is delivered to a node. A node that it isn't for drops it.
 abbrev pub world_after_packet : Bool → (faults : ℕ) → WorldOf → (node : ℕ) → List ℕ → WorldOf
 world_after_packet works faults w node bytes =
     if node == w.agent.endpoint.eid then at_agent w bytes
@@ -155,15 +157,16 @@ packets_at (Some x) = x.packets
 abbrev pub packets_of : WorldOf → ℕ → List Sent
 packets_of w device = packets_at (site_for w.sites device)
 
--- a tick that nobody misses
+-- a tick that every node counts
 abbrev pub full_tick : Step
 full_tick = steps.Tick (record { items = [] })
 
--- A node counts a tick, unless it is one of these.
+-- A node counts a tick, unless it is one of `missed`.
 abbrev pub counts : (missed : List ℕ) → (eid : ℕ) → Bool
 counts missed eid = not (list_any (λ m. m == eid) missed)
 
--- A node that counts a tick does its parts; what it sends is dated with the new time. One that misses it does nothing.
+-- A node that counts a tick does its parts, and the packets that it sends are dated with the new
+-- time. A node that misses it does nothing.
 abbrev pub site_ticks : (now : ℕ) → SiteOf → SiteOf
 site_ticks now x =
     record {
@@ -187,7 +190,8 @@ abbrev pub agent_pass_sends : (counts : Bool) → List PackageText → AgentOf �
 agent_pass_sends true packages n = agent_tick_sends packages n
 agent_pass_sends false packages n = []
 
--- A tick: the time rises by a unit, then those that count it tick: the agent, and then the devices in their order.
+-- A tick: the time rises by a unit, then the nodes that count it tick: the agent, and then the
+-- devices in their order.
 abbrev pub ticks_by : (agent : Bool) → (missed : List ℕ) → WorldOf → WorldOf
 ticks_by agent missed w =
     record w {
@@ -204,12 +208,12 @@ world_after_tick missed w = ticks_by (counts missed w.agent.endpoint.eid) missed
 abbrev pub world_after_call : WorldOf → (device : ℕ) → (HalfOf TimedOf → HalfOf TimedOf) → WorldOf
 world_after_call w device call = record w { agent = agent_becomes w.agent w.now device call }
 
--- the operator has a session that is ready for it activate
+-- the operator has a session activate, if it is ready
 abbrev pub activates_on : WorldOf → (device : ℕ) → Option SessionOf → WorldOf
 activates_on w device None = w
 activates_on w device (Some s) = world_after_call w device (λ h. half_after_activate w.packages h s)
 
--- A verdict on what a device has written.
+-- A verdict on the image that a device has written.
 abbrev pub world_after_verdict : Bool → (faults : ℕ) → WorldOf → Verdict → Option ℕ → Option SiteOf → WorldOf
 world_after_verdict works faults w verdict (Some place) (Some x) =
     record w {
@@ -221,7 +225,7 @@ world_after_verdict works faults w verdict (Some place) (Some x) =
     }
 world_after_verdict works faults w verdict place x = w
 
--- A node starts anew.
+-- A node restarts.
 abbrev pub site_restarts : List SiteOf → Option ℕ → Option SiteOf → List SiteOf
 site_restarts xs (Some place) (Some x) = slice_set xs place (record x { node = device_restarts x.node })
 site_restarts xs place x = xs
@@ -231,7 +235,8 @@ world_after_restart w node =
     if node == w.agent.endpoint.eid then record w { agent = agent_restarts w.packages w.agent }
     else record w { sites = site_restarts w.sites (place_of w.sites node) (site_for w.sites node) }
 
--- The event log is asked. A request without a byte is one of a wrong length (IPMI 2.0: completion code C7).
+-- A request to the event log. A request without a byte has a wrong length (IPMI 2.0: completion
+-- code C7).
 abbrev pub world_after_log_request : WorldOf → List ℕ → WorldOf
 world_after_log_request w [] = record w { answer = Some (0xC7 ∷ []) }
 world_after_log_request w (command ∷ bytes) =

@@ -1,4 +1,4 @@
-//! The packets of a device that can't come any more, so that no one looks at them again.
+//! The dead packets of a device, which can't be received any more and aren't checked again.
 
 ghost use Rattle.std.specs.Prelude.{◌≡◌, List};
 ghost use Rattle.exch_lane.specs.Lanes.{Sent};
@@ -6,24 +6,25 @@ ghost use Rattle.fw_steps.specs.Dead.{AreDead, dead_count};
 
 use crate::packets::SentPackets;
 
-/// How many of the first packets are known to be dead.
+/// The number of first packets that are known to be dead.
 #[derive(Drop)]
 pub(crate) struct FirstDead {
-    /// So many.
+    /// That number.
     count: usize,
-    /// The units that had passed when that was found.
+    /// The units of time that had passed when it was found.
     since: u32,
 }
 
 impl FirstDead {
-    /// No packet is.
+    /// Creates the count 0.
     pub(crate) fn new() -> FirstDead
         ensures { result ≡ record { count = 0; since = 0 } }
     {
         FirstDead { count: 0, since: 0 }
     }
 
-    /// How many of the first packets are known to be dead at this time; 0 before the time when that was found.
+    /// Returns the number of first packets known to be dead at `now`; 0 before the time when that
+    /// was found.
     #[tactic(auto, using(crate::proofs::Aging::dead_later))]
     pub(crate) fn count_at(&self, now: u32) -> usize
         ensures { (packets : List Sent) → AreDead self.now.since self.now.count packets → AreDead now result packets }
@@ -34,7 +35,7 @@ impl FirstDead {
         self.count
     }
 
-    /// Counts on over those of these packets that are dead at this time, up to the first that isn't.
+    /// Advances the count over the packets that are dead at `now`, up to the first that isn't.
     #[tactic(auto, using(crate::proofs::Aging::dead_later))]
     pub(crate) fn advance(&mut self, packets: &SentPackets<'_>, now: u32)
         requires { AreDead self.old.since self.old.count packets.now }
@@ -47,7 +48,7 @@ impl FirstDead {
     }
 }
 
-/// How many of the first packets are dead at this time, where so many are known to be.
+/// Returns the number of first packets that are dead at `now`, of which `known` are known to be.
 #[tactic(auto, using(crate::proofs::Aging::dead_more))]
 pub(crate) fn first_dead(packets: &SentPackets<'_>, now: u32, known: usize) -> usize
     requires { AreDead now known packets.now }

@@ -1,4 +1,4 @@
-//! The words for why a step isn't taken.
+//! The names of the causes why a step isn't taken.
 
 ghost use Rattle.std.specs.Prelude.{◌≡◌};
 ghost use Rattle.fw_steps.specs.Faults.{fault_name};
@@ -7,7 +7,7 @@ use crate::step::{Refusal, StepFault};
 use std::fmt;
 
 impl StepFault {
-    /// The word that names the fault; a refusal's has its reason behind a colon.
+    /// Returns the name of the fault. The name of a refusal ends with a colon and its reason.
     pub fn name(self) -> &'static str
         ensures { result.now ≡ fault_name self }
     {

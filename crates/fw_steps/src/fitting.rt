@@ -1,4 +1,5 @@
-//! The parts of a world fit the fields of messages. Each value is read once, so that the range of its type is known.
+//! The parts of a world fit the fields of messages. Each value is read once, so that the range of
+//! its type is known.
 
 ghost use Rattle.std.specs.Prelude.{IfSome};
 ghost use Rattle.std.specs.List.{AllByRecursion};
@@ -21,14 +22,14 @@ pub(crate) fn devices_fit<B: Bank>(devices: &[DeviceNode<B>])
     }
 }
 
-/// A new device's node does.
+/// A new device's node fits.
 fn node_fits<B: Bank>(node: &DeviceNode<B>)
     ensures { HasWidthsAsNew node.now.half.core.device }
 {
     device_fits(node.device());
 }
 
-/// A new device does.
+/// A new device fits.
 fn device_fits<B: Bank>(device: &Device<B>)
     ensures { HasWidthsAsNew device.now.device }
 {
@@ -36,7 +37,7 @@ fn device_fits<B: Bank>(device: &Device<B>)
     component_keys_fit(device.bank(), device.keys());
 }
 
-/// The keys of components fit, and the labels of their images that run.
+/// The keys of components fit, and the labels of their running images.
 fn component_keys_fit<B: Bank>(bank: &B, components: &[DeviceComponent])
     ensures { AllByRecursion (HasKeyAndLabelWidths (B.rows bank.now)) components.now }
 {
@@ -45,7 +46,7 @@ fn component_keys_fit<B: Bank>(bank: &B, components: &[DeviceComponent])
     }
 }
 
-/// A component's key fits, and the label of its image that runs.
+/// A component's key fits, and the label of its running image.
 #[tactic(auto, using(crate::proofs::Fit::image_has_widths))]
 fn component_fits<B: Bank>(bank: &B, component: &DeviceComponent)
     ensures { HasKeyAndLabelWidths (B.rows bank.now) component.now }
@@ -62,7 +63,7 @@ fn key_fits(component: &DeviceComponent)
     let _identifier = component.key.identifier;
 }
 
-/// The label of the image that runs fits.
+/// The label of the running image fits.
 #[tactic(auto, using(crate::proofs::Fit::image_has_widths))]
 fn label_fits<B: Bank>(bank: &B, component: &DeviceComponent)
     ensures { IfSome (active_of (row_of (B.rows bank.now) component.now.key)) HasImageWidths }

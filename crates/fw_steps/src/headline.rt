@@ -1,14 +1,16 @@
-//! What is promised of the packet world.
+//! The laws of the packet world.
 
 ghost use Rattle.fw_steps.specs.Clocks.{RunsKeepTime};
 ghost use Rattle.fw_steps.specs.Headline.{PacketsAreMessages, PacketsAreSafe, RunsGrow, RunsJoin, RunsStayTied};
 
 use crate::links::{links_are_lanes, links_are_messages};
 
-/// Wherever steps lead a world of packets that began as it is made, whatever is lost, repeated, reordered or late and whoever
-/// restarts, each device that was there is there, and its history is safe: the images that a device activates in one go are
-/// those that one package names for it, each recorded since its activation before, and each record has an application of its
-/// own before it; and tied: what runs on a device and what the agent has recorded are what the history says.
+/// In every world that steps reach from an opening world, with any packets lost, repeated,
+/// reordered or late and any nodes restarted, each device is still there, and its history is safe
+/// and tied. Safe: the images that a device activates at once are those that one package names for
+/// it, each recorded since the device's previous activation, and each record has its own
+/// application before it. Tied: the images that run on a device and the agent's records are those
+/// of the history.
 pub fn packets_are_safe()
     ensures law { PacketsAreSafe }
 {
@@ -18,9 +20,9 @@ pub fn packets_are_safe()
     fw_message::worlds_are_safe();
 }
 
-/// What holds of any two moments of a run: a run followed by a run is a run, the history only grows, and what runs on a device,
-/// what it has applied and what the agent recorded of it at the later moment are those of the earlier one, with what happened
-/// since.
+/// Any two moments of a run: a run followed by a run is a run, and the history only grows. The
+/// running images, the applied images and the agent's records of a device at the later moment are
+/// those of the earlier moment, changed by the entries between them.
 pub fn moments_are_tied()
     ensures join { RunsJoin }
     ensures grow { RunsGrow }
@@ -32,9 +34,9 @@ pub fn moments_are_tied()
     packets_are_safe();
 }
 
-/// Every run of packets is one of whole messages: there are steps of commands that are asked, taken, answered, learnt or given
-/// up, without packets, tags and time, that lead to the same devices and sessions, their idle counts aside, with the same
-/// history.
+/// Every run of packets is a run of whole messages: steps of commands that are asked, taken,
+/// answered, learned or given up, without packets, tags and time, give the same devices and
+/// sessions, except for their idle counts, with the same history.
 pub fn packets_are_messages()
     ensures law { PacketsAreMessages }
 {
@@ -43,8 +45,8 @@ pub fn packets_are_messages()
     links_are_messages();
 }
 
-/// How clocks go: between any two moments of a run a node counts at most as many ticks as units of time pass, and these are at
-/// most its ticks, an eighth of them, rounded down, and one.
+/// Between any two moments of a run a node counts at most as many ticks as units of time pass. The
+/// units are at most its ticks, plus an eighth of them, rounded down, plus one.
 pub fn clocks_keep_time()
     ensures law { RunsKeepTime }
 {

@@ -1,4 +1,4 @@
-//! What is between the agent and a device depends on no other device.
+//! The state between the agent and a device depends on no other device.
 
 ghost use Rattle.fw_steps.specs.Cases.{AgreementSeesThePair};
 ghost use Rattle.fw_steps.specs.Counts.{CountsNeedCalls};
@@ -6,8 +6,8 @@ ghost use Rattle.fw_steps.specs.Isolation.{DevicesAreIsolated};
 
 use crate::links::{links_are_lanes, links_are_messages};
 
-/// Where steps led to two worlds that agree in a device, and more steps of each lead on, of which the same concern that device:
-/// the worlds then agree in it, if no call of its bank failed.
+/// If steps reach two worlds that agree in a device, and each takes more steps, of which the same
+/// concern that device, then both worlds agree in it again, if no call of its bank failed.
 pub fn devices_are_isolated()
     ensures law { DevicesAreIsolated }
 {
@@ -16,13 +16,14 @@ pub fn devices_are_isolated()
     links_are_messages();
 }
 
-/// What worlds that agree in a device can't differ in: the packets between it and the agent, either of their nodes, what happened to
-/// it, both clocks, the time, and the packages.
+/// Worlds that agree in a device have the same packets between it and the agent, the same nodes of
+/// both, the same history of it, both clocks, the time, and the packages.
 pub fn agreement_sees_the_pair()
     ensures law { AgreementSeesThePair }
 {}
 
-/// A count of failures changes only where a bank is called: each step that has no device call its bank leaves the count of each.
+/// A count of failures changes only if a bank is called: a step in which no device calls its bank
+/// leaves each count.
 pub fn counts_need_calls()
     ensures law { CountsNeedCalls }
 {

@@ -1,4 +1,4 @@
-//! The world of an update agent and its devices (DSP0267 1.0): what they do, step by step, and what is then true of every
+//! The world of an update agent and its devices (DSP0267 1.0): their steps, and the laws of every
 //! image that a device activates and of every component that the agent records as applied.
 #![tactic(auto)]
 

@@ -1,4 +1,5 @@
-//! The packets that were sent between the agent and a device. Each takes a place and the bytes of its own length.
+//! The packets that were sent between the agent and a device. Each takes a place, and as many bytes
+//! as it has.
 
 ghost use Rattle.std.specs.Prelude.{◌≡◌, ◌≤◌, ◌<◌, ◌+◌, ◌++◌, ◌∷◌, [], IfSome, OnErr, OnOk, drop, length, nat_lt, not, option_map, slice_get, slice_range};
 ghost use Rattle.exch_lane.specs.Lanes.{lives_until};
@@ -12,26 +13,26 @@ use pldm_exch::LIFE;
 use std::alloc::{AllocError, Global};
 use std::marker::Model;
 
-/// When a packet was sent, and where its bytes end. They begin where those of the one before it end.
+/// The date of a packet and the end of its bytes. They begin at the end of the packet before it.
 #[derive(Clone, Copy)]
 pub(crate) struct Place {
-    /// The units that had passed when it was sent.
+    /// The units of time that had passed when it was sent.
     date: u32,
-    /// How many bytes all packets have up to this one.
+    /// The number of bytes of all packets up to this one.
     end: usize,
 }
 
-/// A packet as it was sent, lent by its world.
+/// A packet as it was sent, borrowed from its world.
 #[derive(Clone, Copy, PartialEq, Eq)]
 pub struct DatedPacket<'a> {
-    /// The units that had passed when it was sent.
+    /// The units of time that had passed when it was sent.
     pub date: u32,
     /// Its bytes.
     pub bytes: &'a [u8],
 }
 
 impl DatedPacket<'_> {
-    /// Whether it may still come when so many units have passed: it lives for 8 after its sending.
+    /// Whether the packet may still be received at `now`: at most 8 units after its sending.
     pub fn lives(&self, now: u32) -> bool
         ensures { result ≡ not (nat_lt (lives_until (sent_of self.now)) now) }
     {
@@ -39,7 +40,7 @@ impl DatedPacket<'_> {
     }
 }
 
-/// Where the packet behind so many begins.
+/// Returns the start of the packet after the first `count`.
 fn start_at(start: usize, places: &[Place], count: usize) -> usize
     requires { count ≤ length places.now }
     ensures { result ≡ start_at start places.now count }
@@ -50,14 +51,14 @@ fn start_at(start: usize, places: &[Place], count: usize) -> usize
     places[count - 1].end
 }
 
-/// The place of a number, counted from 0.
+/// Returns the place with this number, counted from 0.
 fn place_at(places: &[Place], number: usize) -> Option<Place>
     ensures { result ≡ slice_get places.now number }
 {
     places.get(number).copied()
 }
 
-/// The packet of this date whose bytes are this part of all.
+/// Returns the packet of this date with the bytes from `start` to `end`.
 fn part(date: u32, bytes: &[u8], start: usize, end: usize) -> DatedPacket<'_>
     requires order { start ≤ end }
     requires within { end ≤ length bytes.now }
@@ -70,10 +71,10 @@ fn part(date: u32, bytes: &[u8], start: usize, end: usize) -> DatedPacket<'_>
     }
 }
 
-/// Packets in the order of their sending, lent by their world.
+/// Packets in the order of their sending, borrowed from their world.
 #[derive(Drop)]
 pub struct SentPackets<'a> {
-    /// Where the bytes of the first one begin.
+    /// The start of the bytes of the first packet.
     start: usize,
     /// A place for each packet.
     places: &'a [Place],
@@ -94,7 +95,7 @@ impl<'a> Model for SentPackets<'a> {
 }
 
 impl<'a> SentPackets<'a> {
-    /// How many there are.
+    /// Returns the number of packets.
     #[tactic(auto, using(crate::proofs::Spans::count_in))]
     pub fn len(&self) -> usize
         ensures { result ≡ length self.now }
@@ -102,7 +103,7 @@ impl<'a> SentPackets<'a> {
         self.places.len()
     }
 
-    /// The packet at a place, counted from 0.
+    /// Returns the packet at a place, counted from 0.
     pub fn get(&self, place: usize) -> Option<DatedPacket<'a>>
         ensures packet { option_map sent_of result ≡ slice_get self.now place }
         ensures short { IfSome result (λ p. length p.bytes.now ≤ MAX_PACKET) }
@@ -114,7 +115,7 @@ impl<'a> SentPackets<'a> {
         Some(part(found.date, self.bytes, start, found.end))
     }
 
-    /// The bytes of the packet at a place, counted from 0, once more.
+    /// Returns a copy of the bytes of the packet at a place, counted from 0.
     pub fn copied(&self, place: usize) -> Option<RawPacket>
         ensures { option_map (λ p. p.items) result ≡ option_map (λ s. s.bytes) (slice_get self.now place) }
     {
@@ -124,7 +125,7 @@ impl<'a> SentPackets<'a> {
         Some(copy)
     }
 
-    /// Those behind so many.
+    /// Returns the packets after the first `count`.
     pub fn behind(&self, count: usize) -> SentPackets<'a>
         ensures { result ≡ drop count self.now }
     {
@@ -142,7 +143,8 @@ impl<'a> SentPackets<'a> {
         }
     }
 
-    /// Whether there is a packet at a place, counted from 0, which can't come any more when so many units have passed.
+    /// Whether there is a packet at a place, counted from 0, which can't be received any more at
+    /// `now`.
     pub(crate) fn is_dead(&self, place: usize, now: u32) -> bool
         ensures { result ≡ is_dead_one now (slice_get self.now place) }
     {
@@ -153,12 +155,12 @@ impl<'a> SentPackets<'a> {
     }
 }
 
-/// Packets in the order of their sending. None is ever taken out.
+/// Packets in the order of their sending. None is ever removed.
 #[derive(Drop)]
 pub(crate) struct Packets {
     /// A place for each packet.
     places: Vec<Place>,
-    /// The bytes of all packets, one behind the other.
+    /// The bytes of all packets, in order.
     bytes: Vec<u8>,
 }
 
@@ -179,7 +181,7 @@ impl Model for Packets {
 }
 
 impl Packets {
-    /// None.
+    /// Creates an empty list of packets.
     pub(crate) fn new(alloc: Global) -> Packets
         ensures { result.packets ≡ [] }
     {
@@ -189,7 +191,7 @@ impl Packets {
         }
     }
 
-    /// All of them, lent.
+    /// Borrows all packets.
     pub(crate) fn lent(&self) -> SentPackets<'_>
         ensures { result ≡ self.now.packets }
     {
@@ -200,7 +202,7 @@ impl Packets {
         }
     }
 
-    /// Makes room for so many more.
+    /// Makes room for `count` more packets.
     pub(crate) fn make_room(&mut self, count: u16) -> Result<(), AllocError>
         ensures room { OnOk result (count ≤ self.new.room) }
         ensures lacked { OnErr result (self.old.room < count) }
@@ -214,7 +216,7 @@ impl Packets {
         self.bytes.reserve(count * MAX_PACKET)
     }
 
-    /// Puts a packet behind the others. There is room for it.
+    /// Appends a packet. There must be room for it.
     pub(crate) fn push(&mut self, date: u32, bytes: &[u8])
         requires room { 1 ≤ self.old.room }
         requires short { length bytes.now ≤ MAX_PACKET }
@@ -226,7 +228,7 @@ impl Packets {
         let _ = self.places.push(Place { date, end });
     }
 
-    /// Puts what a node sent behind the others, dated so. There is room for it.
+    /// Appends the packets of the outbox, with this date. There must be room for them.
     pub(crate) fn drain(&mut self, date: u32, outbox: &mut Outbox)
         requires { length outbox.old ≤ self.old.room }
         ensures packets { self.new.packets ≡ self.old.packets ++ sent_now date outbox.old }

@@ -1,4 +1,4 @@
-//! What the agent records of a packet that comes to it.
+//! The record that the agent makes for a packet.
 
 ghost use Rattle.std.specs.Prelude.{[], ◌≡◌, ◌≤◌, ◌+◌, ◌++◌, IfSome, None, map, option_to_list};
 ghost use Rattle.std.specs.Vec.{vec_capacity, vec_len};
@@ -14,7 +14,8 @@ use fw_package::Package;
 use mctp_wire::Unit;
 use ua_core::Recorded;
 
-/// The agent hears the bytes of a packet; what it records is noted. There is room for that.
+/// The agent handles the bytes of a packet. The component that it records is noted. There must be
+/// room for that entry.
 #[tactic(auto, using(crate::proofs::Recording::noted_behind))]
 pub(crate) fn deliver_and_record<'p>(
     agent: &mut AgentNode,
@@ -47,7 +48,7 @@ fn sender_of(bytes: &[u8]) -> Option<u8>
     }
 }
 
-/// How many records the session with a device has.
+/// Returns the number of records of the session with a device.
 fn records_with(agent: &AgentNode, device: Option<u8>) -> usize
     ensures { IfSome device (λ d. result ≡ record_count_of (half_for agent.now d)) }
 {
@@ -60,7 +61,7 @@ fn records_with(agent: &AgentNode, device: Option<u8>) -> usize
     }
 }
 
-/// What the session with a device recorded behind so many records.
+/// Returns the record after the first `made` of the session with a device.
 fn recorded(agent: &AgentNode, device: Option<u8>, made: usize) -> Option<Recorded>
     ensures { IfSome device (λ d. result ≡ record_after made (half_for agent.now d)) }
 {
@@ -68,7 +69,8 @@ fn recorded(agent: &AgentNode, device: Option<u8>, made: usize) -> Option<Record
     session.records().get(made).copied()
 }
 
-/// Notes that the agent recorded a component of a device, if it did. There is room for it.
+/// Notes that the agent recorded a component of a device, if it did. There must be room for the
+/// entry.
 fn note_recorded(history: &mut Vec<Entry<'_>>, device: Option<u8>, recorded: Option<Recorded>)
     requires { vec_len history.old + 1 ≤ vec_capacity history.old }
     ensures some { IfSome device (λ d. map entry_of history.new.items ≡ map entry_of history.old.items ++ map (λ r. noted_of d (EntryOf.Recording r)) (option_to_list recorded)) }

@@ -37,19 +37,20 @@ use std::marker::Model;
 /// The most packets that a node sends in a call.
 const MAX_SENT: u16 = 64;
 
-/// A device's node, and every packet that was sent between it and the agent. While the device is ready there may be the images
-/// that it has applied, for the history, so that they are looked for once.
+/// A device's node, and every packet that was sent between it and the agent. While the device is
+/// ready, its applied images may be kept for the history, so that they are looked up once.
 #[derive(Drop)]
 pub(crate) struct Site<'a, B: Bank> {
     /// The device's node.
     node: DeviceNode<B>,
-    /// How many ticks it counted since it last missed one, at most 8.
+    /// The ticks that it counted since it last missed one, at most 8.
     since_miss: u8,
-    /// Every packet that was sent between it and the agent, in the order of sending. None is ever taken out.
+    /// Every packet that was sent between it and the agent, in the order of sending. None is ever
+    /// removed.
     packets: Packets,
-    /// How many of the first packets are known to be dead, and at which moment that was found.
+    /// The number of first packets that are known to be dead, and the time when that was found.
     dead: FirstDead,
-    /// The images that the device has applied. There are some only while it is in READY XFER.
+    /// The applied images of the device; kept only while it is in READY XFER.
     ready: Option<Vec<Image<'a>>>,
 }
 
@@ -71,7 +72,7 @@ impl<'a, B: Bank> Model for Site<'a, B> {
 }
 
 impl<'a, B: Bank> Site<'a, B> {
-    /// A device's node to which nothing was sent.
+    /// Creates a site of a device's node without packets.
     pub(crate) fn new(alloc: Global, node: DeviceNode<B>) -> Site<'a, B>
         requires { HasComponents node.half.core.device }
         ensures { result.site ≡ record { node = node; since_miss = 8; packets = [] } }
@@ -106,7 +107,7 @@ impl<'a, B: Bank> Site<'a, B> {
         self.packets.lent()
     }
 
-    /// How many of the first packets are dead at this time.
+    /// Returns the number of first packets that are dead at `now`.
     pub(crate) fn dead_packets(&self, now: u32) -> usize
         ensures dead { AreDead now result self.now.site.packets }
         ensures exact { result ≡ dead_count now self.now.site.packets }
@@ -114,7 +115,7 @@ impl<'a, B: Bank> Site<'a, B> {
         first_dead(&self.packets.lent(), now, self.dead.count_at(now))
     }
 
-    /// The bytes of the packet of a number, which may still come.
+    /// Returns the bytes of the packet with this number, if it may still be received.
     pub(crate) fn living(&self, number: usize, now: u32) -> Result<RawPacket, StepFault>
         ensures found { IfOk result (λ p. option_map (λ s. s.bytes) (item_numbered self.now.site.packets number) ≡ Some p.items) }
         ensures ok { OnOk result (packet_fault now (item_numbered self.now.site.packets number) ≡ None) }
@@ -133,7 +134,7 @@ impl<'a, B: Bank> Site<'a, B> {
         Ok(packet)
     }
 
-    /// Makes room for what a node sends in a call.
+    /// Makes room for the packets that a node sends in a call.
     pub(crate) fn make_room(&mut self, count: u16) -> Result<(), AllocError>
         ensures room { OnOk result (count ≤ self.new.room) }
         ensures lacked { OnErr result (self.old.room < count) }
@@ -142,7 +143,7 @@ impl<'a, B: Bank> Site<'a, B> {
         self.packets.make_room(count)
     }
 
-    /// Puts a packet behind the others, dated now. There is room for it.
+    /// Appends a packet, dated `now`. There must be room for it.
     #[tactic(auto, using(crate::proofs::Aging::dead_still))]
     pub(crate) fn post(&mut self, now: u32, bytes: RawPacket)
         requires { 1 ≤ self.old.room }
@@ -152,10 +153,12 @@ impl<'a, B: Bank> Site<'a, B> {
         self.packets.push(now, bytes.as_slice());
     }
 
-    /// Hears the bytes of a packet; what it sends is dated now, and what it activates is noted.
+    /// Handles the bytes of a packet. The packets that the device sends are dated `now`, and the
+    /// images that it activates are noted.
     ///
     /// # Errors
-    /// `AllocError` where memory for what it may send and note is refused. Nothing has changed then.
+    /// `AllocError` if memory for the packets and entries that it may add is refused. The site is
+    /// unchanged on an error.
     #[tactic(auto, using(crate::proofs::Noting::nothing_ready))]
     pub(crate) fn deliver(
         &mut self,
@@ -192,8 +195,9 @@ impl<'a, B: Bank> Site<'a, B> {
         Ok(())
     }
 
-    /// A ready device hears the bytes of a packet; what it sends is dated now, and what it activates is noted: these images. There
-    /// is room for all of it.
+    /// A ready device handles the bytes of a packet. The packets that it sends are dated `now`, and
+    /// the images that it activates, which are these, are noted. There must be room for all of
+    /// them.
     #[tactic(auto, using(crate::proofs::Noting::activation_noted, crate::proofs::Noting::nothing_active, crate::proofs::Noting::still_ready))]
     fn deliver_ready(
         &mut self,
@@ -221,7 +225,7 @@ impl<'a, B: Bank> Site<'a, B> {
         }
     }
 
-    /// The node hears the bytes of a packet; what it sends is dated now.
+    /// The node handles the bytes of a packet. The packets that it sends are dated `now`.
     #[tactic(auto, using(crate::proofs::Components::heard_components, crate::proofs::Aging::dead_still))]
     fn go_on(&mut self, now: u32, bytes: &[u8], outbox: &mut Outbox)
         requires room { 64 ≤ self.old.room }
@@ -232,7 +236,7 @@ impl<'a, B: Bank> Site<'a, B> {
     {
         self.ready = None;
         self.node.on_packet(bytes, outbox);
-        // How many packets an outbox holds at most is known once it was read.
+        // Reading the length gives the bound on an outbox's packets.
         let _sent = outbox.len();
         self.packets.drain(now, outbox);
     }
@@ -251,7 +255,7 @@ impl<'a, B: Bank> Site<'a, B> {
         self.node.device().state() == State::Activate
     }
 
-    /// Keeps the images that a ready device has applied.
+    /// Keeps the applied images of a ready device.
     fn keep(&mut self, images: Vec<Image<'a>>)
         requires ready { is_ready self.old.site.node.half.core.device.phase ≡ true }
         requires images { map keyed_image_of images.items ≡ applied_keyed_images self.old.site.node.half.core.device.rows }
@@ -260,7 +264,7 @@ impl<'a, B: Bank> Site<'a, B> {
         self.ready = Some(images);
     }
 
-    /// Each image that a ready device has applied, by rising key.
+    /// Returns the applied images of a ready device, by rising key.
     #[tactic(auto, using(fw_message::proofs::Applied::all_applied))]
     fn ready_images(
         &mut self,
@@ -280,11 +284,11 @@ impl<'a, B: Bank> Site<'a, B> {
         applied_images(alloc, packages, device.bank(), device.keys())
     }
 
-    /// A verdict on the image that the device has written; what it applies is noted.
+    /// A verdict on the image that the device has written. The image that it applies is noted.
     ///
     /// # Errors
-    /// `Refused` where no such verdict is waited for, else `Memory` where that for the entry of ApplyOk is refused. Nothing has changed
-    /// then.
+    /// `Refused` if the device doesn't wait for this verdict, else `Memory` if memory for the entry
+    /// of ApplyOk is refused. The site is unchanged on an error.
     pub(crate) fn judge(
         &mut self,
         alloc: Global,
@@ -308,7 +312,8 @@ impl<'a, B: Bank> Site<'a, B> {
         Ok(())
     }
 
-    /// Makes room for what a verdict adds: an entry of the history, and the image in it, whose room is given out. Only ApplyOk adds one.
+    /// Makes room for the entry of a verdict in the history, and returns room for the image in it.
+    /// Only ApplyOk has an entry.
     fn room_to_note(
         &self,
         alloc: Global,
@@ -339,8 +344,8 @@ impl<'a, B: Bank> Site<'a, B> {
         awaits(self.node.device(), verdict)
     }
 
-    /// A verdict that is waited for; what it applies is noted. If that is ApplyOk there is room for the entry, and `room` is empty, with
-    /// the capacity of the image.
+    /// A verdict that the device waits for. The image that it applies is noted. For ApplyOk there
+    /// must be room for the entry, and `room` must be empty, with the capacity of the image.
     #[tactic(auto, using(crate::proofs::Judging::other_noted))]
     fn judge_noting(
         &mut self,
@@ -368,7 +373,7 @@ impl<'a, B: Bank> Site<'a, B> {
         note_applied(history, self.eid(), image);
     }
 
-    /// The node has a verdict that is waited for.
+    /// The node handles a verdict that it waits for.
     #[tactic(auto, using(crate::proofs::Components::judged_components))]
     fn judge_now(&mut self, verdict: Verdict)
         requires { (works : Bool) → is_some (device_verdict self.old.site.node.half.core.device verdict works) ≡ true }
@@ -388,8 +393,8 @@ impl<'a, B: Bank> Site<'a, B> {
         has_failed(self.node.device())
     }
 
-    /// The image that is applied for a component, copied into room that is empty unless a package lends its bytes; None where there is
-    /// none, or not the room.
+    /// Returns the image that is applied for a component, copied into `room` unless a package has
+    /// its bytes. `None` if there is no image, or the room is too small. The room must be empty.
     fn applied(
         &self,
         packages: &'a [Package<'a>],
@@ -403,7 +408,7 @@ impl<'a, B: Bank> Site<'a, B> {
         copied(packages, self.node.device().bank(), key, room)
     }
 
-    /// The node counts a tick; what it sends is dated now.
+    /// The node counts a tick. The packets that it sends are dated `now`.
     #[tactic(auto, using(crate::proofs::Components::ticked_components, crate::proofs::Ticking::ticks_keep, crate::proofs::Aging::dead_still))]
     fn tick(&mut self, now: u32, outbox: &mut Outbox)
         requires room { 64 ≤ self.old.room }
@@ -413,7 +418,7 @@ impl<'a, B: Bank> Site<'a, B> {
     {
         self.node.on_tick(outbox);
         self.since_miss = since_after(true, self.since_miss);
-        // How many packets an outbox holds at most is known once it was read.
+        // Reading the length gives the bound on an outbox's packets.
         let _sent = outbox.len();
         self.packets.drain(now, outbox);
         self.dead.advance(&self.packets.lent(), now);
@@ -422,7 +427,8 @@ impl<'a, B: Bank> Site<'a, B> {
         }
     }
 
-    /// A tick passes, which the node counts unless it is one of these; what it sends is dated now.
+    /// A unit of time passes. The node counts a tick unless it is one of `missed`. The packets that
+    /// it sends are dated `now`.
     pub(crate) fn pass(&mut self, missed: &[u8], now: u32, outbox: &mut Outbox)
         requires room { 64 ≤ self.old.room }
         requires outbox { outbox.old ≡ [] }
@@ -443,14 +449,15 @@ impl<'a, B: Bank> Site<'a, B> {
         self.since_miss = since_after(false, self.since_miss);
     }
 
-    /// Whether the node may miss this tick, if it is one of those that do.
+    /// Whether the node may take this tick: it isn't one of `missed`, or it has counted 8 since the
+    /// last one it missed.
     pub(crate) fn may_beat(&self, missed: &[u8]) -> bool
         ensures { result ≡ may_site_beat missed.now self.now.site }
     {
         may_beat(counts(missed, self.eid()), self.since_miss)
     }
 
-    /// The node starts anew.
+    /// Restarts the node.
     #[tactic(auto, using(fd_core::proofs::Components::restart_components))]
     pub(crate) fn restart(&mut self)
         ensures { self.new.site ≡ record self.old.site { node = device_restarts self.old.site.node } }
@@ -467,7 +474,7 @@ fn is_ready<B: Bank>(device: &Device<B>) -> bool
     device.state() == State::Ready
 }
 
-/// Notes that a device activates these images. There is room for them.
+/// Notes that a device activates these images. There must be room for them.
 fn note_activated<'a>(history: &mut Vec<Entry<'a>>, device: u8, images: Vec<Image<'a>>)
     requires { vec_len history.old + vec_len images ≤ vec_capacity history.old }
     ensures { map entry_of history.new.items ≡ map entry_of history.old.items ++ map (λ p. noted_of device (EntryOf.Activated p)) (map keyed_image_of images.entry.items) }
@@ -480,7 +487,7 @@ fn note_activated<'a>(history: &mut Vec<Entry<'a>>, device: u8, images: Vec<Imag
     }
 }
 
-/// Notes that a device applied an image, if it did. There is room for it.
+/// Notes that a device applied an image, if it did. There must be room for the entry.
 fn note_applied<'a>(history: &mut Vec<Entry<'a>>, device: u8, image: Option<Image<'a>>)
     requires { vec_len history.old + 1 ≤ vec_capacity history.old }
     ensures { map entry_of history.new.items ≡ map entry_of history.old.items ++ map (λ p. noted_of device (EntryOf.Applied p)) (map keyed_image_of (option_to_list image.entry)) }

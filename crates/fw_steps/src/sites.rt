@@ -18,7 +18,7 @@ use fw_package::Package;
 use mctp_wire::{RawPacket, Unit};
 use std::alloc::{AllocError, Global};
 
-/// The endpoint identifiers of these nodes, in their order.
+/// Returns the endpoint identifiers of these nodes, in their order.
 pub(crate) fn eids_of<B: Bank>(
     alloc: Global,
     nodes: &[DeviceNode<B>],
@@ -32,7 +32,7 @@ pub(crate) fn eids_of<B: Bank>(
     Ok(eids)
 }
 
-/// The transmission unit of the first of these nodes.
+/// Returns the transmission unit of the first of these nodes.
 pub(crate) fn unit_of<B: Bank>(nodes: &[DeviceNode<B>]) -> Unit
     ensures { result ≡ unit_of nodes.now }
 {
@@ -42,7 +42,7 @@ pub(crate) fn unit_of<B: Bank>(nodes: &[DeviceNode<B>]) -> Unit
     }
 }
 
-/// The nodes of devices to which nothing was sent.
+/// Creates the sites of these nodes, without packets.
 pub(crate) fn new_sites<'a, B: Bank + Drop>(
     alloc: Global,
     nodes: Vec<DeviceNode<B>>,
@@ -61,7 +61,7 @@ pub(crate) fn new_sites<'a, B: Bank + Drop>(
     Ok(sites)
 }
 
-/// Where the device of this identifier stands.
+/// Returns the place of the device with this identifier.
 pub(crate) fn place_of<B: Bank>(sites: &[Site<'_, B>], eid: u8) -> Option<usize>
     ensures place { result ≡ place_of (sites_of sites.now) eid }
     ensures within { IfSome result (λ place. place < length sites.now) }
@@ -74,7 +74,7 @@ pub(crate) fn place_of<B: Bank>(sites: &[Site<'_, B>], eid: u8) -> Option<usize>
     None
 }
 
-/// What stands at the place of this identifier.
+/// Returns the site of the device with this identifier.
 #[tactic(auto, using(crate::proofs::Places::at_place))]
 pub(crate) fn site_for<'s, 'a, B: Bank>(
     sites: &'s [Site<'a, B>],
@@ -88,7 +88,7 @@ pub(crate) fn site_for<'s, 'a, B: Bank>(
     Some(&sites[place])
 }
 
-/// Makes room for so many packets at each device.
+/// Makes room for `count` packets at each device.
 pub(crate) fn make_room<B: Bank>(sites: &mut [Site<'_, B>], count: u16) -> Result<(), AllocError>
     ensures room { OnOk result (HaveRoom count sites.new) }
     ensures lacked { OnErr result (HasFullSite count sites.old) }
@@ -104,7 +104,8 @@ pub(crate) fn make_room<B: Bank>(sites: &mut [Site<'_, B>], count: u16) -> Resul
     Ok(())
 }
 
-/// Puts each packet that the agent sent behind those of the device that it is for, dated now. There is room for them.
+/// Appends each packet that the agent sent to those of the device that it is for, dated `now`.
+/// There must be room for them.
 pub(crate) fn post_all<B: Bank>(sites: &mut [Site<'_, B>], now: u32, outbox: &mut Outbox)
     requires room { HaveRoom 128 sites.old }
     requires few { length outbox.old ≤ 64 }
@@ -118,7 +119,8 @@ pub(crate) fn post_all<B: Bank>(sites: &mut [Site<'_, B>], now: u32, outbox: &mu
     }
 }
 
-/// Puts a packet that the agent sent behind those of the device that it is for. There is room for it.
+/// Appends a packet that the agent sent to those of the device that it is for. There must be room
+/// for it.
 #[tactic(auto, using(crate::proofs::Places::post_nowhere))]
 fn post<B: Bank>(sites: &mut [Site<'_, B>], now: u32, packet: RawPacket)
     requires { HaveRoom 1 sites.old }
@@ -132,7 +134,7 @@ fn post<B: Bank>(sites: &mut [Site<'_, B>], now: u32, packet: RawPacket)
     sites[place].post(now, packet);
 }
 
-/// The place of the device that a packet is for, which its second byte says (DSP0236).
+/// Returns the place of the device that a packet is for, from the packet's second byte (DSP0236).
 fn place_for<B: Bank>(sites: &[Site<'_, B>], packet: &[u8]) -> Option<usize>
     ensures place { result ≡ place_for (sites_of sites.now) packet.now }
     ensures within { IfSome result (λ place. place < length sites.now) }
@@ -143,7 +145,8 @@ fn place_for<B: Bank>(sites: &[Site<'_, B>], packet: &[u8]) -> Option<usize>
     place_of(sites, *dest)
 }
 
-/// A tick passes, which all devices but these count; what they send is dated now.
+/// A unit of time passes, which all devices but `missed` count as a tick. The packets that they
+/// send are dated `now`.
 pub(crate) fn pass_all<B: Bank>(
     sites: &mut [Site<'_, B>],
     missed: &[u8],
@@ -173,7 +176,8 @@ pub(crate) fn may_all_beat<B: Bank>(sites: &[Site<'_, B>], missed: &[u8]) -> boo
     true
 }
 
-/// The node at a place hears the bytes of a packet; what it sends is dated now, and what it activates is noted.
+/// The node at a place handles the bytes of a packet. The packets that it sends are dated `now`,
+/// and the images that it activates are noted.
 pub(crate) fn deliver_at<'a, B: Bank>(
     sites: &mut [Site<'a, B>],
     place: usize,
@@ -199,7 +203,7 @@ pub(crate) fn deliver_at<'a, B: Bank>(
     Ok(())
 }
 
-/// The node at a place has a verdict; what it applies is noted.
+/// The node at a place handles a verdict. The image that it applies is noted.
 pub(crate) fn judge_at<'a, B: Bank>(
     sites: &mut [Site<'a, B>],
     place: usize,
@@ -223,7 +227,7 @@ pub(crate) fn judge_at<'a, B: Bank>(
     Ok(())
 }
 
-/// The node at a place starts anew.
+/// Restarts the node at a place.
 #[tactic(auto, using(crate::proofs::Places::restart_there))]
 pub(crate) fn restart_at<B: Bank>(sites: &mut [Site<'_, B>], place: usize)
     requires { place < length sites.old }

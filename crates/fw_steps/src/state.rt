@@ -35,29 +35,31 @@ use std::alloc::{AllocError, Global};
 use std::marker::Model;
 use ua_core::StartFault;
 
-/// The most packets that a step adds to those of a device: what the agent and the device send in a tick.
+/// The most packets that a step appends to those of a device: those that the agent and the device
+/// send in a tick.
 const ROOM: u16 = 128;
 
-/// What a world is made of. Any state may be made of this type; that steps led to it is said by the type above it.
+/// The content of a world. This type has any state; that steps reached it is the invariant of
+/// `World`.
 #[derive(Drop)]
 pub(crate) struct State<'a, B: Bank + Drop> {
-    /// Where steps take their memory from.
+    /// The allocator of the steps.
     alloc: Global,
-    /// What the operator may start updates with.
+    /// The packages that the operator may start updates with.
     packages: &'a [Package<'a>],
     /// The units of time that have passed.
     time: u32,
     /// The agent's node.
     agent: AgentNode,
-    /// How many ticks the agent counted since it last missed one, at most 8.
+    /// The ticks that the agent counted since it last missed one, at most 8.
     since_miss: u8,
     /// The devices in configured order, 1 to 16, each with its packets.
     sites: Vec<Site<'a, B>>,
-    /// The last answer of the event log; none before the first request.
+    /// The last answer of the event log, or none before the first request.
     answer: Option<SelReply>,
-    /// What happened, in order.
+    /// The history, in order.
     history: Vec<Entry<'a>>,
-    /// Where a node's call puts what it sends. Between steps it is empty.
+    /// The packets that a node sends in a call. It is empty between steps.
     outbox: Outbox,
 }
 
@@ -83,10 +85,10 @@ impl<'a, B: Bank + Drop> Model for State<'a, B> {
 }
 
 impl<'a, B: Bank + Drop> State<'a, B> {
-    /// The state before the first step.
+    /// Creates the state before the first step.
     ///
     /// # Errors
-    /// `AllocError` where memory for it is refused.
+    /// `AllocError` if memory for it is refused.
     #[tactic(auto, using(crate::proofs::Opening::have_components, crate::proofs::Opening::opens_so))]
     pub(crate) fn new(
         alloc: Global,
@@ -132,7 +134,7 @@ impl<'a, B: Bank + Drop> State<'a, B> {
         &self.agent
     }
 
-    /// The node of a device.
+    /// Returns the node of a device.
     pub(crate) fn device(&self, eid: u8) -> Option<&DeviceNode<B>>
         ensures { option_map (λ n. n.now) result ≡ option_map (λ x. x.node) (site_for self.now.sites eid) }
     {
@@ -140,7 +142,7 @@ impl<'a, B: Bank + Drop> State<'a, B> {
         Some(site.node())
     }
 
-    /// How many devices there are, 1 to 16.
+    /// Returns the number of devices, 1 to 16.
     pub(crate) fn device_count(&self) -> usize
         ensures count { result ≡ length self.now.sites }
         ensures some { 1 ≤ result }
@@ -149,7 +151,7 @@ impl<'a, B: Bank + Drop> State<'a, B> {
         self.sites.len()
     }
 
-    /// The node of the device at a place, counted from 0, in the configured order.
+    /// Returns the node of the device at a place, counted from 0, in configured order.
     pub(crate) fn device_at(&self, place: usize) -> Option<&DeviceNode<B>>
         ensures { option_map (λ n. n.now) result ≡ option_map (λ x. x.node) (slice_get self.now.sites place) }
     {
@@ -157,7 +159,8 @@ impl<'a, B: Bank + Drop> State<'a, B> {
         Some(site.node())
     }
 
-    /// Every packet that was sent between the agent and the device at a place, counted from 0, in the order of sending.
+    /// Returns every packet that was sent between the agent and the device at a place, counted from
+    /// 0, in the order of sending.
     pub(crate) fn packets_at(&self, place: usize) -> Option<SentPackets<'_>>
         ensures { result ≡ option_map (λ x. x.packets) (slice_get self.now.sites place) }
     {
@@ -165,7 +168,7 @@ impl<'a, B: Bank + Drop> State<'a, B> {
         Some(site.packets())
     }
 
-    /// Every packet that was sent between the agent and a device, in the order of sending.
+    /// Returns every packet that was sent between the agent and a device, in the order of sending.
     pub(crate) fn packets(&self, eid: u8) -> Option<SentPackets<'_>>
         ensures { result ≡ option_map (λ x. x.packets) (site_for self.now.sites eid) }
     {
@@ -173,7 +176,8 @@ impl<'a, B: Bank + Drop> State<'a, B> {
         Some(site.packets())
     }
 
-    /// How many of the first packets between the agent and a device can't come any more; 0 where there is no such device.
+    /// Returns the number of first packets between the agent and a device that can't be received
+    /// any more; 0 if there is no such device.
     #[tactic(auto, using(crate::proofs::Aging::dead_within))]
     pub(crate) fn dead_packets(&self, eid: u8) -> usize
         ensures dead { AreDead self.now.now result (packets_of self.now eid) }
@@ -186,7 +190,8 @@ impl<'a, B: Bank + Drop> State<'a, B> {
         }
     }
 
-    /// The last answer of the event log: a completion code and what follows it. None before the first request.
+    /// Returns the last answer of the event log: a completion code and its data. `None` before the
+    /// first request.
     pub(crate) fn answer(&self) -> Option<&[u8]>
         ensures { option_map (λ a. a.now) result ≡ self.now.answer }
     {
@@ -196,17 +201,17 @@ impl<'a, B: Bank + Drop> State<'a, B> {
         }
     }
 
-    /// What happened, in order.
+    /// The history, in order.
     pub(crate) fn history(&self) -> &[Entry<'a>]
         ensures { map entry_of result.now ≡ self.now.history }
     {
         self.history.as_slice()
     }
 
-    /// Takes a step, or leaves the state as it is.
+    /// Takes a step, or leaves the state unchanged.
     ///
     /// # Errors
-    /// Why the step isn't taken.
+    /// The cause why the step isn't taken.
     #[tactic(auto, using(crate::proofs::Leading::log_leads))]
     pub(crate) fn step(&mut self, step: &Step) -> Result<(), StepFault>
         ensures taken { OnOk result (StepsTo self.old step.now self.new) }
@@ -228,7 +233,7 @@ impl<'a, B: Bank + Drop> State<'a, B> {
         }
     }
 
-    /// A packet comes to a node.
+    /// Delivers a packet to a node.
     #[tactic(auto, using(crate::proofs::Leading::agent_leads, crate::proofs::Leading::device_leads))]
     fn deliver(&mut self, device: u8, number: usize, node: u8) -> Result<(), StepFault>
         ensures taken { OnOk result (StepsTo self.old (Step.Deliver device number node) self.new) }
@@ -253,7 +258,7 @@ impl<'a, B: Bank + Drop> State<'a, B> {
         Ok(())
     }
 
-    /// The bytes of a packet that may come to a node now.
+    /// Returns the bytes of a packet that may be delivered to a node now.
     fn living(&self, device: u8, number: usize, node: u8) -> Result<RawPacket, StepFault>
         ensures found { IfOk result (λ p. option_map (λ s. s.bytes) (item_numbered (packets_of self.now device) number) ≡ Some p.items) }
         ensures ok { OnOk result (may_step self.now (Step.Deliver device number node) ≡ None) }
@@ -268,7 +273,7 @@ impl<'a, B: Bank + Drop> State<'a, B> {
         site.living(number, self.time)
     }
 
-    /// Where the device of this identifier stands.
+    /// Returns the place of the device with this identifier.
     fn place_of(&self, eid: u8) -> Option<usize>
         ensures place { result ≡ place_of self.now.sites eid }
         ensures within { IfSome result (λ place. place < length self.now.sites) }
@@ -283,7 +288,7 @@ impl<'a, B: Bank + Drop> State<'a, B> {
         eid == self.agent.eid() || site_for(self.sites.as_slice(), eid).is_some()
     }
 
-    /// A packet comes to a device of the world.
+    /// Delivers a packet to a device of the world.
     fn deliver_to_device(&mut self, node: u8, bytes: &[u8]) -> Result<(), StepFault>
         requires { is_device self.old node ≡ true }
         ensures heard { OnOk result (DeliversToDevice self.old node bytes.now self.new) }
@@ -308,7 +313,7 @@ impl<'a, B: Bank + Drop> State<'a, B> {
         }
     }
 
-    /// A packet comes to the agent.
+    /// Delivers a packet to the agent.
     fn deliver_to_agent(&mut self, bytes: &[u8]) -> Result<(), StepFault>
         ensures after { OnOk result (self.new ≡ at_agent self.old bytes.now) }
         ensures memory { IfErr result (λ e. e ≡ StepFault.Memory) }
@@ -328,13 +333,13 @@ impl<'a, B: Bank + Drop> State<'a, B> {
             &mut self.outbox,
             &mut self.history,
         );
-        // How many packets an outbox holds at most is known once it was read.
+        // Reading the length gives the bound on an outbox's packets.
         let _sent = self.outbox.len();
         post_all(self.sites.as_mut_slice(), self.time, &mut self.outbox);
         Ok(())
     }
 
-    /// A unit of time passes, which all nodes but these count as a tick.
+    /// A unit of time passes, which all nodes but `missed` count as a tick.
     fn tick(&mut self, missed: &Missed) -> Result<(), StepFault>
         ensures taken { OnOk result (StepsTo self.old (Step.Tick missed.now) self.new) }
         ensures refused { IfErr result (λ e. RefusesStep self.old (Step.Tick missed.now) e) }
@@ -356,7 +361,7 @@ impl<'a, B: Bank + Drop> State<'a, B> {
         Ok(())
     }
 
-    /// Whether each of these identifiers is that of a node.
+    /// Whether each of these identifiers is one of a node.
     fn has_nodes(&self, eids: &[u8]) -> bool
         ensures { result ≡ list_all (is_node self.now) eids.now }
     {
@@ -376,7 +381,7 @@ impl<'a, B: Bank + Drop> State<'a, B> {
             && may_all_beat(self.sites.as_slice(), missed)
     }
 
-    /// The unit passes that leads to this time.
+    /// The unit before `time` passes.
     fn pass(&mut self, missed: &[u8], time: u32) -> Result<(), StepFault>
         requires { time ≡ self.old.now + 1 }
         ensures after { OnOk result (self.new ≡ world_after_tick missed.now self.old) }
@@ -422,7 +427,7 @@ impl<'a, B: Bank + Drop> State<'a, B> {
         Ok(())
     }
 
-    /// The operator cancels.
+    /// The operator cancels the update of a device.
     #[tactic(auto, using(crate::proofs::Leading::cancel_leads))]
     fn cancel(&mut self, device: u8) -> Result<(), StepFault>
         ensures taken { OnOk result (StepsTo self.old (Step.Cancel device) self.new) }
@@ -436,7 +441,7 @@ impl<'a, B: Bank + Drop> State<'a, B> {
         Ok(())
     }
 
-    /// The operator has a device activate.
+    /// The operator has a device activate the images that it applied.
     #[tactic(auto, using(crate::proofs::Leading::activate_leads))]
     fn activate(&mut self, device: u8) -> Result<(), StepFault>
         ensures taken { OnOk result (StepsTo self.old (Step.Activate device) self.new) }
@@ -453,7 +458,7 @@ impl<'a, B: Bank + Drop> State<'a, B> {
         Ok(())
     }
 
-    /// A verdict on what a device has written.
+    /// A verdict on the image that a device has written.
     #[tactic(auto, using(crate::proofs::Leading::verdict_leads))]
     fn judge(&mut self, device: u8, verdict: Verdict) -> Result<(), StepFault>
         ensures taken { OnOk result (StepsTo self.old (Step.Verdict device verdict) self.new) }
@@ -477,7 +482,7 @@ impl<'a, B: Bank + Drop> State<'a, B> {
         Ok(())
     }
 
-    /// A node starts anew.
+    /// Restarts a node.
     fn restart(&mut self, node: u8) -> Result<(), StepFault>
         ensures taken { OnOk result (StepsTo self.old (Step.Restart node) self.new) }
         ensures refused { IfErr result (λ e. RefusesStep self.old (Step.Restart node) e) }
@@ -494,14 +499,14 @@ impl<'a, B: Bank + Drop> State<'a, B> {
         Ok(())
     }
 
-    /// The agent starts anew.
+    /// Restarts the agent.
     fn restart_agent(&mut self)
         ensures { self.new ≡ record self.old { agent = agent_restarts self.old.packages self.old.agent } }
     {
         self.agent.restart();
     }
 
-    /// The device at a place starts anew.
+    /// Restarts the device at a place.
     fn restart_device(&mut self, place: usize)
         requires { place < length self.old.sites }
         ensures { self.new ≡ record self.old { sites = site_restarts self.old.sites (Some place) (slice_get self.old.sites place) } }
@@ -509,7 +514,7 @@ impl<'a, B: Bank + Drop> State<'a, B> {
         restart_at(self.sites.as_mut_slice(), place);
     }
 
-    /// The event log is asked. A request without a byte is one of a wrong length.
+    /// Handles a request to the event log. A request without a byte has a wrong length.
     fn ask_log(&mut self, request: &[u8])
         ensures { self.new ≡ world_after_log_request self.old request.now }
     {
@@ -521,7 +526,8 @@ impl<'a, B: Bank + Drop> State<'a, B> {
     }
 }
 
-/// The agent counts a tick, or misses it; what it sends goes to the devices that it is for, dated now.
+/// The agent counts a tick, or misses it. The packets that it sends go to the devices that they are
+/// for, dated with this time.
 #[tactic(auto, using(crate::proofs::Places::less_room))]
 fn pass_agent<'p, B: Bank>(
     agent: &mut AgentNode,
@@ -543,12 +549,12 @@ fn pass_agent<'p, B: Bank>(
         return;
     }
     agent.on_tick(packages, now, outbox);
-    // How many packets an outbox holds at most is known once it was read.
+    // Reading the length gives the bound on an outbox's packets.
     let _sent = outbox.len();
     post_all(sites, now, outbox);
 }
 
-/// The answer to a request of a wrong length.
+/// Returns the answer to a request of a wrong length.
 fn wrong_length() -> SelReply
     ensures { result.items ≡ 0xC7 ∷ [] }
 {

@@ -1,4 +1,4 @@
-//! The packet world: by its type, a state that steps led to.
+//! The packet world: by its type, a state that steps reached.
 
 ghost use Rattle.std.specs.Prelude.{◌≡◌, ◌≤◌, IfErr, IfOk, OnErr, OnOk, length, map, option_map, slice_get};
 ghost use Rattle.fw_message.specs.Entries.{entry_of};
@@ -19,11 +19,12 @@ use mctp_ctl::Endpoint;
 use std::alloc::{AllocError, Global};
 use std::marker::Model;
 
-/// An update agent and its devices, every packet that was ever sent between them, and what happened. Time passes in units. A world
-/// is made by `new` and changed by `step` alone, so whoever holds one holds a safe one (`is_promised`).
+/// An update agent and its devices, every packet that was ever sent between them, and the history.
+/// Time passes in units. Only `new` creates a world and only `step` changes it, so every value of
+/// this type is safe (`is_promised`).
 #[derive(Drop)]
 pub struct World<'a, B: Bank + Drop> {
-    /// What it is made of. The invariant says that steps led to it.
+    /// Its content. The invariant says that steps reached it.
     state: State<'a, B>,
 }
 
@@ -39,12 +40,12 @@ impl<'a, B: Bank + Drop> Model for World<'a, B> {
 }
 
 impl<'a, B: Bank + Drop> World<'a, B> {
-    /// A world before its first step: the agent, the nodes of 1 to 16 devices as they are made, whose agent it is, with endpoint
-    /// identifiers of their own from 8 to 254, and the packages that the operator may start updates with. Later calls take their
-    /// memory from `alloc`.
+    /// Creates a world before its first step, from the agent, the new nodes of its 1 to 16 devices,
+    /// with different endpoint identifiers from 8 to 254, and the packages that the operator may
+    /// start updates with. Later calls allocate from `alloc`.
     ///
     /// # Errors
-    /// `AllocError` where memory for it is refused.
+    /// `AllocError` if memory for it is refused.
     pub fn new(
         alloc: Global,
         agent: Endpoint,
@@ -75,14 +76,14 @@ impl<'a, B: Bank + Drop> World<'a, B> {
         self.state.agent()
     }
 
-    /// The node of a device.
+    /// Returns the node of a device.
     pub fn device(&self, eid: u8) -> Option<&DeviceNode<B>>
         ensures { option_map (λ n. n.now) result ≡ option_map (λ x. x.node) (site_for self.now.sites eid) }
     {
         self.state.device(eid)
     }
 
-    /// How many devices there are, 1 to 16.
+    /// Returns the number of devices, 1 to 16.
     pub fn device_count(&self) -> usize
         ensures count { result ≡ length self.now.sites }
         ensures some { 1 ≤ result }
@@ -91,29 +92,32 @@ impl<'a, B: Bank + Drop> World<'a, B> {
         self.state.device_count()
     }
 
-    /// The node of the device at a place, counted from 0, in the configured order.
+    /// Returns the node of the device at a place, counted from 0, in configured order.
     pub fn device_at(&self, place: usize) -> Option<&DeviceNode<B>>
         ensures { option_map (λ n. n.now) result ≡ option_map (λ x. x.node) (slice_get self.now.sites place) }
     {
         self.state.device_at(place)
     }
 
-    /// Every packet that was sent between the agent and the device at a place, counted from 0, in the order of sending.
+    /// Returns every packet that was sent between the agent and the device at a place, counted from
+    /// 0, in the order of sending.
     pub fn packets_at(&self, place: usize) -> Option<SentPackets<'_>>
         ensures { result ≡ option_map (λ x. x.packets) (slice_get self.now.sites place) }
     {
         self.state.packets_at(place)
     }
 
-    /// Every packet that was sent between the agent and a device, in the order of sending: what a Deliver numbers from 1.
+    /// Returns every packet that was sent between the agent and a device, in the order of sending.
+    /// A Deliver numbers them from 1.
     pub fn packets(&self, eid: u8) -> Option<SentPackets<'_>>
         ensures { result ≡ option_map (λ x. x.packets) (site_for self.now.sites eid) }
     {
         self.state.packets(eid)
     }
 
-    /// How many of the first packets between the agent and a device can't come any more, since they were sent more than 8 units
-    /// ago: whoever looks for one that may come can leave them out, and the next one may come. 0 where there is no such device.
+    /// Returns the number of first packets between the agent and a device that can't be received
+    /// any more, because they were sent more than 8 units ago. The next packet may still be
+    /// received. 0 if there is no such device.
     pub fn dead_packets(&self, eid: u8) -> usize
         ensures dead { AreDead self.now.now result (packets_of self.now eid) }
         ensures exact { result ≡ dead_count self.now.now (packets_of self.now eid) }
@@ -122,14 +126,15 @@ impl<'a, B: Bank + Drop> World<'a, B> {
         self.state.dead_packets(eid)
     }
 
-    /// The last answer of the event log: a completion code and what follows it. None before the first request.
+    /// Returns the last answer of the event log: a completion code and its data. `None` before the
+    /// first request.
     pub fn answer(&self) -> Option<&[u8]>
         ensures { option_map (λ a. a.now) result ≡ self.now.answer }
     {
         self.state.answer()
     }
 
-    /// What happened, in order. It is safe, whoever asks and whenever.
+    /// The history, in order. It is safe at any time.
     pub fn history(&self) -> &[Entry<'a>]
         ensures entries { map entry_of result.now ≡ self.now.history }
         ensures promised { IsPromised self.now }
@@ -138,9 +143,9 @@ impl<'a, B: Bank + Drop> World<'a, B> {
         self.state.history()
     }
 
-    /// What is promised of every world that there is, at any moment: steps led here from a world as it is made; each device that was
-    /// there is there, and its history is safe, and tied with what runs on it and what the agent recorded; and steps over whole
-    /// messages lead to the same devices, sessions and history.
+    /// The laws of every world, at any moment: steps reached it from an opening world; each device
+    /// is still there, and its history is safe, and tied with its running images and the agent's
+    /// records; and steps over whole messages give the same devices, sessions and history.
     pub fn is_promised(&self)
         ensures { IsPromised self.now }
     {
@@ -150,12 +155,12 @@ impl<'a, B: Bank + Drop> World<'a, B> {
         packets_are_messages();
     }
 
-    /// Takes a step, or leaves the world as it is.
+    /// Takes a step, or leaves the world unchanged.
     ///
     /// # Errors
-    /// Why the step isn't taken: `NoSuchNode`, then `NoSuchPacket`, then `Dead`; for the operator's calls `NoSuchPackage` before
-    /// `Busy`, and `NotReady`; `NotNow` for a verdict; `ClockEnd`, then `ClockSlow` for a tick; and `Memory` for a step that might be
-    /// taken.
+    /// The cause why the step isn't taken: `NoSuchNode`, then `NoSuchPacket`, then `Dead`; for the
+    /// operator's calls `NoSuchPackage` before `Busy`, and `NotReady`; `NotNow` for a verdict;
+    /// `ClockEnd`, then `ClockSlow` for a tick; and `Memory` for a step that is allowed.
     pub fn step(&mut self, step: &Step) -> Result<(), StepFault>
         ensures taken { OnOk result (StepsTo self.old step.now self.new) }
         ensures refused { IfErr result (λ e. RefusesStep self.old step.now e) }

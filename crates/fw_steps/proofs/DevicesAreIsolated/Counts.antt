@@ -1,5 +1,5 @@
--- A step in which no call of a device's bank fails leads what is between it and the agent where it would if every call worked;
--- and a call that fails is counted.
+-- A step in which no call of a device's bank fails changes the state between it and the agent as if
+-- every call worked; and a call that fails is counted.
 use Rattle.std.proofs.Common.{◌≡◌, ◌⊎◌, ◌∙◌, ◌==◌, ◌&&◌, ℕ, Bool, true, false, not, List, Option, Some, None, inl, inr, refl, sym, ap, subst}
 use Rattle.std.proofs.lemmas.Bool.{eqb-true}
 use Rattle.exch_lane.specs.Lanes.{Sent, item_numbered}
@@ -21,7 +21,7 @@ use Rattle.fw_steps.proofs.LinksAreLanes.Routes.{both_hold}
 use Rattle.fw_steps.proofs.LinksAreLanes.WorldSteps.{AreLinked}
 use Rattle.fw_steps.proofs.PacketsAreSafe.SafeStands.{Follows}
 
--- Where its bank isn't called, it is one whether a call works.
+-- If its bank isn't called, nothing depends on whether a call works.
 agent_alike : (now : ℕ) (packages : List PackageText) (l : LinkOf) (works : Bool) (o : Option Sent) → delivers_on now packages l sides.Agent works o ≡ delivers_on now packages l sides.Agent true o
 agent_alike now packages l works None = refl
 agent_alike now packages l works (Some p) = refl
@@ -55,7 +55,7 @@ alike works agent (steps.Verdict device verdict) eid now packages p e = judge_al
 alike works agent (steps.Restart node) eid now packages p e = refl
 alike works agent (steps.Sel bytes) eid now packages p e = refl
 
--- where it is called, its count is the one that the step tells of
+-- if it is called, its count is the one that the step reports
 called_count : (w : WorldOf) (s : Step) (eid : ℕ) → calls_bank w.agent.endpoint.eid s eid ≡ true → faults_before w s ≡ faults_at w eid
 called_count w (steps.Deliver device number node) eid e =
     ap (faults_at w) (eqb-true node eid (both_hold (not (node == w.agent.endpoint.eid)) (node == eid) e).1)
@@ -96,12 +96,12 @@ stays_by : (called works : Bool) (w u : WorldOf) (s : Step) (faults eid : ℕ) �
 stays_by false works w u s faults eid e count worked well = count
 stays_by true works w u s faults eid e count worked well = count ∙ worked well ∙ called_count w s eid e
 
--- a step works where it has no bank called
+-- a step works if it calls no bank
 works_by : (works called : Bool) → (works ≡ false → called ≡ true) → called ≡ false → works ≡ true
 works_by true called h e = refl
 works_by false called h e = absurd (let f = h refl in cc)
 
--- Where no bank is called, the count stays.
+-- If no bank is called, the count stays.
 pub count_stays : (w v : WorldOf) (s : Step) (eid : ℕ) (p : SeenOf) → AreLinked w → (h : StepsTo w s v) → Follows h.works s w (world_after h.works h.faults w s) → IsSeen w eid p
     → step_calls_bank w s ≡ false → faults_at v eid ≡ faults_at w eid
 count_stays w v s eid p k h f i none =

@@ -1,4 +1,4 @@
--- A device's node after a step of the world, its half aside.
+-- A device's node after a step of the world, without its half.
 use Rattle.std.proofs.Common.{◌≡◌, ◌≢◌, ◌∙◌, ◌+◌, ◌==◌, ◌&&◌, ◌≤◌, ℕ, Bool, true, false, not, if◌then◌else◌, is_some, nat_lt, List, [], ◌∷◌, Option, Some, None, IsSomeAnd, inl, inr, refl, sym, ap, subst}
 use Rattle.std.specs.List.{filter}
 use Rattle.std.specs.Option.{option_map}
@@ -31,13 +31,13 @@ use Rattle.fw_steps.proofs.LinksAreLanes.Projection.{goes_on_eid, judged_site, j
 use Rattle.fw_steps.proofs.LinksAreLanes.Routes.{both_hold}
 use Rattle.fw_steps.proofs.LinksAreLanes.WorldSteps.{AreLinked, known_both, still_living}
 
--- the step calls the bank of this device, if it calls one
+-- the step calls the bank of this device
 abbrev pub calls_bank : (agent : ℕ) → Step → (eid : ℕ) → Bool
 calls_bank agent (steps.Deliver device number node) eid = not (node == agent) && (node == eid)
 calls_bank agent (steps.Verdict device verdict) eid = device == eid
 calls_bank agent s eid = false
 
--- a count of failures after a step that leaves that bank's at this value
+-- a count of failures after a step that leaves that bank's count at this value
 abbrev pub count_if : Bool → (faults before : ℕ) → ℕ
 count_if true faults before = faults
 count_if false faults before = before
@@ -63,17 +63,17 @@ SiteIs e t c s = IsSomeAnd s (λ y. NodeIs e t c y.node)
 site_is : (e : Endpoint) (t c : ℕ) (s : Option SiteOf) (y : SiteOf) → s ≡ Some y → NodeIs e t c y.node → SiteIs e t c s
 site_is e t c s y is k = subst (SiteIs e t c) (sym is) k
 
--- the node as it was
+-- the node is unchanged
 same_site : (t c : ℕ) (s : Option SiteOf) (x : SiteOf) → s ≡ Some x → t ≡ x.node.tid → c ≡ x.node.faults → SiteIs x.node.endpoint t c s
 same_site t c s x is tid count = site_is x.node.endpoint t c s x is (record { endpoint = refl; tid = sym tid; faults = sym count })
 
--- a node that becomes what this makes of it, or stays
+-- a node that `g` changes, or that stays
 put_is : (here : Bool) (g : SiteOf → SiteOf) (s o : Option SiteOf) (x : SiteOf) (e : Endpoint) (t c : Bool → ℕ) → s ≡ (if here then option_map g o else o) → o ≡ Some x
     → (here ≡ true → NodeIs e (t true) (c true) (g x).node) → NodeIs e (t false) (c false) x.node → SiteIs e (t here) (c here) s
 put_is true g s o x e t c put is k same = site_is e (t true) (c true) s (g x) (put ∙ ap (option_map g) is) (k refl)
 put_is false g s o x e t c put is k same = site_is e (t false) (c false) s x (put ∙ is) same
 
--- what isn't a restart of the device leaves its terminus identifier
+-- every step but a restart of the device keeps its terminus identifier
 tid_mine : (mine : Bool) (s : LinkStep) (tid : ℕ) → tid_on s tid ≡ tid → tid_then (where_mine mine (Some s)) tid ≡ tid
 tid_mine true s tid e = e
 tid_mine false s tid e = refl
@@ -86,14 +86,14 @@ tid_comes works number false agent here tid = refl
 
 -- A PACKET
 
--- what is no request of another PLDM type leaves it too
+-- every outcome but a request of another PLDM type keeps it too
 heard_tid : {C : Type 0} (role : Role) (endpoint : Endpoint) (tid : ℕ) (heard : HalfOutcome C) → IsPassed heard → (node_outcome_of role endpoint tid heard).tid ≡ tid
 heard_tid role endpoint tid (HalfOutcome.Went h sent) k = refl
 heard_tid role endpoint tid (HalfOutcome.Took h sent c answer) k = refl
 heard_tid role endpoint tid (HalfOutcome.Asks h m head body) k = absurd k
 heard_tid role endpoint tid (HalfOutcome.Strayed h m) k = absurd k
 
--- what a link takes is none
+-- no outcome that a link takes is such a request
 passed_on : (now : ℕ) (works : Bool) (l : LinkOf) (heard : HalfOutcome TimedDevice) (P : LinkStepped → Type 0) → IsSomeAnd (link_step_of_device now works l heard) P → IsPassed heard
 passed_on now works l (HalfOutcome.Went h sent) P k = tt
 passed_on now works l (HalfOutcome.Took h sent c answer) P k = tt
@@ -212,7 +212,7 @@ judged_node works faults w verdict device eid x site =
     ∙ site_put (judged_site works faults verdict) (λ y. refl) w.sites device eid)
     site (λ here. record { endpoint = refl; tid = refl; faults = refl }) (record { endpoint = refl; tid = refl; faults = refl })
 
--- a device that starts anew
+-- a device that restarts
 abbrev anew : SiteOf → SiteOf
 anew x = record x { node = device_restarts x.node }
 
@@ -233,8 +233,8 @@ restarted_node w node eid x site = elim (eqb_tells node w.agent.endpoint.eid) [
 
 -- ANY STEP
 
--- A device keeps its endpoint; its terminus identifier is 0 after its restart, and stays in every other step; and its bank's
--- count of failures stays where the bank isn't called.
+-- A device keeps its endpoint. Its terminus identifier is 0 after its restart, and stays in every
+-- other step. Its bank's count of failures stays if the bank isn't called.
 pub node_goes : (works : Bool) (faults : ℕ) (w : WorldOf) (s : Step) (eid : ℕ) (l : LinkOf) (x : SiteOf) → AreLinked w → may_step w s ≡ None → link_at w eid ≡ Some l → site_for w.sites eid ≡ Some x
     → LinkStepsTo w.now w.packages l (link_step works w.agent.endpoint.eid s eid) (link_at (world_after works faults w s) eid)
     → SiteIs x.node.endpoint (tid_then (link_step works w.agent.endpoint.eid s eid) x.node.tid) (count_if (calls_bank w.agent.endpoint.eid s eid) faults x.node.faults)

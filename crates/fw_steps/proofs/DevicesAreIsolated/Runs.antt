@@ -1,5 +1,5 @@
--- What is between the agent and a device after a run: it depends on what was between them and on the steps that concern the
--- device, so that two runs with the same lead to the same.
+-- The state between the agent and a device after a run: it depends on the state before and on the
+-- steps that concern the device, so two runs that agree in both give the same state.
 use Rattle.std.proofs.Common.{◌≡◌, ◌≢◌, ◌⊎◌, ◌∙◌, ◌≤◌, ◌<◌, ◌-◌, ◌^◌, ◌==◌, ◌&&◌, ◌||◌, ◌+◌, ℕ, Bool, true, false, cond, List, [], ◌∷◌, map, Option, Some, None, inl, inr, refl, sym, ap, subst, arith}
 use Rattle.std.specs.List.{filter}
 use Rattle.std.specs.Prelude.{IfSome}
@@ -33,9 +33,9 @@ use Rattle.fw_steps.proofs.PacketsAreSafe.SafeOpening.{opening_stands}
 use Rattle.fw_steps.proofs.PacketsAreSafe.SafeStands.{Stand, known_links, stays_absent}
 use Rattle.fw_steps.proofs.PacketsAreSafe.SafeSteps.{now_then, packages_stay, stand_on, time_goes, world_follows}
 
--- WHAT CONCERNS A DEVICE
+-- THE STEPS THAT CONCERN A DEVICE
 
--- a step that doesn't concern a device is none of its link, and no tick
+-- a step that doesn't concern a device is no step of its link, and no tick
 strange_coming : (works : Bool) (number : ℕ) (mine agent here : Bool) → (mine && (agent || here)) ≡ false → where_mine mine (comes_as works number agent here) ≡ None
 strange_coming works number true true here e = absurd (cc)
 strange_coming works number true false true e = absurd (cc)
@@ -73,7 +73,7 @@ no_tick agent (steps.Sel bytes) eid now e = refl
 
 -- ALONG STEPS
 
--- what a step is by what matters of it: the time after it, and the step of the link
+-- the time after a step and the step of the link, from the part of the step that matters
 abbrev concern_time : ℕ → ConcernOf → ℕ
 concern_time now (ConcernOf.Passes agent device) = now + 1
 concern_time now (ConcernOf.Takes s) = now_then now s
@@ -111,13 +111,13 @@ abbrev time_along : ℕ → List ConcernOf → ℕ
 time_along now [] = now
 time_along now (c ∷ cs) = time_along (concern_time now c) cs
 
--- what is between the agent and a device after these steps, if each call of its bank works
+-- the state between the agent and a device after these steps, if each call of its bank works
 abbrev seen_along : (agent eid : ℕ) → List PackageText → (now : ℕ) → SeenOf → List ConcernOf → SeenOf
 seen_along agent eid packages now p [] = p
 seen_along agent eid packages now p (c ∷ cs) =
     seen_along agent eid packages (concern_time now c) (seen_then now packages p (concern_step agent c eid)) cs
 
--- the steps that don't concern the device are nothing to it
+-- the steps that don't concern the device change nothing for it
 time_by : (concerned : Bool) (agent : ℕ) (s : Step) (eid now : ℕ) (rest : List Step) → concerns_device agent eid s ≡ concerned
     → time_along now (map (concern_of agent eid) (cond concerned (s ∷ rest) rest)) ≡ time_along (now_then now s) (map (concern_of agent eid) rest)
 time_by true agent s eid now rest e = ap (λ n. time_along n (map (concern_of agent eid) rest)) (same_time agent eid now s)
@@ -137,7 +137,7 @@ seen_if false agent s eid packages now p rest e =
     ap (λ n. seen_along agent eid packages n (seen_then now packages p (link_step true agent s eid)) (map (concern_of agent eid) rest)) (no_tick agent s eid now e)
     ∙ ap (λ o. seen_along agent eid packages now (seen_then now packages p o) (map (concern_of agent eid) rest)) (unconcerned true agent s eid e)
 
--- the same of the same
+-- equal states and steps give equal results
 same_along : (agent other eid : ℕ) (ps qs : List PackageText) (m n : ℕ) (p : SeenOf) (ss ts : List ConcernOf) → other ≡ agent → qs ≡ ps → n ≡ m → ts ≡ ss
     → seen_along other eid qs n p ts ≡ seen_along agent eid ps m p ss
 same_along agent other eid ps qs m n p ss ts e f g h = rw (e, f, g, h) refl
@@ -186,7 +186,7 @@ failed_by m n k (inr e) le = elim (cases_lt m k) [
   | inr ge ↦ let at : m ≡ 2 ^ 64 - 1 = e.0 in let same : n ≡ m = e.1 in inr (omega arith)
 ]
 
--- a run in which none does
+-- a run in which no call fails
 pub record RunsWell (w v : WorldOf) (ss : List Step) (eid : ℕ) (p : SeenOf) : Type 0 where
   pub seen : IsSeen v eid (seen_along w.agent.endpoint.eid eid w.packages w.now p (steps_of w eid ss))
   pub count : faults_at v eid ≡ faults_at w eid
@@ -194,7 +194,7 @@ pub record RunsWell (w v : WorldOf) (ss : List Step) (eid : ℕ) (p : SeenOf) : 
 same_agent : (w v : WorldOf) (s : Step) → (h : StepsTo w s v) → v.agent.endpoint.eid ≡ w.agent.endpoint.eid
 same_agent w v s h = ap (λ x. x.agent.endpoint.eid) h.after ∙ agent_stays h.works h.faults w s
 
--- one step more in front
+-- one more step in front
 well_first : (w u v : WorldOf) (s : Step) (ss : List Step) (eid : ℕ) (p : SeenOf) → (h : StepsTo w s u) → GoesWell w u s eid p
     → RunsWell u v ss eid (seen_then w.now w.packages p (link_step true w.agent.endpoint.eid s eid)) → RunsWell w v (s ∷ ss) eid p
 well_first w u v s ss eid p h g r =
@@ -238,9 +238,9 @@ runs_well law lanes messages opening w v ss eid p k i run fine = elim (runs_or_f
   | inr failed ↦ absurd (none_failed (faults_at w eid) (faults_at v eid) fine.unrisen fine.counted failed)
 ]
 
--- WHAT IS SHARED
+-- THE SHARED STATE
 
--- what is shared, by its link, and the other way round
+-- the shared state from its link, and the link from the shared state
 abbrev seen_of : SharedOf → SeenOf
 seen_of q = record { link = record { agent = q.half; device = q.node.half; packets = q.packets; agent_since_miss = q.agent_since_miss; device_since_miss = q.device_since_miss }; endpoint = q.node.endpoint; tid = q.node.tid; entries = q.history }
 
@@ -291,7 +291,7 @@ shares opening w eid p k i =
     let known : IsLinkOf w eid p.link = (linked_world w (known_links opening w k)).links eid p.link i.link in
     shares_by w eid (half_for w.agent eid) (site_for w.sites eid) p i.site i.link i.there i.endpoint i.tid i.entries known.asking
 
--- nothing is shared where there is no such device
+-- nothing is shared if there is no such device
 unshared : (w : WorldOf) (eid : ℕ) (o : Option (HalfOf TimedOf)) (s : Option SiteOf) → shared_by w eid o s ≡ None → link_from w.since_miss o s ≡ None
 unshared w eid None s e = refl
 unshared w eid (Some h) None e = refl
@@ -336,7 +336,7 @@ two_share law lanes messages opening other w v first second ss ts eid (Some q) k
     (agents_agree opening other w v eid (seen_of q) k m i j) agree.packages agree.now (sym same))
     ∙ sym (shares opening first eid _ (stand_along law lanes messages opening w first ss k run_w) one.seen)
 
--- Two runs that the same concerns lead what is shared to the same.
+-- Two runs of which the same steps concern the device give the same shared state.
 pub devices_isolated : LaneIsACell → LinksAreLanes → LinksAreMessages → DevicesAreIsolated
 devices_isolated law lanes messages = λ device w v first second ss ts reached_w reached_v run_w run_v agree same fine_w fine_v.
     record {
@@ -349,7 +349,7 @@ devices_isolated law lanes messages = λ device w v first second ss ts reached_w
 
 -- COUNTS
 
--- a device that is there is seen
+-- a device of the world has a state
 count_by : LaneIsACell → (opening w v : WorldOf) (s : Step) (eid : ℕ) (o : Option (HalfOf TimedOf)) (x : Option SiteOf) → Stand opening w → StepsTo w s v → step_calls_bank w s ≡ false
     → half_for w.agent eid ≡ o → site_for w.sites eid ≡ x → IfSome (pair_with o x) (λ m. faults_at v eid ≡ faults_at w eid)
 count_by law opening w v s eid None x k h none half site = tt
@@ -358,7 +358,7 @@ count_by law opening w v s eid (Some one) (Some x) k h none half site =
     let q : SharedOf = record { node = node_without_faults x.node; half = one; deaf = w.agent.deaf; agent_since_miss = w.since_miss; device_since_miss = x.since_miss; packets = x.packets; history = history_of eid w.history } in
     count_stays w v s eid (seen_of q) (linked_world w (known_links opening w k)) h (world_follows law opening w v s k h) (sees w eid (Some one) (Some x) q half site refl) none
 
--- A count of failures changes only where a bank is called.
+-- A count of failures changes only if a bank is called.
 pub counts_need_calls : LaneIsACell → LinksAreLanes → LinksAreMessages → CountsNeedCalls
 counts_need_calls law lanes messages w v s reached h none device =
     count_by law reached.opening w v s device (half_for w.agent device) (site_for w.sites device) (stands_there law lanes messages w reached) h none refl refl

@@ -1,5 +1,5 @@
--- What is between the agent and a device after a step of the world: it depends on what was between them, on the time, on the
--- packages, and on the step of their link that the step is.
+-- The state between the agent and a device after a step of the world: it depends on the state
+-- before, on the time, on the packages, and on the step of their link.
 use Rattle.std.proofs.Common.{◌≡◌, ◌∙◌, ◌==◌, ◌&&◌, ◌++◌, ℕ, Bool, true, false, is_some, append-nil, List, [], ◌∷◌, map, Option, Some, None, IsSomeAnd, inl, inr, refl, sym, ap, subst}
 use Rattle.std.proofs.lemmas.Bool.{eq-eqb}
 use Rattle.std.proofs.lemmas.Bool.Decides.{eqb_tells}
@@ -26,14 +26,15 @@ use Rattle.fw_steps.proofs.PacketsAreSafe.HistoryGrows.{quiet_history}
 use Rattle.fw_steps.proofs.PacketsAreSafe.KnownSteps.{gone_to}
 use Rattle.fw_steps.proofs.PacketsAreSafe.SafeStands.{Follows}
 
--- what is between the agent and a device: their link, the device's endpoint and terminus identifier, and what happened to it
+-- the state between the agent and a device: their link, the device's endpoint and terminus
+-- identifier, and its history
 pub record SeenOf : Type 0 where
   pub link : LinkOf
   pub endpoint : Endpoint
   pub tid : ℕ
   pub entries : List EntryOf
 
--- the world has this between them
+-- the world has this state between them
 pub record IsSeen (w : WorldOf) (eid : ℕ) (p : SeenOf) : Type 0 where
   pub link : link_at w eid ≡ Some p.link
   pub site : SiteOf
@@ -68,7 +69,7 @@ other_more : (device eid : ℕ) (history : List NotedOf) (es : List EntryOf) →
 other_more device eid history es e =
     history_more eid history (map (noted_of device) es) ∙ ap (λ xs. history_of eid history ++ xs) (history_other device eid es e) ∙ append-nil (history_of eid history)
 
--- what one device's link notes is of that device
+-- the entries of one device's link are of that device
 noted_there : (works : Bool) (s : Step) (w v : WorldOf) (own eid : ℕ) (step : LinkStep) (o : Option LinkOf) → Follows works s w v → link_at w own ≡ o → is_some o ≡ true
     → link_step works w.agent.endpoint.eid s own ≡ Some step → (own == eid) ≡ false → history_of eid v.history ≡ history_of eid w.history
 noted_there works s w v own eid step None f there some mine far = absurd (cc)
@@ -76,7 +77,7 @@ noted_there works s w v own eid step (Some d) f there some mine far =
     let g = gone_to w.now w.packages d step (link_at v own) (subst (λ o. LinkStepsTo w.now w.packages d o (link_at v own)) mine (f.goes own d there)) in
     ap (history_of eid) (f.taken own d step g.stepped there mine g.goes) ∙ other_more own eid w.history g.stepped.noted far
 
--- A step that is one of at most one link, and not of this.
+-- A step of the world is a step of at most one link, and not of this one.
 noted_elsewhere : (works : Bool) (s : Step) (w v : WorldOf) (own eid : ℕ) (o : Option LinkStep) → Follows works s w v → is_some (link_at w own) ≡ true
     → link_step works w.agent.endpoint.eid s own ≡ o → ((e : ℕ) → (own == e) ≡ false → link_step works w.agent.endpoint.eid s e ≡ None)
     → link_step works w.agent.endpoint.eid s eid ≡ None → history_of eid v.history ≡ history_of eid w.history
@@ -94,7 +95,7 @@ site_judged : (verdict : Verdict) (s : Option SiteOf) → verdict_fault verdict 
 site_judged verdict None e = absurd (cc)
 site_judged verdict (Some x) e = refl
 
--- Where its link takes no step, nothing happens to the device.
+-- If its link takes no step, the device's history is unchanged.
 unnoted : (works : Bool) (faults : ℕ) (w : WorldOf) (s : Step) (eid : ℕ) → AreLinked w → may_step w s ≡ None → Follows works s w (world_after works faults w s)
     → link_step works w.agent.endpoint.eid s eid ≡ None → history_of eid (world_after works faults w s).history ≡ history_of eid w.history
 unnoted works faults w (steps.Deliver device number node) eid k may f none =
@@ -110,7 +111,7 @@ unnoted works faults w s eid k may f none = ap (history_of eid) (quiet_history w
 
 -- THE STEP
 
--- what an option has
+-- the value of an option
 pub record FoundIn {A : Type 0} (o : Option A) (P : A → Type 0) : Type 0 where
   pub value : A
   pub is : o ≡ Some value
@@ -120,7 +121,7 @@ pub found_in : {A : Type 0} (P : A → Type 0) (o : Option A) → IsSomeAnd o P 
 found_in P None k = absurd k
 found_in P (Some x) k = record { value = x; is = refl; fact = k }
 
--- what is known of the device's node
+-- the facts about the device's node
 seen_node : (works : Bool) (faults : ℕ) (w : WorldOf) (s : Step) (eid : ℕ) (p : SeenOf) → AreLinked w → may_step w s ≡ None → Follows works s w (world_after works faults w s) → (i : IsSeen w eid p)
     → SiteIs i.site.node.endpoint (tid_then (link_step works w.agent.endpoint.eid s eid) i.site.node.tid) (count_if (calls_bank w.agent.endpoint.eid s eid) faults i.site.node.faults)
     (site_for (world_after works faults w s).sites eid)
@@ -153,7 +154,7 @@ seen_link works faults w s eid p (Some step) k may f i is =
       entries = ap (history_of eid) (f.taken eid p.link step g.stepped i.link is g.goes) ∙ own_more eid w.history g.stepped.noted ∙ ap (λ xs. xs ++ g.stepped.noted) i.entries;
     })
 
--- So what is between them goes with the link.
+-- The state between them changes with the link.
 pub seen_after : (works : Bool) (faults : ℕ) (w : WorldOf) (s : Step) (eid : ℕ) (p : SeenOf) → AreLinked w → may_step w s ≡ None → Follows works s w (world_after works faults w s)
     → IsSeen w eid p → IsSeen (world_after works faults w s) eid (seen_then w.now w.packages p (link_step works w.agent.endpoint.eid s eid))
 seen_after works faults w s eid p k may f i = seen_link works faults w s eid p (link_step works w.agent.endpoint.eid s eid) k may f i refl

@@ -1,4 +1,4 @@
--- A packet that comes to the agent, on the link of each device.
+-- A packet that is delivered to the agent, on the link of each device.
 use Rattle.std.proofs.Common.{◌≡◌, ◌≢◌, ◌∙◌, ◌==◌, ℕ, true, if◌then◌else◌, List, [], ◌++◌, Option, Some, None, Ok, inl, inr, refl, sym, ap, subst}
 use Rattle.std.specs.List.{AllByRecursion, filter}
 use Rattle.std.specs.Option.{option_map}
@@ -25,14 +25,14 @@ use Rattle.fw_steps.proofs.LinksAreLanes.Projection.{link_at, link_from}
 use Rattle.fw_steps.proofs.LinksAreLanes.Sendings.{GoesTo}
 use Rattle.fw_steps.proofs.LinksAreLanes.Sorted.{posted_behind}
 
--- The agent drops a packet where it is deaf, or where the packet comes from no device.
+-- The agent drops a packet if it is deaf, or if the packet is from no device.
 unmoved_at : (w : WorldOf) (bytes : List ℕ) (eid : ℕ) → agent_on_packet w.packages w.agent bytes w.now ≡ agent_unmoved w.agent → link_at (at_agent w bytes) eid ≡ link_at w eid
 unmoved_at w bytes eid e = ap (λ n. link_from w.since_miss (half_for n.agent eid) (site_for (posts w.now w.sites n.sent) eid)) e
 
 pub deaf_agent_at : (w : WorldOf) (bytes : List ℕ) (eid : ℕ) → w.agent.deaf ≢ 0 → link_at (at_agent w bytes) eid ≡ link_at w eid
 deaf_agent_at w bytes eid deaf = unmoved_at w bytes eid (rw (ne_eqb w.agent.deaf 0 deaf) refl)
 
--- a hearing agent, by who sent the packet
+-- a hearing agent, by the sender of the packet
 pub heard_from : (w : WorldOf) (bytes : List ℕ) (p : Head × List ℕ) → w.agent.deaf ≡ 0 → any_packet bytes ≡ Ok p
     → agent_on_packet w.packages w.agent bytes w.now ≡ agent_on_packet_at w.packages w.agent bytes w.now (half_place w.agent.halves p.0.source) (half_for w.agent p.0.source)
 heard_from w bytes p hears reads = rw (eq-eqb w.agent.deaf 0 hears, reads) refl
@@ -47,7 +47,7 @@ pub stranger_at : (w : WorldOf) (bytes : List ℕ) (p : Head × List ℕ) (eid :
 stranger_at w bytes p eid hears reads none =
     unmoved_at w bytes eid (heard_from w bytes p hears reads ∙ unheard w.packages w.agent bytes w.now (half_place w.agent.halves p.0.source) (half_for w.agent p.0.source) none)
 
--- the half that hears it
+-- the half that handles it
 abbrev pub heard_half : WorldOf → List ℕ → HalfOf TimedOf → HalfOf TimedOf
 heard_half w bytes h = (node_outcome_of roles.Agent w.agent.endpoint w.agent.tid (half_on_packet (session_core w.packages) true h bytes)).half
 
@@ -110,8 +110,8 @@ heard_links w bytes source eid h o s mine k home = elim (eqb_tells source eid) [
       (ap (λ ps. link_from w.since_miss o (option_map (with_packets w.now ps) s)) none ∙ ap (link_from w.since_miss o) (sym (none_behind w.now s)))
 ]
 
--- A packet from a device that comes to a hearing agent, and goes through the device's half, comes on the device's link, and on
--- no other.
+-- A packet from a device that is delivered to a hearing agent, and goes through the device's half,
+-- is delivered on the device's link, and on no other.
 pub agent_hears_at : (w : WorldOf) (bytes : List ℕ) (p : Head × List ℕ) (h : HalfOf TimedOf) (eid : ℕ) → w.agent.deaf ≡ 0 → any_packet bytes ≡ Ok p
     → half_for w.agent p.0.source ≡ Some h → IsPassed (half_on_packet (session_core w.packages) true h bytes)
     → AllByRecursion (GoesTo p.0.source) (all_packets h.unit (sent_in (half_on_packet (session_core w.packages) true h bytes)))

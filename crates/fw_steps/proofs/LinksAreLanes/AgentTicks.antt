@@ -1,4 +1,4 @@
--- What the agent's tick is for one of its devices.
+-- The agent's tick for one of its devices.
 use Rattle.std.proofs.Common.{◌≡◌, ◌≢◌, ◌∙◌, ◌+◌, ◌==◌, ◌≤◌, ◌<◌, ℕ, true, if◌then◌else◌, List, [], ◌∷◌, ◌++◌, flat_map, map, slice_set, Option, Some, None, IfSome, inl, inr, refl, sym, ap, subst}
 use Rattle.std.specs.List.{AllByRecursion, filter}
 use Rattle.std.specs.Option.{option_map}
@@ -38,7 +38,7 @@ same_half hs (Some i) = refl
 pub half_is_first : (hs : List (HalfOf TimedOf)) (eid : ℕ) → half_at hs (place_of hs eid) ≡ first_half hs eid
 half_is_first hs eid = same_half hs (place_of hs eid) ∙ ap (at_place hs) (same_place 0 hs eid) ∙ is_first half_peer hs eid
 
--- Where a half becomes another for the same device, the others stay.
+-- If a half is replaced by another for the same device, the other halves stay.
 pub half_set : (hs : List (HalfOf TimedOf)) (y : HalfOf TimedOf) (own eid p : ℕ) → place_of hs own ≡ Some p → y.peer ≡ own
     → half_at (slice_set hs p y) (place_of (slice_set hs p y) eid) ≡ (if own == eid then Some y else half_at hs (place_of hs eid))
 half_set hs y own eid p there is =
@@ -68,7 +68,7 @@ abbrev pub AreApart : List (HalfOf TimedOf) → Type 0
 AreApart [] = Unit {0}
 AreApart (h ∷ hs) = AllByRecursion (λ g. h.peer ≢ g.peer) hs × AreApart hs
 
--- what each half sends goes to its device
+-- the packets that each half sends go to its device
 abbrev pub SendsHome : (HalfOf TimedOf → List (List ℕ)) → HalfOf TimedOf → Type 0
 SendsHome g h = AllByRecursion (GoesTo h.peer) (g h)
 
@@ -99,7 +99,7 @@ sends_first g (h ∷ hs) eid k apart = elim (eqb_tells h.peer eid) [
       ∙ sends_first g hs eid k.1 apart.1 ∙ rw other.0 refl
 ]
 
--- a half of an agent that is deaf for so long, which keeps only what goes to its peer
+-- a half of an agent that is deaf for `deaf` ticks, which keeps only messages to its peer
 pub record IsHalfOf (deaf : ℕ) (h : HalfOf TimedOf) : Type 0 where
   pub asking : h.asker.deaf ≡ deaf
   pub answering : h.taker.deaf ≡ deaf
@@ -155,7 +155,7 @@ hearing_sends packages deaf hs eid soon k apart =
     ∙ ap (λ xs. sent_for again_packets (first_half hs eid) ++ xs) (sends_first (last_packets packages) hs eid (last_home packages deaf hs soon k) apart)
     ∙ parts_for packages deaf (first_half hs eid) soon (first_fact half_peer (IsHalfOf deaf) hs eid k)
 
--- What the agent's tick sends to a device is what the device's half sends in it.
+-- The packets to a device in the agent's tick are those of the device's half.
 pub agent_tick_sends_at : (packages : List PackageText) (n : AgentOf) (eid : ℕ) → AllByRecursion (IsHalfOf n.deaf) n.halves → AreApart n.halves
     → filter (is_to eid) (agent_tick_sends packages n) ≡ sent_for (ticked_packets packages) (half_for n eid)
 agent_tick_sends_at packages n eid k apart = elim (cases_lt 1 n.deaf) [
@@ -181,7 +181,7 @@ halves_after_tick packages now n k = elim (cases_lt 1 n.deaf) [
   | inr soon ↦ rw (le-leb n.deaf 1 soon) (agent_halves_after packages n.halves (all_soon n.deaf n.halves soon k))
 ]
 
--- The agent's half for a device, after the agent's tick, is that half after its own.
+-- The agent's half for a device, after the agent's tick, is that half after its own tick.
 pub agent_ticks_at : (packages : List PackageText) (now : ℕ) (n : AgentOf) (eid : ℕ) → AllByRecursion (IsHalfOf n.deaf) n.halves
     → half_for (agent_ticks packages now n) eid ≡ option_map (half_after_tick packages) (half_for n eid)
 agent_ticks_at packages now n eid k =

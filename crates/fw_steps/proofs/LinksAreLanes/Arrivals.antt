@@ -1,4 +1,4 @@
--- A packet that comes to a node of the world, on the link of each device.
+-- A packet that is delivered to a node of the world, on the link of each device.
 use Rattle.std.proofs.Common.{◌≡◌, ◌∙◌, ◌==◌, ℕ, Bool, true, false, if◌then◌else◌, List, ◌++◌, Option, Some, None, IfSome, Ok, refl, sym, ap}
 use Rattle.std.specs.Option.{option_map}
 use Rattle.mctp_ctl.specs.declared.answers.Endpoint.{Endpoint}
@@ -25,7 +25,7 @@ use Rattle.fw_steps.proofs.LinksAreLanes.Posting.{site_put}
 use Rattle.fw_steps.proofs.LinksAreLanes.Projection.{link_at, link_from}
 use Rattle.fw_steps.proofs.LinksAreLanes.Sorted.{posted_behind}
 
--- what a node makes of what went through its half
+-- a node after an outcome that went through its half
 pub finished_half : {C : Type 0} (role : Role) (endpoint : Endpoint) (tid : ℕ) (heard : HalfOutcome C) → IsPassed heard → (node_outcome_of role endpoint tid heard).half ≡ half_in heard
 finished_half role endpoint tid (HalfOutcome.Went h sent) k = refl
 finished_half role endpoint tid (HalfOutcome.Took h sent c answer) k = refl
@@ -112,7 +112,8 @@ heard_device_if : (since : ℕ) (here : Bool) (works : Bool) (faults now : ℕ) 
 heard_device_if since true works faults now bytes o s k = heard_device _ works faults now bytes o s (k refl)
 heard_device_if since false works faults now bytes o s k = refl
 
--- A packet that comes to a device, and goes through its half, comes on the device's link, and on no other.
+-- A packet that is delivered to a device, and goes through its half, is delivered on the device's
+-- link, and on no other.
 pub device_hears_at : (works : Bool) (faults : ℕ) (w : WorldOf) (bytes : List ℕ) (node eid : ℕ)
     → ((node == eid) ≡ true → IfSome (link_at w eid) (λ l. IsPassed (half_on_packet device_core works l.device bytes)))
     → link_at (at_device works faults w bytes (place_of w.sites node) (site_for w.sites node)) eid

@@ -1,4 +1,4 @@
--- Where a tick may be taken, each node of a link may count it, or miss it, as it does.
+-- If a tick may be taken, each node of a link may count it, or miss it.
 use Rattle.std.proofs.Common.{◌≡◌, ◌-◌, ◌^◌, ◌&&◌, ℕ, Bool, true, false, nat_lt, List, [], ◌∷◌, Option, Some, None, IfSome, refl, sym, subst}
 use Rattle.std.specs.List.{AllByRecursion, list_all}
 use Rattle.arrayvec.specs.declared.array_vec.ArrayVec.{ArrayVec}
@@ -15,7 +15,7 @@ use Rattle.fw_steps.proofs.LinksAreLanes.Posting.{site_eid, site_is_first, site_
 use Rattle.fw_steps.proofs.LinksAreLanes.Projection.{link_at, link_from}
 use Rattle.fw_steps.proofs.LinksAreLanes.Routes.{both_hold}
 
--- why it may be taken
+-- the conditions of a tick
 tick_allowed : (known soon may : Bool) → tick_fault known soon may ≡ None → (soon ≡ true) × (may ≡ true)
 tick_allowed false soon may e = absurd (cc)
 tick_allowed true false may e = absurd (cc)
@@ -26,7 +26,7 @@ each_passes : {A : Type 0} (f : A → Bool) (xs : List A) → list_all f xs ≡ 
 each_passes f [] e = tt
 each_passes f (x ∷ xs) e = let both = both_hold (f x) (list_all f xs) e in (both.0, each_passes f xs both.1)
 
--- the device of an identifier may
+-- the device with an identifier may
 site_may : (missed : List ℕ) (xs : List SiteOf) (eid : ℕ) → list_all (may_site_beat missed) xs ≡ true → IfSome (site_for xs eid) (λ x. may_site_beat missed x ≡ true)
 site_may missed xs eid e =
     subst (λ o. IfSome o (λ x. may_site_beat missed x ≡ true)) (sym (site_is_first xs eid))
@@ -56,7 +56,7 @@ tick_may missed w eid l may is =
     both_may missed.items (counts missed.items w.agent.endpoint.eid) (nat_lt w.now (2 ^ 32 - 1)) w.since_miss eid (half_for w.agent eid) (site_for w.sites eid) l is
     allowed.0 both.0 (site_may missed.items w.sites eid both.1) (site_of w.sites eid)
 
--- and the agent and each device may count it, or miss it, as they do
+-- and the agent and each device may count it, or miss it
 pub agent_may : (missed : ArrayVec ℕ 17 (Unit {0})) (w : WorldOf) → may_step w (steps.Tick missed) ≡ None → may_beat (counts missed.items w.agent.endpoint.eid) w.since_miss ≡ true
 agent_may missed w may =
     let allowed = tick_allowed (list_all (is_node w) missed.items) (nat_lt w.now (2 ^ 32 - 1)) (may_all_beat missed.items w) may in

@@ -1,4 +1,4 @@
--- A packet comes to a half, on both ways between it and the other.
+-- A packet is delivered to a half, on both ways between it and the other.
 use Rattle.pldm_base.specs.Limits.{reply_limit}
 use Rattle.std.proofs.Common.{◌≡◌, ◌≢◌, ◌⊎◌, ◌≤◌, ◌+◌, ◌==◌, ◌∙◌, ℕ, zero, suc, length, Bool, true, false, if◌then◌else◌, List, [], ◌∷◌, ◌++◌, slice_get, Option, Some, None, inl, inr, refl, sym, ap, subst, arith}
 use Rattle.std.specs.List.{AllByRecursion, filter}
@@ -21,7 +21,7 @@ use Rattle.fw_steps.proofs.LinksAreLanes.Routes.{answers_nothing, asks_nothing, 
 use Rattle.fw_steps.proofs.LinksAreLanes.Sorted.{lane_number, numbered_at}
 use Rattle.fw_steps.proofs.LinksAreLanes.Ways.{BothWays, IsOfEither, WaysGo, ways_go}
 
--- a living packet may come in its lane
+-- a living packet may be delivered in its lane
 may_come : (w : LaneOf) (number : ℕ) (end : End) (reply : List ℕ) (s : Sent) → length reply ≤ reply_limit w.unit → item_numbered w.packets number ≡ Some s → w.now ≤ s.date + 8
     → may_step w (LaneStepOf.Deliver number end reply) ≡ None
 may_come w number end reply s few is soon = rw (le-ltb (reply_limit w.unit) (length reply) few, is) (rw (le-ltb (s.date + 8) w.now soon) refl)
@@ -37,7 +37,7 @@ served_row (TakerRow.Repeats requests answer) run after e = tt
 served_row (TakerRow.TakesUp requests m head body) run after e = served_if (head.pldm_type == 5) (cell_take head.command body [] run) after e
 served_row (TakerRow.Strays requests m) run after e = absurd (cc)
 
--- the row of the half, and that of its end of the lane
+-- the row of the half, and the row of its end of the lane
 pub same_row : {A B : Type 0} (a : HalfOf A) (b : HalfOf B) (bytes : List ℕ) → b.unit ≡ a.unit → a.peer ≡ b.own → b.peer ≡ a.own → taker_row b.unit b.peer b.own a.taker bytes ≡ taker_row a.unit a.own a.peer a.taker bytes
 same_row a b bytes unit peer back = rw (unit, peer, back) refl
 
@@ -53,7 +53,7 @@ served_here law now a b ps h n s is soon =
     subst (λ o. cell_delivers w ends.Taker [] o h.answers.run ≡ Some f.run) is f.along in
     subst IsServed (same_row a b s.bytes h.unit h.peer h.back) (served_row (taker_row b.unit b.peer b.own a.taker s.bytes) h.answers.run f.run goes)
 
--- What a half hears, on both ways.
+-- A half's outcome of a packet, on both ways.
 pub record HearsAs {A B : Type 0} (now : Times) (a : HalfOf A) (b : HalfOf B) (ps : List Sent) (h : BothWays now a b ps) (heard : HalfOutcome A) (asked answered : List LaneStepOf) : Type 0 where
   pub passed : IsPassed heard
   pub ways : WaysGo now now a (half_in heard) b b ps (packets_with_messages a.unit now.now ps (sent_in heard)) asked answered h
@@ -123,7 +123,7 @@ hears_same : {A B : Type 0} (now : Times) (a : HalfOf A) (b : HalfOf B) (ps : Li
     → u ≡ x → v ≡ y → w ≡ z → HearsAs now a b ps h x y z → HearsAs now a b ps h u v w
 hears_same now a b ps h x u y v z w heard asked answered k = rw (heard, asked, answered) k
 
--- What a packet of the link is for a half.
+-- The outcome of a packet of the link for a half.
 abbrev pub HearsIt : {A B : Type 0} (core : CoreOf A) (works : Bool) (now : Times) (a : HalfOf A) (b : HalfOf B) (ps : List Sent) (h : BothWays now a b ps) (number : ℕ) (s : Sent) → Type 0
 HearsIt core works now a b ps h number s =
     HearsAs now a b ps h (half_on_packet core works a s.bytes)
@@ -167,7 +167,7 @@ comes_as_reply law core works now a b ps h number s is soon mine =
     (ap (λ m. answer_steps core works a m (number_in (is_of b.unit b.own a.own) ps number) s.bytes) far)
     (reply_comes law core works now a b ps h row n s refl (lane_number (is_of a.unit a.own b.own) ps number s is mine) soon)
 
--- a fact of all packets, of one of them
+-- a fact of all packets, for one of them
 pub fact_at : {A : Type 0} (P : A → Type 0) (xs : List A) (i : ℕ) (x : A) → AllByRecursion P xs → slice_get xs i ≡ Some x → P x
 fact_at P [] i x h e = absurd (cc)
 fact_at P (y ∷ ys) zero x h e = let is : y ≡ x = cc in rw is at h.0
@@ -183,7 +183,7 @@ comes_in : {A B : Type 0} (law : LaneIsACell) (core : CoreOf A) (works : Bool) (
 comes_in law core works now a b ps h number s is soon told (inl mine) = comes_as_reply law core works now a b ps h number s is soon mine
 comes_in law core works now a b ps h number s is soon told (inr mine) = comes_as_request law core works now a b ps h number s is soon told mine
 
--- A packet that comes to a half goes through, and both ways go on.
+-- A packet that is delivered to a half goes through, and both ways take their steps.
 pub hears_in_lane : {A B : Type 0} (law : LaneIsACell) (core : CoreOf A) (works : Bool) (now : Times) (a : HalfOf A) (b : HalfOf B) (ps : List Sent) (h : BothWays now a b ps)
     (number : ℕ) (s : Sent) → item_numbered ps number ≡ Some s → now.now ≤ s.date + 8 → TakenAnswerRoundTrips a.unit (half_on_packet core works a s.bytes)
     → HearsIt core works now a b ps h number s

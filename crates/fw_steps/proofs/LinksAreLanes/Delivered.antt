@@ -1,4 +1,4 @@
--- A packet that comes in the world comes on its device's link, and is nothing to the others.
+-- A packet that is delivered in the world is delivered on its device's link, and on no other.
 use Rattle.std.proofs.Common.{◌≡◌, ◌≢◌, ◌⊎◌, ◌∙◌, ◌+◌, ◌==◌, ◌≤◌, ℕ, Bool, true, false, if◌then◌else◌, List, [], Option, Some, None, IfSome, IsSomeAnd, Ok, inl, inr, refl, sym, ap, subst}
 use Rattle.std.specs.List.{AllByRecursion}
 use Rattle.std.specs.Option.{option_map}
@@ -37,7 +37,7 @@ pub record IsLinkOf (w : WorldOf) (eid : ℕ) (l : LinkOf) : Type 0 where
   pub asking : l.agent.asker.deaf ≡ w.agent.deaf
   pub answering : l.agent.taker.deaf ≡ w.agent.deaf
 
--- a packet of a link goes through the half to which it comes
+-- a packet of a link goes through the half that it is delivered to
 agent_passed : (law : LaneIsACell) (now : ℕ) (packages : List PackageText) (l : LinkOf) (number : ℕ) (p : Sent) → LinkExplained now l
     → item_numbered l.packets number ≡ Some p → now ≤ p.date + 8 → AnswerRoundTripsOn packages l sides.Agent true p.bytes → IsPassed (half_on_packet (session_core packages) true l.agent p.bytes)
 agent_passed law now packages l number p e is soon told =
@@ -77,7 +77,7 @@ device_deliver now packages l works number p is soon k =
     subst (λ o. IsSomeAnd (delivers_on now packages l sides.Device works o) (λ t. heard_on_device works now p.bytes l ≡ t.after)) (sym is)
     (rw (le-ltb (p.date + 8) now soon) (device_heard_after now works l (half_on_packet device_core works l.device p.bytes) k))
 
--- where a half hears nothing, its link stays
+-- if a half handles nothing, its link stays
 agent_same : (packages : List PackageText) (now : ℕ) (bytes : List ℕ) (l : LinkOf) → half_on_packet (session_core packages) true l.agent bytes ≡ HalfOutcome.Went l.agent []
     → heard_on_agent packages now bytes l ≡ l
 agent_same packages now bytes l e = ap (λ heard. record l { agent = half_in heard; packets = packets_with_messages l.agent.unit now l.packets (sent_in heard) }) e
@@ -94,7 +94,8 @@ link_packets (Some x) l k = k.1
 pub packets_on : (w : WorldOf) (eid : ℕ) (l : LinkOf) → link_at w eid ≡ Some l → packets_of w eid ≡ l.packets
 packets_on w eid l is = link_packets (site_for w.sites eid) l (link_site _ (half_for w.agent eid) (site_for w.sites eid) l is)
 
--- The agent: whoever sent the packet, and even where the agent is deaf, it comes on the device's link alone.
+-- The agent: a packet from any sender, even if the agent is deaf, is delivered only on the device's
+-- link.
 on_its_link : (w : WorldOf) (packages : List PackageText) (bytes : List ℕ) (device eid : ℕ) (d : LinkOf) → link_at w device ≡ Some d
     → half_on_packet (session_core packages) true d.agent bytes ≡ HalfOutcome.Went d.agent []
     → link_at w eid ≡ (if device == eid then option_map (heard_on_agent packages w.now bytes) (link_at w eid) else link_at w eid)
@@ -134,7 +135,7 @@ agent_gets w bytes device eid d k there own between passed = elim (eqb_tells w.a
       (deaf_hears_nothing (session_core w.packages) true d.agent bytes (λ z. deaf.1 (sym k.asking ∙ z)) (λ z. deaf.1 (sym k.answering ∙ z)))
 ]
 
--- what isn't for the link's nodes
+-- a packet that isn't for the link's nodes
 comes_none : (works : Bool) (number : ℕ) (mine : Bool) → where_mine mine (comes_as works number false false) ≡ None
 comes_none works number true = refl
 comes_none works number false = refl
@@ -151,7 +152,7 @@ strange_packet works l d bytes g agent device =
     (λ q e. let same : (g.head, g.body) ≡ q = (let both : Ok (g.head, g.body) ≡ Ok q = sym g.reads ∙ e in cc) in
     subst (λ x. x.0.dest ≢ l.device.own) same (neither g.head.source g.head.dest l.device.own d.agent.own d.device.own agent device g.ends))
 
--- A device: a packet comes on its link alone.
+-- A device: a packet is delivered only on its link.
 pub device_gets : (law : LaneIsACell) (works : Bool) (faults : ℕ) (w : WorldOf) (device number node eid : ℕ) (d l : LinkOf) (p : Sent) → IsLinkOf w device d → IsLinkOf w eid l
     → link_at w device ≡ Some d → link_at w eid ≡ Some l → item_numbered d.packets number ≡ Some p → w.now ≤ p.date + 8 → node ≢ w.agent.endpoint.eid
     → (node ≡ device → AnswerRoundTripsOn w.packages d sides.Device works p.bytes)

@@ -1,4 +1,4 @@
--- The first of a list that has this key.
+-- The first element of a list with this key.
 use Rattle.std.proofs.Common.{◌≡◌, ◌≢◌, ◌∙◌, ◌+◌, ◌==◌, ℕ, suc, Bool, true, false, if◌then◌else◌, List, [], ◌∷◌, map, slice_get, slice_set, Option, Some, None, IfSome, inl, inr, refl, sym, ap, subst, arith}
 use Rattle.std.specs.List.{AllByRecursion}
 use Rattle.std.specs.Option.{option_map}
@@ -9,12 +9,12 @@ abbrev pub first_of : {A : Type 0} → (A → ℕ) → List A → ℕ → Option
 first_of key [] eid = None
 first_of key (x ∷ xs) eid = if key x == eid then Some x else first_of key xs eid
 
--- where it stands, counted from a number on
+-- its place, with places counted from a number
 abbrev pub place_by : {A : Type 0} → (A → ℕ) → ℕ → List A → ℕ → Option ℕ
 place_by key n [] eid = None
 place_by key n (x ∷ xs) eid = if key x == eid then Some n else place_by key (n + 1) xs eid
 
--- what stands there
+-- the element at a place
 abbrev pub at_place : {A : Type 0} → List A → Option ℕ → Option A
 at_place xs None = None
 at_place xs (Some i) = slice_get xs i
@@ -38,14 +38,14 @@ first_by : {A : Type 0} (here : Bool) (x : A) (xs : List A) (p : Option ℕ) (o 
 first_by true x xs p o e = refl
 first_by false x xs p o e = e
 
--- What stands in its place is the first.
+-- The element at that place is the first.
 pub is_first : {A : Type 0} (key : A → ℕ) (xs : List A) (eid : ℕ) → at_place xs (place_by key 0 xs eid) ≡ first_of key xs eid
 is_first key [] eid = refl
 is_first key (x ∷ xs) eid =
     first_by (key x == eid) x xs (place_by key 1 xs eid) (first_of key xs eid)
     (ap (at_place (x ∷ xs)) (place_further key 0 xs eid) ∙ at_further x xs (place_by key 0 xs eid) ∙ is_first key xs eid)
 
--- a fact of all, of the first
+-- a fact of all, for the first
 first_fact_by : {A : Type 0} (P : A → Type 0) (here : Bool) (x : A) (o : Option A) → P x → IfSome o P → IfSome (if here then Some x else o) P
 first_fact_by P true x o k ks = k
 first_fact_by P false x o k ks = ks
@@ -54,7 +54,7 @@ pub first_fact : {A : Type 0} (key : A → ℕ) (P : A → Type 0) (xs : List A)
 first_fact key P [] eid k = tt
 first_fact key P (x ∷ xs) eid k = first_fact_by P (key x == eid) x (first_of key xs eid) k.0 (first_fact key P xs eid k.1)
 
--- it has the key
+-- the first has the key
 key_by : {A : Type 0} (key : A → ℕ) (here : Bool) (x : A) (o : Option A) (eid : ℕ) → (here ≡ true → key x ≡ eid) → IfSome o (λ y. key y ≡ eid) → IfSome (if here then Some x else o) (λ y. key y ≡ eid)
 key_by key true x o eid k ks = k refl
 key_by key false x o eid k ks = ks
@@ -74,7 +74,7 @@ first_changed key f same (x ∷ xs) eid =
     ap (λ p. if p == eid then Some (f x) else first_of key (map f xs) eid) (same x)
     ∙ changed_by (key x == eid) f x (first_of key xs eid) (first_of key (map f xs) eid) (first_changed key f same xs eid)
 
--- one becomes another of the same key
+-- one is replaced by another with the same key
 put_by : {A : Type 0} (here : Bool) (x y : A) (o : Option A) → (if here then Some y else o) ≡ (if here then Some y else if here then Some x else o)
 put_by true x y o = refl
 put_by false x y o = refl
@@ -114,7 +114,7 @@ first_set key (x ∷ xs) y own eid p there is = elim (eqb_tells (key x) own) [
       put_further key x y xs own eid p (place_by key 0 xs own) other.1 refl (sym (place_further key 0 xs own) ∙ at) (λ q e. first_set key xs y own eid q e is)
 ]
 
--- what stands there becomes what this makes of it
+-- the element there is changed by a function
 abbrev pub put_at : {A : Type 0} → (A → A) → List A → Option ℕ → Option A → List A
 put_at g xs None x = xs
 put_at g xs (Some p) None = xs

@@ -1,4 +1,4 @@
--- A lane that is explained goes on by steps that may be taken, and its cell goes along.
+-- A lane that is explained takes steps that may be taken, and its cell takes them too.
 use Rattle.mctp_wire.specs.declared.unit.Unit.{«Unit»}
 use Rattle.std.proofs.Common.{◌≡◌, ◌∙◌, ℕ, List, [], ◌∷◌, ◌++◌, Option, Some, None, IsSomeAnd, refl, sym, ap, subst}
 use Rattle.std.specs.Option.{option_and_then}
@@ -31,7 +31,7 @@ follows_to : (w : LaneOf) (ss : List LaneStepOf) (was : CellRun) (o : Option Cel
 follows_to w ss was None along h = absurd h
 follows_to w ss was (Some run) along h = record { run = run; along = along; cell = h }
 
--- a lane to which steps led, and its cell
+-- a lane that steps reached, and its cell
 follows_from : (law : LaneIsACell) (u : «Unit») (asker taker : ℕ) (before : List LaneStepOf) (w : LaneOf) (was : CellRun) (ss : List LaneStepOf) → AreEnds asker taker
     → MayRun (lane_new u asker taker) before → lane_run (lane_new u asker taker) before ≡ w → cells_along (lane_new u asker taker) before (Some no_cell_yet) ≡ Some was
     → MayRun w ss → Follows w ss was
@@ -45,12 +45,12 @@ follows_from law u asker taker before w was ss ends may is along more =
     (subst (λ v. IsSomeAnd (cells_along start (before ++ ss) (Some no_cell_yet)) (IsCellOf v)) runs
     (law u asker taker (before ++ ss) ends (may_behind start before ss may (subst (λ v. MayRun v ss) (sym is) more)))))
 
--- What is explained goes on.
+-- A lane that is explained takes its steps.
 pub follows : (law : LaneIsACell) (u : «Unit») (asker taker : ℕ) (lane : List LaneEntryOf → LaneOf) (e : Explained u asker taker lane) (ss : List LaneStepOf) → AreEnds asker taker
     → MayRun (lane e.run.entries) ss → Follows (lane e.run.entries) ss e.run
 follows law u asker taker lane e ss ends may = follows_from law u asker taker e.steps (lane e.run.entries) e.run ss ends e.may e.is e.along may
 
--- And it is explained again, where these steps lead to a lane.
+-- And it is explained again, if these steps give a lane.
 pub record LaneGoes (u : «Unit») (asker taker : ℕ) (before after : List LaneEntryOf → LaneOf) (ss : List LaneStepOf) (was : CellRun) : Type 0 where
   pub explained : Explained u asker taker after
   pub goes : StepsLane before after ss was explained.run

@@ -18,7 +18,7 @@ use Rattle.fw_node.specs.Nodes.{TakenAnswerRoundTrips}
 use Rattle.fw_steps.specs.Lanes.{Times, turned_times, abandon_steps, lane_of, learn_steps, reply_in, settle_steps, take_steps, unless_wished}
 use Rattle.fw_steps.specs.Links.{packets_with_messages}
 
--- a half after what it heard, and what it sends
+-- a half after its outcome, and the messages that it sends
 abbrev pub half_in : {C : Type 0} → HalfOutcome C → HalfOf C
 half_in (HalfOutcome.Went h sent) = h
 half_in (HalfOutcome.Took h sent c answer) = h
@@ -30,13 +30,13 @@ sent_in (HalfOutcome.Went h sent) = sent
 sent_in (HalfOutcome.Took h sent c answer) = sent
 sent_in heard = []
 
--- it is no request of another PLDM type, and no stray
+-- an outcome that is no request of another PLDM type, and no stray
 abbrev pub IsPassed : {C : Type 0} → HalfOutcome C → Type 0
 IsPassed (HalfOutcome.Went h sent) = Prim.Unit {0}
 IsPassed (HalfOutcome.Took h sent c answer) = Prim.Unit {0}
 IsPassed heard = ⊥
 
--- what isn't wished is given up
+-- a request that is no longer the pending command is given up
 abandoned_run : {A B : Type 0} (wished : Bool) (now : Times) (a : HalfOf A) (b : HalfOf B) (ps : List Sent) (es : List LaneEntryOf)
     → lane_run (lane_of now a b ps es) (unless_wished wished []) ≡ lane_of now (with_caller a (kept_if wished a.asker.caller)) b ps es
 abandoned_run true now a b ps es = refl
@@ -55,7 +55,8 @@ abandons_may : (wish : Option CommandOf) (asked : Option Open) (w : LaneOf) → 
 abandons_may wish None w is = tt
 abandons_may wish (Some o) w is = abandoned_may (still_wished wish o) w (rw is refl)
 
--- where a call changes a half's core, its lane gives up what isn't wished
+-- if a call changes a half's core, its lane gives up a request that is no longer the pending
+-- command
 pub settles_in_lane : {A B : Type 0} (core : CoreOf A) (x : A) (now : Times) (a : HalfOf A) (b : HalfOf B) (ps : List Sent) (es : List LaneEntryOf)
     → lane_run (lane_of now a b ps es) (settle_steps core a.asker.caller.asked x) ≡ lane_of now (half_after_settle core (record a { core = x })) b ps es
 settles_in_lane core x now a b ps es = abandons_run (core.wish x) a.asker.caller.asked now (record a { core = x }) b ps es
@@ -64,13 +65,13 @@ pub may_settle : {A B : Type 0} (core : CoreOf A) (x : A) (now : Times) (a : Hal
     → MayRun (lane_of now a b ps es) (settle_steps core a.asker.caller.asked x)
 may_settle core x now a b ps es = abandons_may (core.wish x) a.asker.caller.asked (lane_of now a b ps es) refl
 
--- what fits the smaller transmission unit fits each
+-- a length that fits the smaller transmission unit fits each
 pub fits_each : (u : «Unit») (n : ℕ) → n ≤ reply_limit U64 → n ≤ reply_limit u
 fits_each U64 n fits = fits
 fits_each U128 n fits = omega (arith, fits)
 
--- A request at a half: in the lane in which it answers, it is taken with the half's reply; in the lane in which it asks, what
--- isn't wished any more is given up.
+-- A request at a half: in the lane in which it answers, it is taken with the half's reply; in the
+-- lane in which it asks, a request that is no longer the pending command is given up.
 pub record TakesIn {A B : Type 0} (now : Times) (a : HalfOf A) (b : HalfOf B) (row : TakerRow) (reply : List ℕ) (settles : List LaneStepOf) (heard : HalfOutcome A) : Type 0 where
   pub passed : IsPassed heard
   pub unit : (half_in heard).unit ≡ a.unit
@@ -156,8 +157,8 @@ takes_in core works now a b (TakerRow.TakesUp requests m head body) served told 
     takes_if_in (head.pldm_type == 5) core works now a b requests m head body served told
 takes_in core works now a b (TakerRow.Strays requests m) served told = absurd served
 
--- A reply at a half: in the lane in which it asks, it is learnt, and what isn't wished any more is given up; in the lane in
--- which it answers, nothing happens.
+-- A reply at a half: in the lane in which it asks, it is learned, and a request that is no longer
+-- the pending command is given up; in the lane in which it answers, nothing changes.
 pub record LearnsIn {A B : Type 0} (now : Times) (a : HalfOf A) (b : HalfOf B) (row : AskerRow) (settles : List LaneStepOf) (heard : HalfOutcome A) : Type 0 where
   pub passed : IsPassed heard
   pub unit : (half_in heard).unit ≡ a.unit

@@ -45,7 +45,7 @@ ways_turned : {A B : Type 0} (now later : Times) (a x : HalfOf A) (b y : HalfOf 
     → WaysGo (turned_times now) (turned_times later) b y a x ps qs ts ss (turned now a b ps h) → WaysGo now later a x b y ps qs ss ts h
 ways_turned now later a x b y ps qs ss ts h w = record { same = record { unit = w.same.other_unit; own = w.same.other; peer = w.same.back; other_unit = w.same.unit; other = w.same.own; back = w.same.peer }; explained = turned (turned_times later) y x qs w.explained; asks = w.answers; answers = w.asks }
 
--- A link takes a step, and both ways go on.
+-- A link takes a step, and both ways take theirs.
 pub record LinkGoes (now later : ℕ) (l : LinkOf) (e : LinkExplained now l) (o : Option LinkStepped) (ds us : List LaneStepOf) : Type 0 where
   pub stepped : LinkStepped
   pub after : o ≡ Some stepped
@@ -68,7 +68,7 @@ in_lanes now packages l s e g =
       up = g.ways.answers;
     }
 
--- what was heard, on the link
+-- the outcome, on the link
 agent_goes : (now : ℕ) (packages : List PackageText) (l : LinkOf) (e : LinkExplained now l) (heard : HalfOutcome TimedOf) (ds us : List LaneStepOf) → IsPassed heard
     → WaysGo (times_of now l) (times_of now l) l.agent (half_in heard) l.device l.device l.packets (packets_with_messages l.agent.unit now l.packets (sent_in heard)) ds us (ways_of now l e)
     → (half_in heard).core.session.unit ≡ l.agent.core.session.unit
@@ -86,7 +86,8 @@ device_goes now works l e (HalfOutcome.Took half sent command answer) ds us pass
 device_goes now works l e (HalfOutcome.Asks half m head body) ds us passed ways = absurd passed
 device_goes now works l e (HalfOutcome.Strayed half m) ds us passed ways = absurd passed
 
--- what is told of one unit is told of another that is the same; and what fits the smaller fits each
+-- an answer that round-trips at one unit does at an equal one; and a length that fits the smaller
+-- unit fits each
 pub told_fits : {C : Type 0} (u v : «Unit») (heard : HalfOutcome C) → u ≡ v → TakenAnswerRoundTrips u heard → TakenAnswerRoundTrips v heard
 told_fits u v heard same told = subst (λ n. TakenAnswerRoundTrips n heard) same told
 
@@ -96,7 +97,7 @@ told_any u (HalfOutcome.Took half sent command answer) told = record { reads = t
 told_any u (HalfOutcome.Asks half m head body) told = tt
 told_any u (HalfOutcome.Strayed half m) told = tt
 
--- a packet comes
+-- a packet is delivered
 hears_go : (law : LaneIsACell) (now : ℕ) (packages : List PackageText) (l : LinkOf) (e : LinkExplained now l) (to : Side) (works : Bool) (number : ℕ) (p : Sent)
     → item_numbered l.packets number ≡ Some p → now ≤ p.date + 8 → AnswerRoundTripsOn packages l to works p.bytes
     → LinkGoes now now l e (link_step_of_packet now packages l to works p.bytes) (down_packet_steps packages l to works number (Some p)) (up_packet_steps packages l to works number (Some p))

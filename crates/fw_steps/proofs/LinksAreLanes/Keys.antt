@@ -1,4 +1,4 @@
--- The devices of a world, and the agent's halves for them, stay those that they were.
+-- The devices of a world, and the agent's halves for them, stay the same.
 use Rattle.std.proofs.Common.{◌≡◌, ◌∙◌, ◌+◌, ◌==◌, ℕ, Bool, true, false, if◌then◌else◌, List, [], ◌∷◌, map, Option, Some, None, refl, sym, ap}
 use Rattle.std.specs.List.{AllByRecursion}
 use Rattle.exch_lane.specs.Lanes.{Sent, item_numbered}
@@ -20,7 +20,7 @@ use Rattle.fw_steps.proofs.LinksAreLanes.Posting.{same_site, site_eid, with_pack
 use Rattle.fw_steps.proofs.LinksAreLanes.Projection.{becomes_put, goes_on_eid, judged_site, judges_agent, judges_put, restarts_put}
 use Rattle.fw_steps.proofs.LinksAreLanes.Ticks.{same_ticked}
 
--- the identifiers of the devices, and of those that the agent has halves for
+-- the identifiers of the devices, and of the agent's halves
 abbrev pub eids_of : WorldOf → List ℕ
 eids_of w = map site_eid w.sites
 

@@ -1,4 +1,4 @@
--- A world whose links are explained, one after the other, is linked.
+-- A world of which each link is explained is linked.
 use Rattle.std.proofs.Common.{◌≡◌, ◌≢◌, ◌∙◌, ℕ, zero, suc, true, is_some, List, [], ◌∷◌, map, slice_get, Option, Some, None, IsSomeAnd, inl, inr, refl, sym, ap, subst}
 use Rattle.std.specs.List.{AllByRecursion}
 use Rattle.std.proofs.lemmas.Bool.Decides.{eqb_tells}
@@ -21,13 +21,14 @@ use Rattle.fw_steps.proofs.LinksAreLanes.Projection.{link_at, link_from}
 use Rattle.fw_steps.proofs.LinksAreLanes.Sendings.{routed_half}
 use Rattle.fw_steps.proofs.LinksAreLanes.WorldSteps.{AreLinked}
 
--- the devices are different, the agent has a half for each, in the same order, and each link is explained
+-- the devices are different, the agent has a half for each, in the same order, and each link is
+-- explained
 pub record KnownLinks (w : WorldOf) : Type 0 where
   pub halves : peers_of w ≡ eids_of w
   pub apart : AreDifferent (w.agent.endpoint.eid ∷ eids_of w)
   pub links : (i eid : ℕ) (l : LinkOf) → slice_get (eids_of w) i ≡ Some eid → slice_get (links_of w) i ≡ Some l → IsLinkOf w eid l
 
--- where something stands
+-- the place of an element
 pub record Stood {A : Type 0} (xs : List A) (x : A) : Type 0 where
   pub place : ℕ
   pub at : slice_get xs place ≡ Some x

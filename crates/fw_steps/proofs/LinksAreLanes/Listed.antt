@@ -13,7 +13,7 @@ use Rattle.fw_steps.proofs.LinksAreLanes.Firsts.{at_place, first_of, put_at}
 use Rattle.fw_steps.proofs.LinksAreLanes.Posting.{site_eid, site_is_first}
 use Rattle.fw_steps.proofs.LinksAreLanes.Projection.{link_at, link_from}
 
--- a fact of each, one after the other
+-- a fact of each element, in both forms
 pub every : {A : Type 0} (P : A → Type 0) (xs : List A) → All P xs → AllByRecursion P xs
 every P [] h = tt
 every P (x ∷ xs) h = (h zero x (omega arith), every P xs (λ k d lt. h (suc k) d (omega (arith, lt))))
@@ -28,7 +28,7 @@ get_map f [] i y e = absurd (cc)
 get_map f (x ∷ xs) zero y e = let is : f x ≡ y = cc in is
 get_map f (x ∷ xs) (suc i) y e = get_map f xs i y e
 
--- where no key stands twice, what stands in a place is the first of its key
+-- if no key is there twice, the element at a place is the first of its key
 first_in_place : {A : Type 0} (key : A → ℕ) (xs : List A) (i : ℕ) (x : A) → AreDifferent (map key xs) → slice_get xs i ≡ Some x → first_of key xs (key x) ≡ Some x
 first_in_place key [] i x apart e = absurd (cc)
 first_in_place key (y ∷ ys) zero x apart e = let is : y ≡ x = cc in rw (eq-eqb (key y) (key x) (ap key is)) (ap Some is)
@@ -62,7 +62,7 @@ link_in_place since (h ∷ hs) [] i = no_link _ (slice_get (h ∷ hs) i)
 link_in_place since (h ∷ hs) (x ∷ xs) zero = refl
 link_in_place since (h ∷ hs) (x ∷ xs) (suc i) = link_in_place _ hs xs i
 
--- The link in a place is that of the device there.
+-- The link at a place is that of the device there.
 pub link_by_place : (w : WorldOf) (i eid : ℕ) → map half_peer w.agent.halves ≡ map site_eid w.sites → AreDifferent (map site_eid w.sites)
     → slice_get (map site_eid w.sites) i ≡ Some eid → slice_get (links_of w) i ≡ link_at w eid
 link_by_place w i eid same apart there =
@@ -71,7 +71,7 @@ link_by_place w i eid same apart there =
     (first_by_place half_peer w.agent.halves i eid (subst AreDifferent (sym same) apart) (ap (λ ks. slice_get ks i) same ∙ there) ∙ sym (half_is_first w.agent.halves eid))
     ∙ ap (link_from w.since_miss _) (first_by_place site_eid w.sites i eid apart there ∙ sym (site_is_first w.sites eid))
 
--- two lists with the same in each place
+-- two lists with the same elements at each place
 pub same_places : {A : Type 0} (xs ys : List A) → ((i : ℕ) → slice_get xs i ≡ slice_get ys i) → xs ≡ ys
 same_places [] [] e = refl
 same_places [] (y ∷ ys) e = absurd (let z = e 0 in cc)
@@ -81,7 +81,7 @@ same_places (x ∷ xs) (y ∷ ys) e =
     let is : x ≡ y = cc in
     rw (is, same_places xs ys (λ i. e (suc i))) refl
 
--- WHAT KEEPS THE KEYS
+-- STEPS THAT KEEP THE KEYS
 
 pub set_keys : {A : Type 0} (key : A → ℕ) (xs : List A) (i : ℕ) (x y : A) → slice_get xs i ≡ Some x → key y ≡ key x → map key (slice_set xs i y) ≡ map key xs
 set_keys key [] i x y e same = refl

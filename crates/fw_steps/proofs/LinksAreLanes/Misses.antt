@@ -1,4 +1,4 @@
--- A packet that isn't for a half, or comes to a deaf one, changes nothing.
+-- A packet that isn't for a half, or is delivered to a deaf one, changes nothing.
 use Rattle.std.proofs.Common.{◌≡◌, ◌≢◌, ◌⊎◌, ◌≤◌, ◌+◌, ◌%◌, ◌∙◌, ℕ, ◌==◌, ◌&&◌, not, nat_lt, Bool, true, false, if◌then◌else◌, List, [], ◌∷◌, length, Some, None, Ok, Err, Result, inl, inr, refl, ap, arith}
 use Rattle.std.proofs.lemmas.Bool.{cases_lt, eqb-true, le-ltb, lt-ltb, ne_eqb}
 use Rattle.mctp_wire.specs.declared.unit.Unit.{«Unit»}
@@ -27,7 +27,7 @@ silent_half core works h bytes asks answers =
     ap (λ r. half_on_rows core works h r (taker_row h.unit h.own h.peer h.taker bytes)) asks
     ∙ ap (half_on_rows core works h (AskerRow.Ignores h.asker.replies)) answers
 
--- what is a packet at one transmission unit is one for who only asks who sent it
+-- bytes that are a packet at one transmission unit are a packet for reading its source
 if_short : {A : Type 0} (version empty long longer : Bool) (x y : A) → (long ≡ false → longer ≡ false)
     → ◌≡◌ {A = Result A WireFault} (if version then Err Version else if empty then Err Empty else if long then Err TooLong else Ok x) (Ok y)
     → ◌≡◌ {A = Result A WireFault} (if version then Err Version else if empty then Err Empty else if longer then Err TooLong else Ok x) (Ok y)
@@ -67,7 +67,7 @@ others_packet core works h bytes far =
     (silent_asker h.unit h.asker h.own h.peer bytes (missed_by h.own h.peer false (wire.packet_of h.unit bytes) misses))
     (silent_taker h.unit h.taker h.own h.peer bytes (missed_by h.own h.peer true (wire.packet_of h.unit bytes) misses))
 
--- A deaf half hears nothing.
+-- A deaf half handles nothing.
 pub deaf_hears_nothing : {C : Type 0} (core : CoreOf C) (works : Bool) (h : HalfOf C) (bytes : List ℕ) → h.asker.deaf ≢ 0 → h.taker.deaf ≢ 0
     → half_on_packet core works h bytes ≡ HalfOutcome.Went h []
 deaf_hears_nothing core works h bytes asker taker =
@@ -104,7 +104,7 @@ between_either : (u v : «Unit») (x y : ℕ) (bytes : List ℕ) → (in_lane u 
 between_either u v x y bytes (inl e) = goes_between u x y bytes e
 between_either u v x y bytes (inr e) = between_turned x y bytes (goes_between v y x bytes e)
 
--- A packet of a link that can still come goes between its two nodes.
+-- A packet of a link that can still be received goes between its two nodes.
 pub link_packet_between : (now : ℕ) (l : LinkOf) (number : ℕ) (s : Sent) → LinkExplained now l → item_numbered l.packets number ≡ Some s → now ≤ s.date + 8
     → GoesBetween l.agent.own l.device.own s.bytes
 link_packet_between now l number s e is soon =

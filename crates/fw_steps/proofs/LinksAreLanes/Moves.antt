@@ -1,4 +1,4 @@
--- What a half does, on both ways between it and the other.
+-- The calls and ticks of a half, on both ways between it and the other.
 use Rattle.std.proofs.Common.{◌≡◌, ◌<◌, ◌+◌, ◌-◌, ◌^◌, ◌∙◌, Bool, true, List, [], ◌∷◌, ◌++◌, refl, sym, ap, arith}
 use Rattle.std.specs.List.{filter}
 use Rattle.std.proofs.lemmas.List.{append-nil}
@@ -41,7 +41,7 @@ tick_ways law f g asker taker now a b ps h soon may allowed fits speaks =
     (ticks_come f g asker taker now a b ps h.asks.run.entries soon may allowed fits)
     (ticks_come g f taker asker (turned_times now) b a ps h.answers.run.entries soon allowed may speaks)
 
--- a way on which nothing happens
+-- a way without a step
 nothing_comes : {A B : Type 0} (now : Times) (b : HalfOf B) (a x : HalfOf A) (ps : List Sent) (es : List LaneEntryOf)
     → ((qs : List Sent) (fs : List LaneEntryOf) → lane_of now b a qs fs ≡ lane_of now b x qs fs) → Comes now now b b a x ps [] es []
 nothing_comes now b a x ps es same = record {

@@ -1,4 +1,4 @@
--- A link on which nothing was sent yet is explained.
+-- A link without packets is explained.
 use Rattle.mctp_wire.specs.declared.unit.Unit.{«Unit»}
 use Rattle.std.proofs.Common.{◌≡◌, ℕ, List, [], refl, ap}
 use Rattle.std.specs.List.{AllByRecursion, filter}
@@ -15,7 +15,7 @@ pub record IsNewHalf {C : Type 0} (h : HalfOf C) : Type 0 where
   pub asker : h.asker ≡ asker_new h.own h.peer 0
   pub taker : h.taker ≡ taker_new 0
 
--- the lane of these is a new one
+-- the lane of new halves is a new lane
 new_lane : (u : «Unit») (own peer other : ℕ) (asker : AskerOf) (taker : TakerOf) (packets : List Sent) → asker ≡ asker_new own peer 0 → taker ≡ taker_new 0 → packets ≡ []
     → peer ≡ other
     → ◌≡◌ {A = LaneOf} (lane_new u own other) (record { unit = u; asker_eid = own; taker_eid = peer; now = 0; asker_since_miss = 8; taker_since_miss = 8; asker = asker; taker = taker; packets = packets; entries = [] })

@@ -1,4 +1,5 @@
--- A tick of the agent, all of whose halves do each part before the next begins, is a tick of each half.
+-- A tick of the agent, all of whose halves do each part before the next begins, is a tick of each
+-- half.
 use Rattle.std.proofs.Common.{◌≡◌, ◌∙◌, ◌≤◌, ◌<◌, ◌-◌, ◌++◌, ◌∷◌, [], true, List, map, refl, ap, arith}
 use Rattle.std.proofs.lemmas.Bool.{le-leb, lt-leb, ne_eqb}
 use Rattle.std.proofs.lemmas.Grind.{flat_map-append}
@@ -19,7 +20,8 @@ by_call packages h CallTickOf.Nothing = refl
 by_call packages h (CallTickOf.Send m) = refl
 by_call packages h CallTickOf.GaveUp = refl
 
--- A half of the agent that hears after a tick: it grows older, waits, and ends the tick; what it sends again stands first.
+-- A half of the agent that hears after a tick: it grows older, waits, and ends the tick; the
+-- message that it sends again comes first.
 pub agent_half_ticks : (packages : List PackageText) (h : HalfOf TimedOf) → h.asker.deaf ≤ 1 → h.taker.deaf ≤ 1
     → half_ticks (session_core packages) true h
     ≡ behind (sent_by (caller_tick h.asker.caller).1) (last_part (session_core packages) (session_half_idle packages (session_half_aged packages h)) [])

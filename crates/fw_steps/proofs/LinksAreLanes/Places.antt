@@ -12,7 +12,7 @@ use Rattle.fw_steps.proofs.LinksAreLanes.Listed.{every, link_by_place, link_in_p
 use Rattle.fw_steps.proofs.LinksAreLanes.Posting.{site_eid}
 use Rattle.fw_steps.proofs.LinksAreLanes.Projection.{link_at, link_from}
 
--- a list with another in one place
+-- a list with another element at one place
 set_there : {A : Type 0} (xs : List A) (i : ℕ) (x y : A) → slice_get xs i ≡ Some x → slice_get (slice_set xs i y) i ≡ Some y
 set_there [] i x y e = absurd (cc)
 set_there (z ∷ zs) zero x y e = refl
@@ -25,7 +25,7 @@ set_elsewhere (z ∷ zs) zero (suc j) y differ = refl
 set_elsewhere (z ∷ zs) (suc i) zero y differ = refl
 set_elsewhere (z ∷ zs) (suc i) (suc j) y differ = set_elsewhere zs i j y (λ e. differ (ap suc e))
 
--- a key stands in one place
+-- a key is at one place
 pub one_key : (ks : List ℕ) (i j k : ℕ) → AreDifferent ks → slice_get ks i ≡ Some k → slice_get ks j ≡ Some k → i ≡ j
 one_key [] i j k apart e f = absurd (cc)
 one_key (x ∷ xs) zero zero k apart e f = refl
@@ -40,12 +40,12 @@ none_mapped f [] i e = refl
 none_mapped f (x ∷ xs) zero e = absurd (cc)
 none_mapped f (x ∷ xs) (suc i) e = none_mapped f xs i e
 
--- where no device stands there is no link
+-- if no device is at a place there is no link
 pub past_links : (w : WorldOf) (i : ℕ) → slice_get (eids_of w) i ≡ None → slice_get (links_of w) i ≡ None
 past_links w i e =
     link_in_place _ w.agent.halves w.sites i ∙ ap (link_from w.since_miss (slice_get w.agent.halves i)) (none_mapped site_eid w.sites i e) ∙ sym (no_link _ (slice_get w.agent.halves i))
 
--- A world with the devices of another, which are all different.
+-- A world with the devices of another world, which are all different.
 pub record SameDevices (w v : WorldOf) : Type 0 where
   pub halves : peers_of w ≡ eids_of w
   pub apart : AreDifferent (eids_of w)
@@ -69,7 +69,7 @@ all_by w v f i None d e k = past_after w v i d e ∙ sym (slice_get-map f (links
 all_by w v f i (Some eid) d e k =
     after_at w v i eid d e ∙ k eid ∙ ap (option_map f) (sym (before_at w v i eid d e)) ∙ sym (slice_get-map f (links_of w) i)
 
--- Where this becomes of the link of each device, it becomes of each of the list.
+-- If a function gives the link of each device, it gives each link of the list.
 pub all_links_become : (w v : WorldOf) (f : LinkOf → LinkOf) → SameDevices w v → ((eid : ℕ) → link_at v eid ≡ option_map f (link_at w eid)) → links_of v ≡ map f (links_of w)
 all_links_become w v f d k = same_places (links_of v) (map f (links_of w)) (λ i. all_by w v f i (slice_get (eids_of w) i) d refl k)
 
@@ -90,7 +90,8 @@ one_by w v place own i l m (Some eid) d there e was is others = elim (eqb_tells 
       after_at w v i eid d e ∙ others eid differ ∙ sym (before_at w v i eid d e) ∙ sym (set_elsewhere (links_of w) place i m other.1)
 ]
 
--- Where the link of one device becomes another, and those of the others stay, that one of the list becomes it.
+-- If the link of one device changes, and those of the others stay, then that link of the list
+-- changes.
 pub one_link_becomes : (w v : WorldOf) (place own : ℕ) (l m : LinkOf) → SameDevices w v → slice_get (eids_of w) place ≡ Some own
     → link_at w own ≡ Some l → link_at v own ≡ Some m → ((eid : ℕ) → eid ≢ own → link_at v eid ≡ link_at w eid)
     → links_of v ≡ slice_set (links_of w) place m

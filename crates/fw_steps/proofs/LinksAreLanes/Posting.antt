@@ -1,4 +1,4 @@
--- The agent's packets are put behind those of the devices that they go to.
+-- The agent's packets are appended to those of the devices that they go to.
 use Rattle.std.proofs.Common.{◌≡◌, ◌≢◌, ◌∙◌, ◌+◌, ◌==◌, ℕ, Bool, true, false, if◌then◌else◌, List, [], ◌∷◌, ◌++◌, map, slice_set, Option, Some, None, IfSome, inl, inr, refl, sym, ap, subst}
 use Rattle.std.specs.List.{AllByRecursion, filter}
 use Rattle.std.specs.Option.{option_map}
@@ -28,7 +28,7 @@ same_site xs (Some i) = refl
 pub site_is_first : (xs : List SiteOf) (eid : ℕ) → site_for xs eid ≡ first_site xs eid
 site_is_first xs eid = same_site xs (place_of xs eid) ∙ ap (at_place xs) (same_place 0 xs eid) ∙ is_first site_eid xs eid
 
--- Where a device becomes another of the same identifier, the others stay.
+-- If a device is replaced by another with the same identifier, the others stay.
 pub site_set : (xs : List SiteOf) (y : SiteOf) (own eid p : ℕ) → place_of xs own ≡ Some p → site_eid y ≡ own
     → site_for (slice_set xs p y) eid ≡ (if own == eid then Some y else site_for xs eid)
 site_set xs y own eid p there is =
@@ -42,7 +42,7 @@ site_of xs eid = subst (λ o. IfSome o (λ x. site_eid x ≡ eid)) (sym (site_is
 pub site_found : (xs : List SiteOf) (eid : ℕ) (x : SiteOf) → site_for xs eid ≡ Some x → site_eid x ≡ eid
 site_found xs eid x e = subst (λ o. IfSome o (λ y. site_eid y ≡ eid)) e (site_of xs eid)
 
--- a packet behind those of a device
+-- a packet appended to those of a device
 abbrev pub with_packet : ℕ → List ℕ → SiteOf → SiteOf
 with_packet now packet x = record x { packets = x.packets ++ sent_now now (packet ∷ []) }
 
@@ -51,7 +51,7 @@ abbrev pub is_to : ℕ → List ℕ → Bool
 is_to eid (version ∷ dest ∷ rest) = dest == eid
 is_to eid bytes = false
 
--- what a device's packets become, by whether one more is for it
+-- a device's packets after a packet that is for it, or for another
 abbrev with_if : Bool → ℕ → List ℕ → Option SiteOf → Option SiteOf
 with_if true now packet o = option_map (with_packet now packet) o
 with_if false now packet o = o
@@ -103,7 +103,7 @@ one_behind now packet packets true (Some x) =
     ap (λ ps. Some (record x { packets = ps })) (append_assoc x.packets (sent_now now (packet ∷ [])) (sent_now now packets))
 one_behind now packet packets false o = refl
 
--- A device gets the packets that go to it, behind those that it has, and no others.
+-- A device gets the packets that go to it, appended to its own, and no others.
 pub posts_at : (now : ℕ) (packets : List (List ℕ)) (xs : List SiteOf) (eid : ℕ)
     → site_for (posts now xs packets) eid ≡ option_map (with_packets now (filter (is_to eid) packets)) (site_for xs eid)
 posts_at now [] xs eid = none_behind now (site_for xs eid)

@@ -1,4 +1,4 @@
--- A step of the world is a step of the link of each device, or nothing to it.
+-- A step of the world is a step of the link of each device, or no step of it.
 use Rattle.std.proofs.Common.{◌≡◌, ◌∙◌, ◌-◌, ◌^◌, ◌==◌, ◌&&◌, ℕ, Bool, true, false, if◌then◌else◌, is_some, List, [], ◌∷◌, nat_lt, Option, Some, None, IsSomeAnd, inl, inr, refl, sym, ap, subst}
 use Rattle.std.specs.List.{AllByRecursion}
 use Rattle.std.specs.Option.{option_map}
@@ -29,7 +29,7 @@ use Rattle.fw_steps.proofs.LinksAreLanes.AgentTicks.{AreApart, IsHalfOf}
 use Rattle.fw_steps.proofs.LinksAreLanes.Beats.{tick_may}
 use Rattle.fw_steps.proofs.LinksAreLanes.Projection.{agent_restart_at, call_at, device_restart_at, judged_by, link_at, link_from, on_agent, on_device, tick_at, verdict_at as verdict_on}
 
--- the step of a device's link that a step of the world is, if it is one
+-- the step of a device's link in a step of the world, if there is one
 abbrev pub comes_as : (works : Bool) → (number : ℕ) → (agent device : Bool) → Option LinkStep
 comes_as works number true device = Some (LinkStep.Deliver number sides.Agent works)
 comes_as works number false true = Some (LinkStep.Deliver number sides.Device works)
@@ -54,7 +54,7 @@ link_step works agent (steps.Verdict device verdict) eid = where_mine (device ==
 link_step works agent (steps.Restart node) eid = restart_as (node == agent) (node == eid)
 link_step works agent (steps.Sel bytes) eid = None
 
--- The link goes where its step leads, or stays.
+-- The link takes its step, or stays.
 abbrev pub LinkStepsTo : (now : ℕ) → List PackageText → LinkOf → Option LinkStep → Option LinkOf → Type 0
 LinkStepsTo now packages l None after = after ≡ Some l
 LinkStepsTo now packages l (Some s) after = IsSomeAnd (link_after now packages l s) (λ t. after ≡ Some t.after)
@@ -71,7 +71,7 @@ link_site since (Some h) None l e = absurd (cc)
 link_site since (Some h) (Some x) l e =
     let is : ◌≡◌ {A = LinkOf} (record { agent = h; device = x.node.half; packets = x.packets; agent_since_miss = since; device_since_miss = x.since_miss }) l = cc in (ap (λ z. z.device) is, ap (λ z. z.packets) is)
 
--- where a link is led
+-- a link after its step
 pub leads_to : (o : Option LinkStepped) (g : LinkOf → LinkOf) (y : Option LinkOf) (l : LinkOf) → y ≡ Some (g l) → IsSomeAnd o (λ t. g l ≡ t.after) → IsSomeAnd o (λ t. y ≡ Some t.after)
 leads_to None g y l e k = k
 leads_to (Some t) g y l e k = e ∙ ap Some k
@@ -166,7 +166,7 @@ pub activate_projects : (w : WorldOf) (device eid : ℕ) (l : LinkOf) (known : B
 activate_projects w device eid l known may is =
     activate_by w device eid l (ready_for w.agent device) refl (known_if known (ready_fault (ready_for w.agent device)) may) is
 
--- a verdict: whether it counts doesn't depend on the bank
+-- a verdict: whether the device waits for it doesn't depend on the bank
 pub verdict_counts : (v : DeviceState) (p : Phase) (verdict : Verdict) (works : Bool) → is_some (verdict_at v p verdict true) ≡ true → is_some (verdict_at v p verdict works) ≡ true
 verdict_counts v (Phase.Verify u w progress.InProgress) verdicts.VerifyOk works e = refl
 verdict_counts v (Phase.Verify u w progress.InProgress) verdicts.VerifyFail works e = refl

@@ -1,4 +1,4 @@
--- What a step of the world is for the link of one device.
+-- The step of one device's link in a step of the world.
 use Rattle.std.proofs.Common.{◌≡◌, ◌∙◌, ◌+◌, ◌==◌, ℕ, Bool, true, false, if◌then◌else◌, List, ◌++◌, [], Option, Some, None, IfSome, refl, sym, ap}
 use Rattle.std.specs.List.{AllByRecursion, filter}
 use Rattle.std.specs.Option.{option_map}
@@ -28,14 +28,15 @@ link_from since (Some h) (Some x) = Some (record { agent = h; device = x.node.ha
 abbrev pub link_at : WorldOf → ℕ → Option LinkOf
 link_at w eid = link_from w.since_miss (half_for w.agent eid) (site_for w.sites eid)
 
--- A tick, which each of the two counts or misses. What the agent's half becomes, and what it sends:
+-- A tick, which each of the two counts or misses. The agent's half after it, and the packets that
+-- it sends:
 abbrev half_after : Bool → List PackageText → HalfOf TimedOf → HalfOf TimedOf
 half_after counts packages h = (half_ticks (session_core packages) counts h).half
 
 abbrev half_packets : Bool → List PackageText → HalfOf TimedOf → List (List ℕ)
 half_packets counts packages h = all_packets h.unit (half_ticks (session_core packages) counts h).sent
 
--- the packets of a link, whoever counts it
+-- the packets of a link, for any nodes that count the tick
 tick_packets : (agent device : Bool) (packages : List PackageText) (now : ℕ) (h : HalfOf TimedOf) (x : SiteOf)
     → (x.packets ++ sent_now (now + 1) (half_packets agent packages h)) ++ sent_now (now + 1) (all_packets x.node.half.unit (half_ticks device_core device x.node.half).sent)
     ≡ packets_with_messages x.node.half.unit (now + 1) (packets_with_messages h.unit (now + 1) x.packets (half_ticks (session_core packages) agent h).sent) (half_ticks device_core device x.node.half).sent
@@ -65,7 +66,7 @@ tick_links agent device since packages now None s = refl
 tick_links agent device since packages now (Some h) None = refl
 tick_links agent device since packages now (Some h) (Some x) = tick_link agent device since packages now h x
 
--- a device is the one that it was
+-- the device stays the same
 pub passes_eid : (counts : Bool) (now : ℕ) (x : SiteOf) → (site_passes counts now x).node.endpoint ≡ x.node.endpoint
 passes_eid true now x = refl
 passes_eid false now x = refl
@@ -73,7 +74,7 @@ passes_eid false now x = refl
 pub goes_on_eid : (missed : List ℕ) (now : ℕ) (x : SiteOf) → site_eid (site_after_tick missed now x) ≡ site_eid x
 goes_on_eid missed now x = ap (λ e. e.eid) (passes_eid (counts missed x.node.endpoint.eid) now x)
 
--- the device of an identifier counts it if that isn't among those that miss it
+-- a device counts the tick if its identifier isn't among those that miss it
 goes_on_here : (missed : List ℕ) (now eid : ℕ) (packets : List (List ℕ)) (s : Option SiteOf) → IfSome s (λ x. site_eid x ≡ eid)
     → option_map (site_after_tick missed now) (option_map (with_packets now packets) s) ≡ option_map (site_passes (counts missed eid) now) (option_map (with_packets now packets) s)
 goes_on_here missed now eid packets None is = refl
@@ -112,7 +113,7 @@ tick_at agent missed w eid k apart =
     ∙ ap (link_from (since_after agent w.since_miss) (option_map (half_after agent w.packages) (half_for w.agent eid))) sites
     ∙ tick_links agent device _ w.packages w.now (half_for w.agent eid) (site_for w.sites eid)
 
--- What changes the agent's half, or the device and its packets, on a link.
+-- A change of the agent's half, or of the device and its packets, on a link.
 abbrev pub on_agent : (HalfOf TimedOf → HalfOf TimedOf) → LinkOf → LinkOf
 on_agent g l = record l { agent = g l.agent }
 
@@ -131,7 +132,7 @@ becomes_put n now g None s = refl
 becomes_put n now g (Some p) None = refl
 becomes_put n now g (Some p) (Some h) = refl
 
--- A call of the operator is one of the device's link.
+-- A call of the operator is a call on the device's link.
 pub call_at : (w : WorldOf) (device eid : ℕ) (g : HalfOf TimedOf → HalfOf TimedOf) → ((h : HalfOf TimedOf) → (g h).peer ≡ h.peer)
     → link_at (world_after_call w device g) eid ≡ (if device == eid then option_map (on_agent g) (link_at w eid) else link_at w eid)
 call_at w device eid g same =
@@ -139,14 +140,14 @@ call_at w device eid g same =
     ∙ ap (λ o. link_from w.since_miss o (site_for w.sites eid)) (half_put g same w.agent.halves device eid)
     ∙ agent_link_if _ (device == eid) g (half_for w.agent eid) (site_for w.sites eid)
 
--- A restart of the agent is one of all links.
+-- A restart of the agent is a restart on all links.
 pub agent_restart_at : (w : WorldOf) (eid : ℕ)
     → link_at (record w { agent = agent_restarts w.packages w.agent }) eid ≡ option_map (on_agent (half_restarts (session_core w.packages))) (link_at w eid)
 agent_restart_at w eid =
     ap (λ o. link_from w.since_miss o (site_for w.sites eid)) (half_changed (half_restarts (session_core w.packages)) (λ h. refl) w.agent.halves eid)
     ∙ agent_link _ (half_restarts (session_core w.packages)) (half_for w.agent eid) (site_for w.sites eid)
 
--- what changes a device
+-- a change of a device
 abbrev pub on_device : (HalfOf TimedDevice → HalfOf TimedDevice) → LinkOf → LinkOf
 on_device g l = record l { device = g l.device }
 
@@ -169,7 +170,7 @@ restarts_put xs None s = refl
 restarts_put xs (Some p) None = refl
 restarts_put xs (Some p) (Some x) = refl
 
--- A restart of a device is one of its link.
+-- A restart of a device is a restart on its link.
 pub device_restart_at : (w : WorldOf) (node eid : ℕ)
     → link_at (record w { sites = site_restarts w.sites (place_of w.sites node) (site_for w.sites node) }) eid
     ≡ (if node == eid then option_map (on_device (half_restarts device_core)) (link_at w eid) else link_at w eid)
@@ -178,7 +179,7 @@ device_restart_at w node eid =
     ∙ ap (link_from w.since_miss (half_for w.agent eid)) (site_put (λ x. record x { node = device_restarts x.node }) (λ x. refl) w.sites node eid)
     ∙ device_link_if _ (node == eid) (λ x. record x { node = device_restarts x.node }) (half_restarts device_core) (λ x. (refl, refl, refl)) (half_for w.agent eid) (site_for w.sites eid)
 
--- a verdict on what a device has written
+-- a verdict on the image that a device has written
 abbrev pub judged_by : Verdict → Bool → HalfOf TimedDevice → HalfOf TimedDevice
 judged_by verdict works h = half_with_core device_core h (record { device = verdict_after h.core.device verdict works; idle = 0 })
 
@@ -201,7 +202,7 @@ judges_since works faults w verdict None s = refl
 judges_since works faults w verdict (Some p) None = refl
 judges_since works faults w verdict (Some p) (Some x) = refl
 
--- A verdict is one of the device's link.
+-- A verdict is a verdict on the device's link.
 pub verdict_at : (works : Bool) (faults : ℕ) (w : WorldOf) (device eid : ℕ) (verdict : Verdict)
     → link_at (world_after_verdict works faults w verdict (place_of w.sites device) (site_for w.sites device)) eid
     ≡ (if device == eid then option_map (on_device (judged_by verdict works)) (link_at w eid) else link_at w eid)

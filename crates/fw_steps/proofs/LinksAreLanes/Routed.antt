@@ -1,4 +1,4 @@
--- What the nodes of a lane keep to send goes to the other node.
+-- The messages that the nodes of a lane keep for sending go to the other node.
 use Rattle.std.proofs.Common.{◌≡◌, ◌+◌, ◌==◌, ◌&&◌, ℕ, zero, suc, Bool, true, false, if◌then◌else◌, List, [], ◌∷◌, get_or, nat_le, nat_lt, map, replicate, slice_set, Option, Some, None, IfSome, Ok, Err, Result, refl}
 use Rattle.std.specs.List.{AllByRecursion}
 use Rattle.std.proofs.lemmas.Bool.{eqb-true}
@@ -26,7 +26,7 @@ use Rattle.exch_lane.specs.declared.step.End.{End}
 use Rattle.exch_lane.specs.declared.step.End.TheVariants as ends
 use Rattle.fw_steps.proofs.LinksAreLanes.Routes.{both_hold}
 
--- a fact of both ways of a choice
+-- a fact of both branches of a choice
 pub if_either : {A : Type 0} (P : A → Type 0) (b : Bool) (x y : A) → P x → P y → P (if b then x else y)
 if_either P true x y h k = h
 if_either P false x y h k = k
@@ -44,7 +44,7 @@ pub record IsRouted (w : LaneOf) : Type 0 where
   pub asks : AsksPeer w.taker_eid w.asker.caller
   pub answers : AnswersPeer w.asker_eid w.taker.kept
 
--- what a tick of the requests sends again
+-- the message that a tick of the requests sends again goes to this peer
 abbrev pub SendsTo : ℕ → CallTickOf → Type 0
 SendsTo peer (CallTickOf.Send m) = m.dest ≡ peer
 SendsTo peer t = Prim.Unit {0}
@@ -239,6 +239,6 @@ run_routed : (w : LaneOf) (ss : List LaneStepOf) → IsRouted w → IsRouted (la
 run_routed w [] h = h
 run_routed w (s ∷ ss) h = run_routed (lane_after w s) ss (step_routed w s h)
 
--- Wherever steps lead a new lane, its nodes keep only what goes to the other.
+-- In every lane that steps reach from a new one, the nodes keep only messages to the other node.
 pub lane_routed : (u : «Unit») (asker taker : ℕ) (ss : List LaneStepOf) → IsRouted (lane_run (lane_new u asker taker) ss)
 lane_routed u asker taker ss = run_routed (lane_new u asker taker) ss (record { asks = record { to = refl; asked = tt }; answers = none_in asker 8 })

@@ -88,10 +88,10 @@ silent_taker u t own peer bytes e = elim (eqb_tells t.deaf 0) [
   | inr other ↦ rw other.0 refl
 ]
 
--- A packet of the lane in which a node answers tells it nothing as the node that asks.
+-- A packet of the lane in which a node answers changes nothing at its end that asks.
 pub asks_nothing : (u : «Unit») (a : AskerOf) (own peer : ℕ) (bytes : List ℕ) → peer ≢ own → in_lane u peer own bytes ≡ true → asker_row u own peer a bytes ≡ AskerRow.Ignores a.replies
 asks_nothing u a own peer bytes differ e = silent_asker u a own peer bytes (reply_misses peer own (wire.packet_of u bytes) differ e)
 
--- A packet of the lane in which it asks tells it nothing as the node that answers.
+-- A packet of the lane in which it asks changes nothing at its end that answers.
 pub answers_nothing : (u : «Unit») (t : TakerOf) (own peer : ℕ) (bytes : List ℕ) → own ≢ peer → in_lane u own peer bytes ≡ true → taker_row u own peer t bytes ≡ TakerRow.Silent t.requests
 answers_nothing u t own peer bytes differ e = silent_taker u t own peer bytes (request_misses own peer (wire.packet_of u bytes) differ e)

@@ -1,4 +1,4 @@
--- What a half sends goes to its peer.
+-- The packets that a half sends go to its peer.
 use Rattle.std.proofs.Common.{◌≡◌, ◌∙◌, ◌+◌, ◌==◌, ℕ, zero, suc, Bool, true, false, List, [], ◌∷◌, drop, length, map, nat_le, take, Option, Some, None, Ok, Err, Result, refl, sym, subst}
 use Rattle.std.specs.List.{AllByRecursion}
 use Rattle.mctp_wire.specs.declared.unit.Unit.{«Unit»}
@@ -23,7 +23,7 @@ use Rattle.fw_steps.proofs.LinksAreLanes.Routed.{AnswersPeer, AsksPeer, IsRouted
 use Rattle.fw_steps.proofs.LinksAreLanes.Sorted.{both_all}
 use Rattle.fw_steps.proofs.LinksAreLanes.Ways.{BothWays}
 
--- what a half keeps to send goes to its peer
+-- the messages that a half keeps for sending go to its peer
 pub record IsRoutedHalf {C : Type 0} (h : HalfOf C) : Type 0 where
   pub asks : AsksPeer h.peer h.asker.caller
   pub answers : AnswersPeer h.peer h.taker.kept
@@ -31,14 +31,14 @@ pub record IsRoutedHalf {C : Type 0} (h : HalfOf C) : Type 0 where
 routed_lane : (u : «Unit») (asker taker : ℕ) (lane : List LaneEntryOf → LaneOf) (e : Explained u asker taker lane) → IsRouted (lane e.run.entries)
 routed_lane u asker taker lane e = subst IsRouted e.is (lane_routed u asker taker e.steps)
 
--- The first of two halves, between which all is explained.
+-- The first of two halves between which both ways are explained.
 pub routed_half : {A B : Type 0} (now : Times) (a : HalfOf A) (b : HalfOf B) (ps : List Sent) → BothWays now a b ps → IsRoutedHalf a
 routed_half now a b ps h = record {
   asks = (routed_lane a.unit a.own b.own _ h.asks).asks;
   answers = subst (λ p. AnswersPeer p a.taker.kept) (sym h.peer) (routed_lane b.unit b.own a.own _ h.answers).answers;
 }
 
--- all these messages go there
+-- all these messages go to this node
 abbrev pub AreTo : ℕ → List MessageOf → Type 0
 AreTo peer ms = AllByRecursion (λ m. m.dest ≡ peer) ms
 
@@ -99,7 +99,7 @@ pub heard_sends_to : {C : Type 0} (core : CoreOf C) (works : Bool) (h : HalfOf C
 heard_sends_to core works h bytes k =
     hears_by_to h.peer core works h (asker_row h.unit h.own h.peer h.asker bytes) (taker_row h.unit h.own h.peer h.taker bytes) (taker_row_from h.unit h.own h.peer h.taker bytes k.answers)
 
--- the second byte of a packet says where it goes
+-- the second byte of a packet is its destination
 abbrev pub GoesTo : ℕ → List ℕ → Type 0
 GoesTo dest (version ∷ to ∷ rest) = to ≡ dest
 GoesTo dest bytes = ⊥
@@ -119,7 +119,8 @@ packets_to u peer (m ∷ ms) k =
     (subst (λ d. AllByRecursion (GoesTo d) (packets_of u m)) k.0 (pieces_to u MAX_PACKETS (message_route m) 0 m.bytes))
     (packets_to u peer ms k.1)
 
--- Whatever is heard, and in every tick, an explained link's agent sends packets to its device, and the device to its agent.
+-- At every packet and tick, an explained link's agent sends packets to its device, and the device
+-- to its agent.
 pub agent_tick_to : (now : ℕ) (packages : List PackageText) (l : LinkOf) → LinkExplained now l
     → AllByRecursion (GoesTo l.device.own) (all_packets l.agent.unit (half_ticks (session_core packages) true l.agent).sent)
 agent_tick_to now packages l e =

@@ -1,4 +1,4 @@
--- What is sent goes into its own lane, and no other; and a packet's number in its lane.
+-- The packets that are sent are of their own lane only; and a packet's number in its lane.
 use Rattle.std.proofs.Common.{◌≡◌, ◌∙◌, ◌≤◌, ◌-◌, ℕ, zero, suc, Bool, true, false, if◌then◌else◌, List, [], ◌∷◌, ◌++◌, length, map, take, nat_lt, slice_get, Some, refl, sym, ap, subst, arith}
 use Rattle.std.specs.List.{AllByRecursion, filter}
 use Rattle.std.proofs.lemmas.Bool.{lt-ltb}
@@ -13,7 +13,7 @@ use Rattle.fw_node.specs.Packets.{all_packets, packets_of}
 use Rattle.fw_steps.specs.Lanes.{number_in}
 use Rattle.fw_steps.specs.Links.{packets_with_messages}
 
--- What messages add are their packets, dated.
+-- Messages add their packets, dated.
 pub posted_behind : (u : «Unit») (now : ℕ) (ps : List Sent) (ms : List MessageOf) → packets_with_messages u now ps ms ≡ ps ++ map (sent_at now) (all_packets u ms)
 posted_behind u now ps [] = sym (append-nil ps)
 posted_behind u now ps (m ∷ ms) =
@@ -33,20 +33,20 @@ pub each_all : {A : Type 0} (P Q : A → Type 0) (xs : List A) → AllByRecursio
 each_all P Q [] h f = tt
 each_all P Q (x ∷ xs) h f = (f x h.0, each_all P Q xs h.1 f)
 
--- what is sent now can still come
+-- a packet that is sent now can still be received
 living_sent : (w : LaneOf) (now : ℕ) (bs : List (List ℕ)) → w.now ≤ now → AllByRecursion (IsOfLane w) (map (sent_at now) bs)
     → AllByRecursion (λ s. in_lane w.unit w.asker_eid w.taker_eid s.bytes ≡ true) (map (sent_at now) bs)
 living_sent w now [] soon h = tt
 living_sent w now (b ∷ bs) soon h = (h.0 (omega (arith, soon)), living_sent w now bs soon h.1)
 
--- so what a lane sent is of the lane
+-- so the packets that a lane sent are of the lane
 pub sent_in_lane : (w : LaneOf) (now : ℕ) (ps : List Sent) (ms : List MessageOf) → w.now ≤ now → w.packets ≡ packets_with_messages w.unit now ps ms
     → AllByRecursion (IsOfLane w) w.packets → AllByRecursion (λ s. in_lane w.unit w.asker_eid w.taker_eid s.bytes ≡ true) (map (sent_at now) (all_packets w.unit ms))
 sent_in_lane w now ps ms soon is h =
     living_sent w now (all_packets w.unit ms) soon
     (all_behind (IsOfLane w) ps (map (sent_at now) (all_packets w.unit ms)) (subst (AllByRecursion (IsOfLane w)) (is ∙ posted_behind w.unit now ps ms) h))
 
--- a list of which all pass a test, or none
+-- a list of which all elements pass a test, or none does
 all_pass : {A : Type 0} (test : A → Bool) (xs : List A) → AllByRecursion (λ x. test x ≡ true) xs → filter test xs ≡ xs
 all_pass test [] h = refl
 all_pass test (x ∷ xs) h = rw (h.0) (ap (λ ys. x ∷ ys) (all_pass test xs h.1))
@@ -55,7 +55,7 @@ none_passes : {A : Type 0} (test : A → Bool) (xs : List A) → AllByRecursion 
 none_passes test [] h = refl
 none_passes test (x ∷ xs) h = rw (h.0) (none_passes test xs h.1)
 
--- What is sent in a lane is behind the lane's packets, and changes none of another lane.
+-- The packets sent in a lane are appended to the lane's packets, and to no other lane's.
 pub sorted_in : (u : «Unit») (test : Sent → Bool) (now : ℕ) (ps : List Sent) (ms : List MessageOf) → AllByRecursion (λ s. test s ≡ true) (map (sent_at now) (all_packets u ms))
     → filter test (packets_with_messages u now ps ms) ≡ packets_with_messages u now (filter test ps) ms
 sorted_in u test now ps ms h =
@@ -91,7 +91,7 @@ placed test [] i y e passes = absurd (cc)
 placed test (x ∷ xs) zero y e passes = let is : x ≡ y = cc in rw is (rw passes refl)
 placed test (x ∷ xs) (suc i) y e passes = count_more (test x) x (filter test (take (suc i) xs)) (filter test xs) y (placed test xs i y e passes)
 
--- A packet has the number in its lane that counts those of the lane up to it.
+-- A packet's number in its lane is the number of the lane's packets up to it.
 pub lane_number : (test : Sent → Bool) (ps : List Sent) (number : ℕ) (s : Sent) → item_numbered ps number ≡ Some s → test s ≡ true
     → item_numbered (filter test ps) (number_in test ps number) ≡ Some s
 lane_number test ps zero s e passes = absurd (cc)

@@ -18,7 +18,7 @@ use Rattle.fw_steps.specs.Lanes.{Times, times_after_unit, abandon_steps, begin_s
 use Rattle.fw_steps.specs.Links.{packets_with_messages}
 use Rattle.fw_steps.proofs.LinksAreLanes.Hears.{fits_each}
 
--- A lane goes on by these steps to where a half is after what it does.
+-- A lane after these steps is that of a half after its own.
 pub record LaneLeads {A B : Type 0} (w : LaneOf) (ss : List LaneStepOf) (now : Times) (a : Ticked A) (b : HalfOf B) (ps : List Sent) (es : List LaneEntryOf) : Type 0 where
   pub more : List LaneEntryOf
   pub leads : lane_run w ss ≡ lane_of now a.half b (packets_with_messages a.half.unit now.now ps a.sent) (es ++ more)
@@ -28,7 +28,7 @@ pub posted_more : (u : «Unit») (now : ℕ) (ps : List Sent) (ms : List Message
 posted_more u now ps [] m = refl
 posted_more u now ps (n ∷ ms) m = posted_more u now (ps ++ packets_of_message u now n) ms m
 
--- what is wished begins
+-- the pending command begins
 begins : {A B : Type 0} (may : Bool) (now : Times) (a : HalfOf A) (b : HalfOf B) (c : CommandOf) (ms : List MessageOf) (ps : List Sent) (es : List LaneEntryOf)
     → may_begin a.asker.caller ≡ may → (a.asker.deaf == 0) ≡ true → CommandRoundTrips c
     → LaneLeads (lane_of now a b (packets_with_messages a.unit now.now ps ms) es) (begin_steps may c) now (begins_if may a c ms) b ps es
@@ -54,7 +54,7 @@ first_step : {A B : Type 0} (w : LaneOf) (s : LaneStepOf) (ss : List LaneStepOf)
     → MayTake w s → LaneLeads (lane_run w (s ∷ [])) ss now a b ps es → LaneLeads w (s ∷ ss) now a b ps es
 first_step w s ss now a b ps es may l = record { more = l.more; leads = l.leads; may = (may, l.may) }
 
--- what isn't wished is given up first
+-- a request that is no longer the pending command is given up first
 abandons_unless : {A B : Type 0} (wished : Bool) (wish : Option CommandOf) (now : Times) (a : HalfOf A) (b : HalfOf B) (ms : List MessageOf) (ps : List Sent) (es : List LaneEntryOf)
     → is_some a.asker.caller.asked ≡ true → (a.asker.deaf == 0) ≡ true → IfSome wish CommandRoundTrips
     → LaneLeads (lane_of now a b (packets_with_messages a.unit now.now ps ms) es) (unless_wished wished (wish_steps wish (kept_if wished a.asker.caller))) now
@@ -73,7 +73,7 @@ abandons : {A B : Type 0} (asked : Option Open) (wish : Option CommandOf) (now :
 abandons None wish now a b ms ps es is hears fits = wishes wish now a b ms ps es hears fits
 abandons (Some o) wish now a b ms ps es is hears fits = abandons_unless (still_wished wish o) wish now a b ms ps es (rw is refl) hears fits
 
--- the core stays where a request begins
+-- the core stays if a request begins
 core_begun : {A : Type 0} (may : Bool) (h : HalfOf A) (c : CommandOf) (ms : List MessageOf) → (begins_if may h c ms).half.core ≡ h.core
 core_begun true h c ms = refl
 core_begun false h c ms = refl
@@ -82,7 +82,7 @@ pub core_stays : {A : Type 0} (wish : Option CommandOf) (h : HalfOf A) (ms : Lis
 core_stays None h ms = refl
 core_stays (Some c) h ms = core_begun (may_begin h.asker.caller) h c ms
 
--- the last parts of a tick, where the half hears
+-- the last parts of a tick, if the half hears
 hears : {A B : Type 0} (hearing : Bool) (f : CoreOf A) (now : Times) (a : HalfOf A) (b : HalfOf B) (ms : List MessageOf) (ps : List Sent) (es : List LaneEntryOf)
     → (a.asker.deaf == 0) ≡ hearing → (hearing ≡ true → IfSome (f.wish (tick_if hearing f a ms).half.core) CommandRoundTrips)
     → LaneLeads (lane_of now a b (packets_with_messages a.unit now.now ps ms) es) (hearing_steps hearing f a.core a.asker.caller) now (tick_if hearing f a ms) b ps es

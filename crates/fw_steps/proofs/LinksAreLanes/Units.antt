@@ -1,4 +1,4 @@
--- A session keeps its transmission unit, whatever a half does with it.
+-- A session keeps its transmission unit in all steps of a half.
 use Rattle.std.proofs.Common.{◌≡◌, ◌∙◌, ◌+◌, ◌==◌, ℕ, not, Bool, true, false, if◌then◌else◌, List, [], ◌∷◌, Option, Some, None, IfSome, Ok, Err, Result, refl, ap}
 use Rattle.mctp_reasm.specs.Held.{Held}
 use Rattle.mctp_reasm.specs.Pieces.{MessageOf}
@@ -17,7 +17,7 @@ use Rattle.fw_node.specs.Halves.{CoreOf, HalfOf, half_tick_by_row, half_on_packe
 use Rattle.fw_steps.proofs.LinksAreLanes.Hears.{half_in}
 use Rattle.fw_steps.proofs.LinksAreLanes.Ticks.{core_stays}
 
--- a core keeps its unit in all that it does
+-- a core keeps its unit in all its functions
 pub record KeepsUnit {C : Type 0} (core : CoreOf C) : Type 0 where
   pub take : (x : C) (c : CommandOf) (quiet works : Bool) → core.unit (core.take x c quiet works).core ≡ core.unit x
   pub learn : (x : C) (a : Result AnswerOf Malformed) (works : Bool) → core.unit (core.learn x a works) ≡ core.unit x
@@ -40,7 +40,7 @@ pub ticks_keep : {C : Type 0} (core : CoreOf C) → KeepsUnit core → (counts :
 ticks_keep core k true h = called_keeps core k (record h { taker = taker_counts h.taker }) (asker_counts h.asker)
 ticks_keep core k false h = refl
 
--- a packet that it hears
+-- a packet that it handles
 read_keeps : {C : Type 0} (core : CoreOf C) → KeepsUnit core → (quiet works : Bool) (h : HalfOf C) (requests : List (Option Held)) (m : MessageOf) (head : PldmHead) (read : Result CommandOf ℕ)
     → core.unit (half_in (takes_read core quiet works h requests m head read)).core ≡ core.unit h.core
 read_keeps core k quiet works h requests m head (Ok c) = k.take h.core c quiet works

@@ -16,7 +16,8 @@ use Rattle.fw_steps.proofs.LinksAreLanes.Following.{LaneGoes, follows, goes_on}
 use Rattle.fw_steps.proofs.LinksAreLanes.Routes.{other_lane}
 use Rattle.fw_steps.proofs.LinksAreLanes.Sorted.{both_all, each_all, posted_behind, sent_in_lane, sorted_in, sorted_out}
 
--- a packet that can still come is of the one way or the other, each of which has a transmission unit
+-- a packet that can still be received is of one way or the other, each of which has a transmission
+-- unit
 abbrev pub IsOfEither : (u v : «Unit») (now x y : ℕ) → Sent → Type 0
 IsOfEither u v now x y s = now ≤ s.date + 8 → (is_of u x y s ≡ true) ⊎ (is_of v y x s ≡ true)
 
@@ -57,20 +58,20 @@ pub record AreSame {A B : Type 0} (a x : HalfOf A) (b y : HalfOf B) : Type 0 whe
   pub other : y.own ≡ b.own
   pub back : y.peer ≡ b.peer
 
--- Both ways after steps of theirs: the halves and the packets are these, and both are explained again.
+-- Both ways after their steps: the halves and the packets are these, and both are explained again.
 pub record WaysGo {A B : Type 0} (now then : Times) (a x : HalfOf A) (b y : HalfOf B) (ps qs : List Sent) (asked answered : List LaneStepOf) (before : BothWays now a b ps) : Type 0 where
   pub same : AreSame a x b y
   pub explained : BothWays then x y qs
   pub asks : StepsLane (way_of now a b ps) (way_of then x y qs) asked before.asks.run explained.asks.run
   pub answers : StepsLane (way_of (turned_times now) b a ps) (way_of (turned_times then) y x qs) answered before.answers.run explained.answers.run
 
--- What a way's steps come to, when what the half sends isn't sorted yet.
+-- The result of a way's steps, before the packets that the half sends are sorted.
 pub record Comes {A B : Type 0} (now then : Times) (a x : HalfOf A) (b y : HalfOf B) (ps : List Sent) (ms : List MessageOf) (es : List LaneEntryOf) (ss : List LaneStepOf) : Type 0 where
   pub may : MayRun (way_of now a b ps es) ss
   pub more : List LaneEntryOf
   pub leads : lane_run (way_of now a b ps es) ss ≡ lane_of then x y (packets_with_messages a.unit then.now (filter (is_of a.unit a.own b.own) ps) ms) (es ++ more)
 
--- what is sent on a way is of this way
+-- the packets sent on a way are of this way
 sent_mine : {A B : Type 0} (law : LaneIsACell) (now then : Times) (a x : HalfOf A) (b y : HalfOf B) (ps : List Sent) (ms : List MessageOf) (ss : List LaneStepOf)
     (h : BothWays now a b ps) → AreSame a x b y → Comes now then a x b y ps ms h.asks.run.entries ss
     → AllByRecursion (λ s. is_of a.unit a.own b.own s ≡ true) (map (sent_at then.now) (all_packets a.unit ms))
@@ -138,7 +139,7 @@ explained_as same e = record {
   is = ap (λ w. lane_run w e.steps) (sym same) ∙ e.is;
 }
 
--- One way goes on.
+-- One way takes its steps.
 way_goes : {A B : Type 0} (law : LaneIsACell) (now then : Times) (a x : HalfOf A) (b y : HalfOf B) (ps qs : List Sent) (ms : List MessageOf) (ss : List LaneStepOf)
     (h : BothWays now a b ps) → x.unit ≡ a.unit → x.own ≡ a.own → y.own ≡ b.own → filter (is_of a.unit a.own b.own) qs ≡ packets_with_messages a.unit then.now (filter (is_of a.unit a.own b.own) ps) ms
     → Comes now then a x b y ps ms h.asks.run.entries ss
@@ -148,7 +149,7 @@ way_goes law now then a x b y ps qs ms ss h unit own other is c =
     (c.leads ∙ ap (λ r. lane_of then x y r (h.asks.run.entries ++ c.more)) (sym is ∙ sym (rw (unit, own, other) refl)))
     (λ z. refl)
 
--- Both ways go on.
+-- Both ways take their steps.
 pub ways_go : {A B : Type 0} (law : LaneIsACell) (now then : Times) (a x : HalfOf A) (b y : HalfOf B) (ps : List Sent) (ms ns : List MessageOf) (asked answered : List LaneStepOf)
     (h : BothWays now a b ps) → now.now ≤ then.now → AreSame a x b y
     → Comes now then a x b y ps ms h.asks.run.entries asked → Comes (turned_times now) (turned_times then) b y a x ps ns h.answers.run.entries answered

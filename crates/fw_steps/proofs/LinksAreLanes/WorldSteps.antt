@@ -1,4 +1,4 @@
--- Each step of the world is a step of the link of each device, or nothing to it.
+-- Each step of the world is a step of the link of each device, or no step of it.
 use Rattle.std.proofs.Common.{◌≡◌, ◌∙◌, ◌+◌, ◌==◌, ◌&&◌, ◌≤◌, ℕ, Bool, true, false, is_some, Option, Some, None, IfSome, inl, inr, refl, sym, ap, subst}
 use Rattle.std.specs.List.{AllByRecursion}
 use Rattle.std.proofs.lemmas.Bool.{cases_lt, eq-eqb, lt-ltb}
@@ -21,7 +21,8 @@ use Rattle.fw_steps.proofs.LinksAreLanes.Projected.{LinkStepsTo, activate_projec
 use Rattle.fw_steps.proofs.LinksAreLanes.Projection.{link_at}
 use Rattle.fw_steps.proofs.LinksAreLanes.Routes.{both_hold}
 
--- The links of a world: each device has one, all are explained, and no two halves of the agent are for one device.
+-- The links of a world: each device has one, all are explained, and no two halves of the agent are
+-- for one device.
 pub record AreLinked (w : WorldOf) : Type 0 where
   pub halves : AllByRecursion (IsHalfOf w.agent.deaf) w.agent.halves
   pub apart : AreApart w.agent.halves
@@ -36,7 +37,7 @@ still_living now p e = elim (cases_lt (p.date + 8) now) [
   | inr lives ↦ lives
 ]
 
--- what is known of its answer
+-- the facts about its answer
 abbrev Said : WorldOf → (works : Bool) → (number : ℕ) → LinkOf → (mine agent device : Bool) → Type 0
 Said w works number d mine agent device = IfSome (where_mine mine (comes_as works number agent device)) (LinkStepRoundTrips w.packages d)
 
@@ -85,7 +86,8 @@ pub known_both : (known : Bool) (fault : Option StepFault) → where_known known
 known_both true fault e = refl
 known_both false fault e = absurd (cc)
 
--- A step of the world is one of the link of each device, which it leads where that step leads, or nothing to it.
+-- A step of the world is a step of the link of each device, which then is the link after that step,
+-- or no step of it.
 pub projection : (law : LaneIsACell) (works : Bool) (faults : ℕ) (w : WorldOf) (s : Step) (eid : ℕ) (l : LinkOf) → AreLinked w → may_step w s ≡ None
     → ((device : ℕ) (d : LinkOf) → link_at w device ≡ Some d → IfSome (link_step works w.agent.endpoint.eid s device) (LinkStepRoundTrips w.packages d))
     → link_at w eid ≡ Some l
