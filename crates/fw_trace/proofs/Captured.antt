@@ -1,4 +1,4 @@
--- A capture reads back as its packets.
+-- A capture decodes to its packets.
 use Rattle.std.proofs.Common.{◌≡◌, ◌∙◌, ◌<◌, ◌≤◌, ◌+◌, ◌-◌, ◌^◌, ◌==◌, ℕ, zero, suc, Bool, true, false, if◌then◌else◌, List, [], ◌∷◌, ◌++◌, length, None, Some, refl, sym, ap, arith}
 use Rattle.std.specs.Prelude.{Option, drop, option_map, slice_index}
 use Rattle.std.specs.List.{AllByRecursion}
@@ -10,16 +10,16 @@ use Rattle.byteorder.specs.Endian.{little_number}
 use Rattle.byteorder.specs.Numbers.{little_number-reads_back}
 use Rattle.fw_trace.specs.Captures.{CapturedOf, CaptureReadsBack, IsCapturable, capture_file, capture_record, capture_records, captured_size, cooked_head, is_cut, packet_in, packets_in, record_head, size_in, source_of, type_of, word}
 
--- the bytes that a record begins with, and what follows them
+-- the bytes after a record's header, and what follows them
 abbrev behind : CapturedOf → List ℕ → List ℕ
 behind p rest = cooked_head p.is_sent (source_of p.bytes) ++ (p.bytes ++ rest)
 
--- a word reads as its number
+-- a word decodes to its number
 word_read : (n : ℕ) (rest : List ℕ) → n < 2 ^ 32 → little_number 4 (word n ++ rest) ≡ n
 unfolding word
 word_read n rest small = little_number-reads_back 4 n rest small
 
--- the size of a record is that of its packet and 16
+-- the captured size is that of the packet plus 16
 size_fits : (bytes : List ℕ) → 16 + length bytes < 2 ^ 32 → captured_size bytes ≡ 16 + length bytes
 size_fits bytes small = mod-eq_of_lt small
 
@@ -27,7 +27,7 @@ type_read : (b : Bool) → (type_of b == 4) ≡ b
 type_read true = refl
 type_read false = refl
 
--- what stands first among bytes that begin with a packet's record: its size, and the packet
+-- the header of the first record gives its size, and the packet
 size_read : (p : CapturedOf) (rest : List ℕ) → IsCapturable p → size_in (capture_record p ++ rest) ≡ 16 + length p.bytes
 unfolding capture_record record_head word
 size_read p rest fits =
@@ -70,13 +70,13 @@ whole_read p rest fits =
       le-ltb (32 + (length p.bytes + length rest)) (16 + (16 + length p.bytes)) (omega arith),
     ) refl
 
--- what is read where the first packet is whole, and where it is known
+-- the decoded packets if the first is whole and known
 read_if : (b : Bool) (p q : CapturedOf) (ps : List CapturedOf) (o : Option (List CapturedOf)) → b ≡ false → q ≡ p → o ≡ Some ps
     → (if b then None else option_map (λ ps. q ∷ ps) o) ≡ Some (p ∷ ps)
 read_if true p q ps o whole same rest = absurd (cc)
 read_if false p q ps o whole same rest = rw (same, rest) refl
 
--- a packet is read, and then the others
+-- a packet is decoded, then the others
 cons_read : (fuel : ℕ) (p : CapturedOf) (rest : List ℕ) (ps : List CapturedOf) (bytes : List ℕ) → 1 ≤ length bytes → is_cut bytes ≡ false → packet_in bytes ≡ p
     → drop (16 + size_in bytes) bytes ≡ rest → packets_in fuel rest ≡ Some ps → packets_in (suc fuel) bytes ≡ Some (p ∷ ps)
 unfolding packets_in
@@ -90,7 +90,7 @@ read_more fuel p rest ps fits h =
     cons_read fuel p rest ps (capture_record p ++ rest) (omega (arith, length_record p rest)) (whole_read p rest fits) (packet_read p rest fits)
     (rw (size_read p rest fits) (rest_read p rest)) h
 
--- with as much fuel as there are bytes, all are
+-- if the fuel is at least the number of bytes, all packets are decoded
 all_read : (fuel : ℕ) (ps : List CapturedOf) → AllByRecursion IsCapturable ps → length (capture_records ps) ≤ fuel → packets_in fuel (capture_records ps) ≡ Some ps
 unfolding packets_in
 all_read fuel [] fits enough = refl

@@ -1,4 +1,4 @@
--- What is written is what its line shows.
+-- Lines show what was encoded.
 use Rattle.std.proofs.Common.{◌≡◌, ◌++◌, ℕ, List, Ok, Some, codes, if◌then◌else◌, true, false, refl, arith}
 use Rattle.pldm_base.specs.Header.{ReadsMessages, WritesMessages, pldm_bytes, pldm_of}
 use Rattle.pldm_base.specs.declared.header.PldmHead.{PldmHead}
@@ -28,7 +28,7 @@ named CommandOf.GetStatus = refl
 named CommandOf.CancelUpdateComponent = refl
 named CommandOf.CancelUpdate = refl
 
--- a request's fields are those of the command that is read
+-- a request's fields are those of the decoded command
 asked : (c : CommandOf) → command_read (command_code c) (command_bytes c) ≡ Ok c
     → update_request (command_code c) (command_bytes c) ≡ (codes " " ++ command_name c) ++ command_fields c
 unfolding update_request
@@ -47,7 +47,7 @@ shows_commands_law writes reads commands instance c few spoken =
     let read = reads (pldm_bytes h (command_bytes c)) h (command_bytes c) (writes h (command_bytes c) (few, omega arith)) in
     rw (read_as h (command_bytes c) read, asked c (commands c spoken.widths spoken.writable)) refl
 
--- an answer's fields are those of the answer that is read
+-- an answer's fields are those of the decoded answer
 answered : (command : ℕ) (a : AnswerOf) → answer_in command (answer_bytes a) ≡ Some a
     → update_answer command (answer_bytes a)
     ≡ name_or_digits (update_command command) command ++ (name_or_digits (update_code (answer_code a)) (answer_code a) ++ answer_fields a)

@@ -1,4 +1,4 @@
--- What is heard of a message's packets.
+-- The outcome of a message's packets.
 use Rattle.std.proofs.Common.{◌≡◌, ◌∙◌, ◌+◌, ◌++◌, ◌==◌, ℕ, Bool, List, Option, ap, append-nil, codes, false, if◌then◌else◌, inl, inr, length, refl, sym, true}
 use Rattle.std.proofs.lemmas.Bool.Decides.{eqb_tells}
 use Rattle.mctp_wire.specs.Packet.{ReadsPackets, WritesPackets, packet_bytes}
@@ -18,14 +18,14 @@ use Rattle.fw_trace.specs.declared.hearing.PacketOutcome.TheVariants as heards
 is_same : (a b : ℕ) → a ≡ b → (a == b) ≡ true
 is_same a b e = elim (eqb_tells a b) [ inl equal ↦ equal.0 | inr other ↦ absurd (other.1 e) ]
 
--- an end feeds a packet to what it holds of its kind and tag
+-- an end feeds a packet to the assembly of its kind and tag
 by_kind : (to : Bool) (u : «Unit») (a : Assemblies) (p : PacketOf)
     → (if to then feed_outcome_at u a.requests p else feed_outcome_at u a.replies p)
     ≡ feed_outcome u (if to then held_at a.requests p.head.tag else held_at a.replies p.head.tag) p
 by_kind true u a p = refl
 by_kind false u a p = refl
 
--- so does the end that a packet between both goes to
+-- so does the destination of a packet between the two
 heard_there : (r : ReaderOf) (p : PacketOf) → IsBetween r p.head → outcome_of_packet r p ≡ heards.Fed (feed_outcome r.unit (held_for r p.head) p)
 unfolding outcome_of_packet
 heard_there r p (inl way) =
@@ -38,11 +38,11 @@ heard_there r p (inr way) =
           (ap heards.Fed (by_kind p.head.to r.unit r.at_agent p))
     ]
 
--- the message that a packet is
+-- the message of a single packet
 abbrev alone : Head → List ℕ → MessageOf
 alone h body = record { dest = h.dest; source = h.source; to = h.to; tag = h.tag; bytes = body }
 
--- an assembly makes it whole, whatever it holds
+-- an assembly completes it, whatever it holds
 fed_whole : (u : «Unit») (held : Option Held) (h : Head) (body : List ℕ) → h.som ≡ true → h.eom ≡ true → h.seq ≡ 0
     → feed_outcome u held (packet_of h body) ≡ outcomes.Whole (alone h body)
 fed_whole u held h body som eom seq = rw (som, seq, eom, append-nil body) refl
@@ -57,7 +57,7 @@ unfolding packet_line packet_text
 shows_whole_law writes reads r turn number h body fits way som eom seq some few =
     rw (reads r.unit (packet_bytes h body) h body (writes r.unit h body fits some few), heard_whole r h body way som eom seq) refl
 
--- a part, or the message that ends
+-- a part, or the message that is completed
 by_end : (last : Bool) (m : MessageOf) (p : PacketOf)
     → packet_text p (heards.Fed (if last then outcomes.Whole m else outcomes.Open))
     ≡ head_text p.head ++ (if last then codes " " ++ message_text m.bytes else part_text p)

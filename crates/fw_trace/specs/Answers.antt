@@ -20,17 +20,17 @@ descriptor_fields d = in_four (codes " ") d.kind ++ in_digits (codes " ") d.byte
 unfoldable pub descriptors_fields : List DeviceDescriptorOf → List ℕ
 descriptors_fields ds = word_and_number (codes " descriptors ") (length ds) ++ flat_map descriptor_fields ds
 
--- a word, and an image's version after it: its comparison stamp and its text
+-- a word, then an image's version: its comparison stamp and its text
 unfoldable pub version_fields : List ℕ → VersionOf → List ℕ
 version_fields word v = in_eight word v.stamp ++ text_field (codes " ") v.text
 
--- the image that is to be active, where there is one: without it stamp, encoding and text are 0
+-- the pending image, if there is one: without one, its stamp, encoding and text are 0
 abbrev pub pending_fields : VersionOf → List ℕ
 pending_fields v =
     if (v.stamp == 0) && (v.text.text_type == 0) && (length v.text.bytes == 0) then []
     else version_fields (codes " pending ") v
 
--- what a device tells of a component
+-- the parameters that a device reports for a component
 unfoldable pub parameters_fields : ParametersOf → List ℕ
 parameters_fields p =
     component_fields p.key p.index ++ version_fields (codes " active ") p.active ++ pending_fields p.pending
@@ -52,8 +52,9 @@ status_fields s =
     ++ in_two (codes " status ") s.aux_status ++ word_and_number (codes " progress ") s.progress ++ word_and_number (codes " reason ") s.reason
     ++ in_eight (codes " flags ") (bit s.force)
 
--- The fields of an answer after its code. Of image data only their size is shown. An answer to RequestUpdate that is read
--- has no metadata and wants no package data; one to CancelUpdate names no component that doesn't work.
+-- The fields of an answer after its code. Only the size of image data is shown. A decoded answer to
+-- RequestUpdate has no metadata and requests no package data. A decoded answer to CancelUpdate
+-- names no component that doesn't work.
 abbrev pub answer_fields : AnswerOf → List ℕ
 answer_fields (AnswerOf.Refused code) = []
 answer_fields (AnswerOf.QueryDeviceIdentifiers descriptors) = descriptors_fields descriptors
@@ -70,12 +71,12 @@ answer_fields (AnswerOf.GetStatus status) = status_fields status
 answer_fields AnswerOf.CancelUpdateComponent = []
 answer_fields AnswerOf.CancelUpdate = codes " broken 0 components 0000000000000000"
 
--- the fields of the answer that was read, or the digits of what wasn't
+-- the fields of a decoded answer, or the digits of one that can't be decoded
 abbrev pub answer_fields_read : Result AnswerOf Malformed → List ℕ → List ℕ
 answer_fields_read (Ok a) fields = answer_fields a
 answer_fields_read (Err fault) fields = rest_text fields
 
--- an answer's code, and its fields as the command of its own head has them
+-- an answer's code, and its fields, decoded for the command of its head
 abbrev pub code_and_fields : (command : ℕ) → List ℕ → List ℕ
 code_and_fields command [] = []
 code_and_fields command (code ∷ fields) =

@@ -13,7 +13,7 @@ unfoldable pub component_fields : Key → (index : ℕ) → List ℕ
 component_fields key index =
     word_and_number (codes " class ") key.classification ++ word_and_number (codes " ident ") key.identifier ++ word_and_number (codes " index ") index
 
--- the bytes of package data, where there are some
+-- the length of the package data in bytes, if there is any
 abbrev pub package_data_field : ℕ → List ℕ
 package_data_field n = if n == 0 then [] else word_and_number (codes " package ") n
 
@@ -54,11 +54,11 @@ command_fields CommandOf.GetStatus = []
 command_fields CommandOf.CancelUpdateComponent = []
 command_fields CommandOf.CancelUpdate = []
 
--- the fields of the command that was read, or the digits of what wasn't
+-- the fields of a decoded command, or the digits of one that can't be decoded
 abbrev pub fields_read : Result CommandOf ℕ → List ℕ → List ℕ
 fields_read (Ok c) fields = command_fields c
 fields_read (Err code) fields = rest_text fields
 
--- a request of firmware update: its command, and the fields of its request data
+-- a request of firmware update: the command, and the fields of its request data
 unfoldable pub update_request : (command : ℕ) → List ℕ → List ℕ
 update_request command fields = name_or_digits (update_command command) command ++ fields_read (command_read command fields) fields

@@ -1,4 +1,4 @@
--- MCTP's control messages (DSP0236, section 12).
+-- MCTP control messages (DSP0236, section 12).
 use Rattle.std.specs.Prelude.{ℕ, ◌/◌, ◌%◌, ◌*◌, ◌==◌, if◌then◌else◌, List, [], ◌∷◌, ◌++◌, codes, length, Option, Some, None}
 use Rattle.std.specs.Option.{option_map}
 use Rattle.fw_text.specs.Printing.{word_and_number}
@@ -8,33 +8,33 @@ use Rattle.mctp_ctl.specs.declared.codes.ControlCommand.TheVariants as controls
 use Rattle.fw_trace.specs.Names.{control_code, control_name, name_or_digits}
 use Rattle.fw_trace.specs.Pieces.{in_digits, in_two, rest_text}
 
--- Set Endpoint ID asks with an operation and an identifier.
+-- Set Endpoint ID's request: an operation and an identifier
 unfoldable pub set_endpoint_request : List ℕ → List ℕ
 set_endpoint_request (operation ∷ eid ∷ []) = in_two (codes " operation ") operation ++ word_and_number (codes " eid ") eid
 set_endpoint_request fields = rest_text fields
 
--- It is answered with a status, the identifier, and the size of the pool.
+-- its answer: a status, the identifier, and the size of the pool
 unfoldable pub set_endpoint_answer : List ℕ → List ℕ
 set_endpoint_answer (status ∷ eid ∷ pool ∷ []) =
     in_two (codes " status ") status ++ word_and_number (codes " eid ") eid ++ word_and_number (codes " pool ") pool
 set_endpoint_answer fields = rest_text fields
 
--- Get Endpoint ID is answered with the identifier, its type, and a byte of the medium.
+-- Get Endpoint ID's answer: the identifier, its type, and a byte of the medium
 unfoldable pub endpoint_answer : List ℕ → List ℕ
 endpoint_answer (eid ∷ kind ∷ medium ∷ []) =
     word_and_number (codes " eid ") eid ++ in_two (codes " type ") kind ++ in_two (codes " medium ") medium
 endpoint_answer fields = rest_text fields
 
--- Get Endpoint UUID with 16 bytes
+-- Get Endpoint UUID's answer: 16 bytes
 abbrev pub uuid_answer : List ℕ → List ℕ
 uuid_answer uuid = if length uuid == 16 then in_digits (codes " uuid ") uuid else rest_text uuid
 
--- Get MCTP Version Support asks with a message type.
+-- Get MCTP Version Support's request: a message type
 abbrev pub versions_request : List ℕ → List ℕ
 versions_request (kind ∷ []) = in_two (codes " type ") kind
 versions_request fields = rest_text fields
 
--- a word, and a list after it: how many items, each of so many bytes, and they
+-- a word, then a list: the number of items, and the items, of `size` bytes each
 unfoldable pub list_field : List ℕ → (size : ℕ) → List ℕ → List ℕ
 list_field word size [] = []
 list_field word size (count ∷ items) =
@@ -46,7 +46,7 @@ control_request_fields (Some controls.SetEndpointId) fields = set_endpoint_reque
 control_request_fields (Some controls.GetMctpVersionSupport) fields = versions_request fields
 control_request_fields command fields = rest_text fields
 
--- the fields of an answer of the code 0
+-- the fields of an answer with completion code 0
 abbrev pub control_success_fields : Option ControlCommand → List ℕ → List ℕ
 control_success_fields (Some controls.SetEndpointId) fields = set_endpoint_answer fields
 control_success_fields (Some controls.GetEndpointId) fields = endpoint_answer fields
@@ -61,7 +61,7 @@ control_code_and_fields command [] = []
 control_code_and_fields command (code ∷ fields) =
     name_or_digits (control_code code) code ++ (if code == 0 then control_success_fields command fields else rest_text fields)
 
--- a word, and after it the instance identifier and the command
+-- a word, then the instance identifier and the command
 unfoldable pub control_start : List ℕ → (instance command : ℕ) → List ℕ
 control_start word instance command =
     word_and_number word instance ++ name_or_digits (option_map control_name (command_of command)) command
@@ -74,12 +74,13 @@ unfoldable pub control_answer : (instance command : ℕ) → List ℕ → List �
 control_answer instance command body =
     control_start (codes "control rs ") instance command ++ control_code_and_fields (command_of command) body
 
--- what can't be read
+-- a message that can't be decoded
 unfoldable pub control_unread : List ℕ → List ℕ
 control_unread bytes = codes "control" ++ rest_text bytes
 
--- A control message after its type byte: bit 7 is Rq, bit 6 is D, the low five bits are the instance identifier, and the
--- command follows. One of less than two bytes, and a datagram, whose D bit is set, isn't read.
+-- A control message after its type byte: bit 7 is Rq, bit 6 is D, the low five bits are the
+-- instance identifier, and the command follows. A message of less than two bytes isn't decoded, nor
+-- is a datagram, whose D bit is set.
 unfoldable pub control_text : List ℕ → List ℕ
 control_text (flags ∷ command ∷ fields) =
     if flags / 64 == 2 then control_request (flags % 32) command fields

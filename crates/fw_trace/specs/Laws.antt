@@ -1,4 +1,4 @@
--- What a line shows of what was written.
+-- Lines show what was encoded.
 use Rattle.std.specs.Prelude.{ℕ, ◌≡◌, ◌<◌, ◌≤◌, ◌⊎◌, ◌+◌, ◌==◌, Bool, if◌then◌else◌, List, ◌++◌, codes, length, slice_get, Option, Some, true, false}
 use Rattle.fw_text.specs.Printing.{word_and_number}
 use Rattle.mctp_wire.specs.Packet.{IsHead, packet_bytes}
@@ -20,7 +20,7 @@ use Rattle.fw_trace.specs.Lines.{ReaderOf, head_text, outcome_of_packet, packet_
 use Rattle.fw_trace.specs.Messages.{message_text}
 use Rattle.fw_trace.specs.Names.{name_or_digits, update_code, update_command}
 
--- the head of a message of firmware update
+-- the head of a firmware update message
 abbrev pub update_head : (rq : Bool) → (instance command : ℕ) → PldmHead
 update_head rq instance command = record { rq = rq; instance = instance; pldm_type = 5; command = command }
 
@@ -40,24 +40,24 @@ command_name CommandOf.GetStatus = codes "GetStatus"
 command_name CommandOf.CancelUpdateComponent = codes "CancelUpdateComponent"
 command_name CommandOf.CancelUpdate = codes "CancelUpdate"
 
--- what a line says of a request: its instance identifier, the command's name, and the command's fields
+-- the line of a request: its instance identifier, the command's name, and the command's fields
 abbrev pub asked_text : (instance : ℕ) → CommandOf → List ℕ
 asked_text instance c = word_and_number (codes "pldm rq ") instance ++ ((codes " " ++ command_name c) ++ command_fields c)
 
--- of an answer: its instance identifier, the command, the completion code, and the answer's fields
+-- the line of an answer: its instance identifier, the command, the completion code, and the fields
 abbrev pub answered_text : (instance command : ℕ) → AnswerOf → List ℕ
 answered_text instance command a =
     word_and_number (codes "pldm rs ") instance
     ++ (name_or_digits (update_command command) command
     ++ (name_or_digits (update_code (answer_code a)) (answer_code a) ++ answer_fields a))
 
--- The message that a command is written as shows that very command.
+-- The text of an encoded command shows that command.
 abbrev pub ShowsCommands : Type 0
 ShowsCommands =
     (instance : ℕ) (c : CommandOf) → instance ≤ 31 → CommandRoundTrips c
     → message_text (pldm_bytes (update_head true instance (command_code c)) (command_bytes c)) ≡ asked_text instance c
 
--- The message that an answer is written as shows that very answer.
+-- The text of an encoded answer shows that answer.
 abbrev pub ShowsAnswers : Type 0
 ShowsAnswers =
     (instance command : ℕ) (a : AnswerOf) → instance ≤ 31 → answers_command command a ≡ true → HasAnswerWidths a → IsAnswerWritable a
@@ -67,13 +67,14 @@ ShowsAnswers =
 abbrev pub IsBetween : ReaderOf → Head → Type 0
 IsBetween r h = ((h.source ≡ r.agent) × (h.dest ≡ r.device)) ⊎ ((h.source ≡ r.device) × (h.dest ≡ r.agent))
 
--- what is held, at the end that a packet goes to, of its kind and its tag
+-- what the packet's destination holds for its kind and its tag
 abbrev pub held_for : ReaderOf → Head → Option Held
 held_for r h =
     let end : Assemblies = if h.dest == r.device then r.at_device else r.at_agent in
     if h.to then held_at end.requests h.tag else held_at end.replies h.tag
 
--- Where the packets of a message before this one are held, the packet is shown as a part, and the last as the message.
+-- If the earlier packets of a message are held, the next packet is shown as a part, and the last as
+-- the message.
 abbrev pub ShowsParts : Type 0
 ShowsParts =
     (r : ReaderOf) (m : MessageOf) (k age : ℕ) (p : PacketOf) → IsMessage r.unit m → IsBetween r p.head

@@ -1,4 +1,4 @@
--- A line of each packet between an agent and a device.
+-- A line for each packet between an agent and a device.
 use Rattle.std.specs.Prelude.{ℕ, ◌+◌, ◌==◌, if◌then◌else◌, List, [], ◌∷◌, ◌++◌, codes, length, Result, Ok, Err}
 use Rattle.fw_text.specs.Printing.{word_and_number}
 use Rattle.mctp_wire.specs.Packet as wire
@@ -15,7 +15,8 @@ use Rattle.fw_trace.specs.Pieces.{in_digits}
 use Rattle.fw_trace.specs.declared.hearing.PacketOutcome.{PacketOutcome}
 use Rattle.fw_trace.specs.declared.hearing.PacketOutcome.TheVariants as heards
 
--- A reader: the network's unit, both ends, and what the assemblies of each hold. Time doesn't age what is held.
+-- A reader: the network's unit, both ends, and the content of each end's assemblies, which doesn't
+-- age.
 pub record ReaderOf : Type 0 where
   pub unit : «Unit»
   pub agent : ℕ
@@ -28,7 +29,7 @@ abbrev pub new_reader : «Unit» → (agent device : ℕ) → ReaderOf
 new_reader u agent device =
     record { unit = u; agent = agent; device = device; at_agent = no_assemblies; at_device = no_assemblies }
 
--- what comes of a packet
+-- the outcome of a packet
 unfoldable pub outcome_of_packet : ReaderOf → PacketOf → PacketOutcome
 outcome_of_packet r p =
     if p.head.dest == r.device
@@ -54,11 +55,11 @@ after_read r (Err fault) = r
 unfoldable pub reader_after : ReaderOf → List ℕ → ReaderOf
 reader_after r bytes = after_read r (wire.packet_of r.unit bytes)
 
--- a packet of a message that goes on: its number within the message and the size of its body
+-- a packet that doesn't end its message: its number within the message and the size of its body
 unfoldable pub part_text : PacketOf → List ℕ
 part_text p = word_and_number (codes " part ") p.head.seq ++ word_and_number (codes " of ") (length p.body) ++ codes " bytes"
 
--- what is shown of a packet: a part, the message that it ends, or why it is dropped
+-- the text of a packet: a part, the message that it completes, or the reason why it is dropped
 abbrev pub fed_text : PacketOf → Fed → List ℕ
 fed_text p outcomes.Open = part_text p
 fed_text p (outcomes.Whole m) = codes " " ++ message_text m.bytes
@@ -69,19 +70,19 @@ outcome_text p heards.Destination = codes " drop Destination"
 outcome_text p heards.Source = codes " drop Source"
 outcome_text p (heards.Fed fed) = fed_text p fed
 
--- the packet's own source and destination, and its tag
+-- the packet's source and destination, and its tag
 unfoldable pub head_text : Head → List ℕ
 head_text h = word_and_number (codes " ") h.source ++ word_and_number (codes " > ") h.dest ++ word_and_number (codes " tag ") h.tag
 
 unfoldable pub packet_text : PacketOf → PacketOutcome → List ℕ
 packet_text p heard = head_text p.head ++ outcome_text p heard
 
--- what is shown of bytes that were sent as a packet
+-- the text of bytes that were sent as a packet
 abbrev pub read_text : ReaderOf → Result (Head × List ℕ) WireFault → List ℕ → List ℕ
 read_text r (Ok p) bytes = packet_text (packet_of p.0 p.1) (outcome_of_packet r (packet_of p.0 p.1))
 read_text r (Err fault) bytes = in_digits (codes " bytes ") bytes
 
--- when a packet was sent, between the agent and which device, and its number among those of the pair, from 1
+-- the tick of sending, the device, and the packet's number among those of the pair, from 1
 unfoldable pub place_text : (turn device number : ℕ) → List ℕ
 place_text turn device number = word_and_number [] turn ++ word_and_number (codes " ") device ++ word_and_number (codes " ") number
 
@@ -90,17 +91,17 @@ unfoldable pub packet_line : ReaderOf → (turn number : ℕ) → List ℕ → L
 packet_line r turn number bytes =
     place_text turn r.device number ++ read_text r (wire.packet_of r.unit bytes) bytes ++ codes "\n"
 
--- bytes that were sent as a packet, and when
+-- bytes that were sent as a packet, and the tick of sending
 pub record SentOf : Type 0 where
   pub turn : ℕ
   pub bytes : List ℕ
 
--- the lines of packets, in the order in which they were sent, numbered from the first number on
+-- the lines of packets, in the order of sending, numbered from `number` on
 abbrev pub lines_of : ReaderOf → (number : ℕ) → List SentOf → List ℕ
 lines_of r number [] = []
 lines_of r number (s ∷ sent) = packet_line r s.turn number s.bytes ++ lines_of (reader_after r s.bytes) (number + 1) sent
 
--- the reader after packets
+-- the reader after a list of packets
 abbrev pub reader_along : ReaderOf → List SentOf → ReaderOf
 reader_along r [] = r
 reader_along r (s ∷ sent) = reader_along (reader_after r s.bytes) sent

@@ -1,4 +1,4 @@
--- What a message says.
+-- The text of a message.
 use Rattle.std.specs.Prelude.{ℕ, ◌==◌, if◌then◌else◌, List, [], ◌∷◌, ◌++◌, codes, Result, Ok, Err}
 use Rattle.fw_text.specs.Printing.{word_and_number}
 use Rattle.pldm_base.specs.Header.{pldm_of}
@@ -10,7 +10,7 @@ use Rattle.fw_trace.specs.Commands.{update_request}
 use Rattle.fw_trace.specs.Control.{control_text}
 use Rattle.fw_trace.specs.Pieces.{in_two, rest_text}
 
--- a request by its PLDM type, and an answer
+-- a request, by its PLDM type
 abbrev pub request_text : PldmHead → List ℕ → List ℕ
 request_text h body =
     if h.pldm_type == 5 then update_request h.command body
@@ -30,7 +30,7 @@ pldm_request h body = word_and_number (codes "pldm rq ") h.instance ++ request_t
 unfoldable pub pldm_answer : PldmHead → List ℕ → List ℕ
 pldm_answer h body = word_and_number (codes "pldm rs ") h.instance ++ answer_text h body
 
--- one whose head can't be read, by what follows its type byte
+-- a message whose head can't be decoded, by the bytes after its type byte
 unfoldable pub pldm_unread : List ℕ → List ℕ
 pldm_unread bytes = codes "pldm" ++ rest_text bytes
 
@@ -42,7 +42,7 @@ pldm_read (Err fault) bytes = pldm_unread bytes
 unfoldable pub other_text : (kind : ℕ) → List ℕ → List ℕ
 other_text kind bytes = in_two (codes "type ") kind ++ rest_text bytes
 
--- what a message says, by its type byte
+-- the text of a message, by its type byte
 unfoldable pub message_text : List ℕ → List ℕ
 message_text [] = []
 message_text (kind ∷ bytes) =

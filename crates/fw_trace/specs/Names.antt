@@ -1,4 +1,5 @@
--- The standards' names of commands and completion codes, and assembly's names of why a packet is dropped.
+-- The standards' names of commands and completion codes, and the names of the reasons why a packet
+-- is dropped.
 use Rattle.std.specs.Prelude.{ℕ, ◌==◌, if◌then◌else◌, List, ◌++◌, Option, Some, None, codes}
 use Rattle.mctp_ctl.specs.declared.codes.ControlCommand.{ControlCommand}
 use Rattle.mctp_ctl.specs.declared.codes.ControlCommand.TheVariants as controls
@@ -54,13 +55,13 @@ shared_code code =
     else if code == 0x20 then Some (codes "ERROR_INVALID_PLDM_TYPE")
     else None
 
--- those of PLDM type 0: its commands have one of their own
+-- the completion codes of PLDM type 0: its commands have one of their own
 abbrev pub base_code : ℕ → Option (List ℕ)
 base_code code =
     if code == 0x83 then Some (codes "INVALID_PLDM_TYPE_IN_REQUEST_DATA")
     else shared_code code
 
--- those of PLDM type 5 (DSP0267 1.0, "PLDM for firmware update completion codes")
+-- the completion codes of PLDM type 5 (DSP0267 1.0, "PLDM for firmware update completion codes")
 abbrev pub update_code : ℕ → Option (List ℕ)
 update_code code =
     if code == 0x80 then Some (codes "NOT_IN_UPDATE_MODE")
@@ -74,7 +75,7 @@ update_code code =
     else if code == 0x8B then Some (codes "ACTIVATION_NOT_REQUIRED")
     else shared_code code
 
--- those of control messages (DSP0236, Table 13)
+-- the completion codes of control messages (DSP0236, Table 13)
 abbrev pub control_code : ℕ → Option (List ℕ)
 control_code code =
     if code == 0x00 then Some (codes "SUCCESS")
@@ -85,7 +86,7 @@ control_code code =
     else if code == 0x05 then Some (codes "ERROR_UNSUPPORTED_CMD")
     else None
 
--- what has a name is named; what has none is its two digits
+-- the name of a number, or its two digits if it has none
 abbrev pub name_or_digits : Option (List ℕ) → ℕ → List ℕ
 name_or_digits (Some name) n = codes " " ++ name
 name_or_digits None n = in_two (codes " ") n

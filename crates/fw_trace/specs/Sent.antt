@@ -1,4 +1,4 @@
--- Packets whose bytes are lent.
+-- Packets whose bytes are borrowed.
 use Rattle.fw_trace.specs.Lines.{SentOf}
 use Rattle.fw_trace.specs.declared.lists.Sent.{Sent}
 

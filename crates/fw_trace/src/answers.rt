@@ -1,5 +1,5 @@
-//! The answers of firmware update (DSP0267 1.0): a command, a completion code, and the fields after it. Each function's only
-//! error is want of memory.
+//! The answers of firmware update (DSP0267 1.0): the command, the completion code, and the fields
+//! after it. Each function's only error is `AllocError`.
 
 ghost use Rattle.std.specs.Prelude.{OnOk, ◌++◌};
 ghost use Rattle.std.specs.List.{flat_map};
@@ -34,7 +34,7 @@ fn push_descriptor(
     Ok(())
 }
 
-/// Appends each of these descriptors.
+/// Appends each descriptor.
 #[tactic(auto, using(fw_text::proofs::Chains::telling))]
 fn push_each_descriptor(
     alloc: Global,
@@ -76,7 +76,7 @@ fn push_version(
     Ok(())
 }
 
-/// Appends the version of the image that is to be active, where there is one.
+/// Appends the version of the pending image, if there is one.
 fn push_pending(alloc: Global, text: &mut Vec<u8>, version: &Version<'_>) -> Result<(), AllocError>
     ensures { OnOk result (AppendsText text.old.items text.new.items (pending_fields (version_of version.now))) }
 {
@@ -86,7 +86,7 @@ fn push_pending(alloc: Global, text: &mut Vec<u8>, version: &Version<'_>) -> Res
     push_version(alloc, text, " pending ", version)
 }
 
-/// Appends what a device tells of a component.
+/// Appends the parameters that a device reports for a component.
 fn push_parameters(
     alloc: Global,
     text: &mut Vec<u8>,
@@ -100,7 +100,7 @@ fn push_parameters(
     Ok(())
 }
 
-/// Appends each of these components.
+/// Appends each component.
 #[tactic(auto, using(fw_text::proofs::Chains::telling))]
 fn push_each_component(
     alloc: Global,
@@ -152,7 +152,7 @@ fn push_offer_response(
     Ok(())
 }
 
-/// Appends the fields of GetStatus' answer.
+/// Appends the fields of GetStatus's answer.
 fn push_status(alloc: Global, text: &mut Vec<u8>, status: Status) -> Result<(), AllocError>
     ensures { OnOk result (AppendsText text.old.items text.new.items (status_fields status)) }
 {
@@ -188,7 +188,7 @@ fn push_answer(alloc: Global, text: &mut Vec<u8>, answer: &Answer<'_>) -> Result
     }
 }
 
-/// Appends the fields of an answer, whose code comes before them, or their digits where the answer can't be read.
+/// Appends the fields of an answer after its code, or their digits if the answer can't be decoded.
 fn push_fields(
     alloc: Global,
     text: &mut Vec<u8>,
@@ -204,7 +204,7 @@ fn push_fields(
     }
 }
 
-/// Appends this code of an answer, and the fields after it.
+/// Appends a completion code and the fields after it.
 fn push_coded(
     alloc: Global,
     text: &mut Vec<u8>,
@@ -235,7 +235,8 @@ fn push_code_and_fields(
     push_coded(alloc, text, command, *code, body, fields)
 }
 
-/// Appends an answer of firmware update: its command, its code, and its fields as this command's answer has them.
+/// Appends an answer of firmware update: the command, the completion code, and the command's
+/// fields.
 #[tactic(auto, unfolding(crate::specs::Answers::update_answer))]
 pub fn push_update_answer(
     alloc: Global,

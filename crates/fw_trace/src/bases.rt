@@ -1,5 +1,5 @@
-//! The messages of PLDM type 0 (DSP0240), and of the types whose commands aren't known here. Each function's only error is want
-//! of memory.
+//! The messages of PLDM type 0 (DSP0240), and of the PLDM types whose commands have no names here.
+//! Each function's only error is `AllocError`.
 
 ghost use Rattle.std.specs.Prelude.{OnOk, ◌==◌, ◌++◌, codes, if◌then◌else◌};
 ghost use Rattle.fw_text.specs.Printing.{AppendsText};
@@ -14,10 +14,10 @@ use pldm_base::completion::SUCCESS;
 use pldm_base::{GET_PLDM_COMMANDS, GET_PLDM_TYPES, GET_TID, SET_TID, TYPE_BASE};
 use std::alloc::{AllocError, Global};
 
-/// The bytes of GetPLDMTypes' bits: one for each of the 64 PLDM types.
+/// The size of GetPLDMTypes' bit field in bytes: one bit for each of the 64 PLDM types.
 const TYPE_BITS: usize = 8;
 
-/// The bytes of GetPLDMCommands' bits: one for each of the 256 commands of a type.
+/// The size of GetPLDMCommands' bit field in bytes: one bit for each of the 256 commands of a type.
 const COMMAND_BITS: usize = 32;
 
 /// Appends a terminus' identifier.
@@ -30,7 +30,7 @@ fn push_tid(alloc: Global, text: &mut Vec<u8>, fields: &[u8]) -> Result<(), Allo
     }
 }
 
-/// Appends a word and so many bytes of bits.
+/// Appends a word and a bit field of `size` bytes.
 fn push_bits(
     alloc: Global,
     text: &mut Vec<u8>,
@@ -47,7 +47,8 @@ fn push_bits(
     }
 }
 
-/// Appends what GetPLDMVersion asks with, the handle's highest byte first.
+/// Appends the decoded fields of GetPLDMVersion's request; the handle is printed highest byte
+/// first.
 fn push_version_asked(
     alloc: Global,
     text: &mut Vec<u8>,
@@ -74,7 +75,7 @@ fn push_version_request(alloc: Global, text: &mut Vec<u8>, fields: &[u8]) -> Res
     push_version_asked(alloc, text, &[*h3, *h2, *h1, *h0], *operation, *kind)
 }
 
-/// Appends what GetPLDMVersion is answered with, the handle's highest byte first.
+/// Appends the decoded fields of GetPLDMVersion's answer; the handle is printed highest byte first.
 fn push_version_told(
     alloc: Global,
     text: &mut Vec<u8>,
@@ -101,7 +102,7 @@ fn push_version_answer(alloc: Global, text: &mut Vec<u8>, fields: &[u8]) -> Resu
     push_version_told(alloc, text, &[*h3, *h2, *h1, *h0], *flag, versions)
 }
 
-/// Appends what GetPLDMCommands asks with.
+/// Appends the decoded fields of GetPLDMCommands' request.
 fn push_commands_asked(
     alloc: Global,
     text: &mut Vec<u8>,
@@ -143,7 +144,7 @@ fn push_request_fields(
     }
 }
 
-/// Appends the fields of a base command's answer of the code 0.
+/// Appends the fields of a base command's answer with completion code 0.
 fn push_success_fields(
     alloc: Global,
     text: &mut Vec<u8>,
@@ -161,7 +162,7 @@ fn push_success_fields(
     }
 }
 
-/// Appends the fields of a base command's answer of this code.
+/// Appends the fields of a base command's answer with this code.
 fn push_answer_fields(
     alloc: Global,
     text: &mut Vec<u8>,
@@ -178,7 +179,7 @@ fn push_answer_fields(
     }
 }
 
-/// Appends this code of a base command's answer, and the fields after it.
+/// Appends the code of a base command's answer, and the fields after it.
 fn push_coded(
     alloc: Global,
     text: &mut Vec<u8>,
@@ -222,7 +223,7 @@ fn push_other_command(
     Ok(())
 }
 
-/// Appends this code, and the digits of what follows.
+/// Appends a completion code, and the digits of the bytes after it.
 fn push_other_coded(
     alloc: Global,
     text: &mut Vec<u8>,
@@ -236,7 +237,8 @@ fn push_other_coded(
     Ok(())
 }
 
-/// Appends the code of such a command's answer, and the digits of what follows.
+/// Appends the completion code of an unnamed command's answer, and the digits of the bytes after
+/// it.
 fn push_other_code(alloc: Global, text: &mut Vec<u8>, body: &[u8]) -> Result<(), AllocError>
     ensures { OnOk result (AppendsText text.old.items text.new.items (other_code_and_fields body.now)) }
 {
@@ -246,7 +248,7 @@ fn push_other_code(alloc: Global, text: &mut Vec<u8>, body: &[u8]) -> Result<(),
     push_other_coded(alloc, text, *code, fields)
 }
 
-/// Appends a request of a PLDM type whose commands aren't known here.
+/// Appends a request of a PLDM type whose commands have no names here.
 pub fn push_other_request(
     alloc: Global,
     text: &mut Vec<u8>,
@@ -261,7 +263,7 @@ pub fn push_other_request(
     Ok(())
 }
 
-/// Appends an answer of a PLDM type whose commands aren't known here.
+/// Appends an answer of a PLDM type whose commands have no names here.
 pub fn push_other_answer(
     alloc: Global,
     text: &mut Vec<u8>,
@@ -276,7 +278,7 @@ pub fn push_other_answer(
     Ok(())
 }
 
-/// Appends this name of a base command, and its request's fields.
+/// Appends a base command by its name, and its request's fields.
 fn push_named_request(
     alloc: Global,
     text: &mut Vec<u8>,
@@ -292,7 +294,7 @@ fn push_named_request(
     Ok(())
 }
 
-/// Appends a request of PLDM type 0: its command, and the fields of its request data.
+/// Appends a request of PLDM type 0: the command, and the fields of its request data.
 #[tactic(auto, unfolding(crate::specs::Bases::base_request))]
 pub fn push_base_request(
     alloc: Global,
@@ -308,7 +310,7 @@ pub fn push_base_request(
     push_named_request(alloc, text, name, command, fields)
 }
 
-/// Appends this name of a base command, and its answer's code and fields.
+/// Appends a base command by its name, and its answer's code and fields.
 fn push_named_answer(
     alloc: Global,
     text: &mut Vec<u8>,
@@ -324,7 +326,7 @@ fn push_named_answer(
     Ok(())
 }
 
-/// Appends an answer of PLDM type 0: its command, its code, and its fields.
+/// Appends an answer of PLDM type 0: the command, the completion code, and the fields.
 #[tactic(auto, unfolding(crate::specs::Bases::base_answer))]
 pub fn push_base_answer(
     alloc: Global,

@@ -1,5 +1,5 @@
-//! The requests of firmware update (DSP0267 1.0): a command, and the fields of its request data. Each function's only error is
-//! want of memory.
+//! The requests of firmware update (DSP0267 1.0): the command, and the fields of its request data.
+//! Each function's only error is `AllocError`.
 
 ghost use Rattle.std.specs.Prelude.{OnOk};
 ghost use Rattle.fw_text.specs.Printing.{AppendsText};
@@ -28,7 +28,7 @@ pub fn push_component(
     Ok(())
 }
 
-/// Appends how many bytes of package data there are, where there are some.
+/// Appends the length of the package data in bytes, if there is any.
 fn push_package_data(alloc: Global, text: &mut Vec<u8>, length: u16) -> Result<(), AllocError>
     ensures { OnOk result (AppendsText text.old.items text.new.items (package_data_field length)) }
 {
@@ -136,7 +136,7 @@ fn push_command(alloc: Global, text: &mut Vec<u8>, command: &Command<'_>) -> Res
     }
 }
 
-/// Appends the fields of a command's request data, or their digits where they can't be read.
+/// Appends the fields of a command's request data, or their digits if they can't be decoded.
 fn push_fields(
     alloc: Global,
     text: &mut Vec<u8>,
@@ -151,7 +151,7 @@ fn push_fields(
     }
 }
 
-/// Appends a request of firmware update: its command, and the fields of its request data.
+/// Appends a request of firmware update: the command, and the fields of its request data.
 #[tactic(auto, unfolding(crate::specs::Commands::update_request))]
 pub fn push_update_request(
     alloc: Global,

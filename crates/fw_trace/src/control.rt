@@ -1,4 +1,4 @@
-//! MCTP's control messages (DSP0236, section 12). Each function's only error is want of memory.
+//! MCTP control messages (DSP0236, section 12). Each function's only error is `AllocError`.
 
 ghost use Rattle.std.specs.Prelude.{OnOk, ◌==◌, ◌++◌, codes, if◌then◌else◌};
 ghost use Rattle.fw_text.specs.Printing.{AppendsText, word_and_number};
@@ -12,28 +12,28 @@ use fw_text::push_words;
 use mctp_ctl::ControlCommand;
 use std::alloc::{AllocError, Global};
 
-/// The Rq and D bits of a request that is no datagram.
+/// The Rq and D bits of a request that isn't a datagram.
 const REQUEST: u8 = 0b10;
 
 /// The Rq and D bits of an answer.
 const ANSWER: u8 = 0b00;
 
-/// The place of the Rq and D bits in the byte after the type byte.
+/// The position of the Rq and D bits in the byte after the type byte.
 const REQUEST_SHIFT: u32 = 6;
 
-/// The instance identifier in that byte.
+/// The mask of the instance identifier in that byte.
 const INSTANCE_MASK: u8 = 0x1F;
 
-/// The completion code of an answer that goes on after it (DSP0236, Table 13).
+/// The completion code of a success (DSP0236, Table 13). Only then fields follow.
 const SUCCESS: u8 = 0x00;
 
-/// The bytes of a UUID.
+/// The size of a UUID in bytes.
 const UUID_SIZE: usize = 16;
 
-/// The bytes of a version of a message type.
+/// The size of a version of a message type in bytes.
 const VERSION_SIZE: u8 = 4;
 
-/// Appends what Set Endpoint ID asks with.
+/// Appends the decoded fields of Set Endpoint ID's request.
 fn push_set_endpoint_asked(
     alloc: Global,
     text: &mut Vec<u8>,
@@ -62,7 +62,7 @@ fn push_set_endpoint_request(
     push_set_endpoint_asked(alloc, text, *operation, *eid)
 }
 
-/// Appends what Set Endpoint ID is answered with.
+/// Appends the decoded fields of Set Endpoint ID's answer.
 fn push_set_endpoint_told(
     alloc: Global,
     text: &mut Vec<u8>,
@@ -93,7 +93,7 @@ fn push_set_endpoint_answer(
     push_set_endpoint_told(alloc, text, *status, *eid, *pool)
 }
 
-/// Appends what Get Endpoint ID is answered with.
+/// Appends the decoded fields of Get Endpoint ID's answer.
 fn push_endpoint_told(
     alloc: Global,
     text: &mut Vec<u8>,
@@ -141,7 +141,7 @@ fn push_versions_request(alloc: Global, text: &mut Vec<u8>, fields: &[u8]) -> Re
     }
 }
 
-/// Appends a word, how many items follow, and they.
+/// Appends a word, the number of the items, and the items.
 fn push_items(
     alloc: Global,
     text: &mut Vec<u8>,
@@ -156,7 +156,8 @@ fn push_items(
     Ok(())
 }
 
-/// Appends a word and a list of items of so many bytes, whose first byte says how many there are.
+/// Appends a word and a list of items of `size` bytes each. The first byte of `fields` is the
+/// number of items.
 #[tactic(auto, unfolding(crate::specs::Control::list_field))]
 fn push_listed(
     alloc: Global,
@@ -197,7 +198,7 @@ fn push_request_fields(
     }
 }
 
-/// Appends the fields of an answer of the code 0.
+/// Appends the fields of an answer with completion code 0.
 fn push_success_fields(
     alloc: Global,
     text: &mut Vec<u8>,
@@ -220,7 +221,7 @@ fn push_success_fields(
     }
 }
 
-/// Appends the fields of an answer of this code.
+/// Appends the fields of an answer with this code.
 fn push_answer_fields(
     alloc: Global,
     text: &mut Vec<u8>,
@@ -237,7 +238,7 @@ fn push_answer_fields(
     }
 }
 
-/// Appends this code of an answer, and the fields after it.
+/// Appends the code of an answer, and the fields after it.
 fn push_coded(
     alloc: Global,
     text: &mut Vec<u8>,
@@ -267,7 +268,7 @@ fn push_code_and_fields(
     push_coded(alloc, text, command, *code, fields)
 }
 
-/// Appends a request's or an answer's word, its instance identifier and its command.
+/// Appends the word of a request or an answer, its instance identifier and its command.
 fn push_start(
     alloc: Global,
     text: &mut Vec<u8>,
@@ -313,7 +314,7 @@ fn push_answer(
     Ok(())
 }
 
-/// Appends a control message that can't be read.
+/// Appends a control message that can't be decoded.
 fn push_unread(alloc: Global, text: &mut Vec<u8>, bytes: &[u8]) -> Result<(), AllocError>
     ensures { OnOk result (AppendsText text.old.items text.new.items (control_unread bytes.now)) }
 {
@@ -322,7 +323,7 @@ fn push_unread(alloc: Global, text: &mut Vec<u8>, bytes: &[u8]) -> Result<(), Al
     Ok(())
 }
 
-/// Appends a control message, given by what follows its type byte.
+/// Appends a control message, given by the bytes after its type byte.
 #[tactic(auto, unfolding(crate::specs::Control::control_text))]
 pub fn push_control(alloc: Global, text: &mut Vec<u8>, bytes: &[u8]) -> Result<(), AllocError>
     ensures { OnOk result (AppendsText text.old.items text.new.items (control_text bytes.now)) }

@@ -1,4 +1,4 @@
-//! What comes of a packet at the end that it goes to.
+//! What the receiving end does with a packet.
 
 ghost use Rattle.std.specs.Prelude.{◌≡◌, ◌≤◌, length};
 ghost use Rattle.mctp_reasm.specs.Pieces.{packet_of};
@@ -9,18 +9,18 @@ use mctp_reasm::{Fed, Inbox, Message, Taken};
 use mctp_wire::{Packet, Unit};
 use std::marker::Model;
 
-/// What comes of a packet between an agent and a device.
+/// What the receiving end does with a packet between an agent and a device.
 #[derive(Drop)]
 pub enum PacketOutcome {
-    /// It goes to neither of them.
+    /// The packet's destination is neither of them.
     Destination,
-    /// It goes to one of them, and doesn't come from the other.
+    /// The packet's destination is one of them, and its source isn't the other.
     Source,
-    /// An assembly of the end that it goes to took it or dropped it.
+    /// An assembly of the destination took the packet or dropped it.
     Fed(Fed),
 }
 
-/// The assemblies of one end: of the other end's requests and of its replies.
+/// The assemblies of one end: of the peer's requests and of its replies.
 #[derive(Drop)]
 pub struct EndAssemblies {
     requests: Inbox,
@@ -39,7 +39,8 @@ impl Model for EndAssemblies {
 }
 
 impl EndAssemblies {
-    /// Those of the endpoint `own` in a network with this transmission unit, which hold nothing.
+    /// Creates the empty assemblies of the endpoint `own`, in a network with this transmission
+    /// unit.
     pub fn new(unit: Unit, own: u8, peer: u8) -> EndAssemblies
         ensures { result ≡ record { unit = unit; own = own; peer = peer; held = no_assemblies } }
     {
@@ -49,28 +50,28 @@ impl EndAssemblies {
         }
     }
 
-    /// The network's transmission unit.
+    /// Returns the network's transmission unit.
     pub fn unit(&self) -> Unit
         ensures { result ≡ self.now.unit }
     {
         self.requests.unit()
     }
 
-    /// The end's own endpoint identifier.
+    /// Returns the end's own endpoint identifier.
     pub fn own(&self) -> u8
         ensures { result ≡ self.now.own }
     {
         self.requests.own()
     }
 
-    /// The other end's.
+    /// Returns the peer's endpoint identifier.
     pub fn peer(&self) -> u8
         ensures { result ≡ self.now.peer }
     {
         self.requests.peer()
     }
 
-    /// Feeds a packet that comes from the other end to the assembly of its tag: of requests, where TO is set.
+    /// Feeds a packet from the peer to the assembly of its tag; TO selects those of requests.
     pub fn feed(&mut self, packet: &Packet<'_>) -> Fed
         requires dest { packet.now.head.dest ≡ self.old.own }
         requires source { packet.now.head.source ≡ self.old.peer }

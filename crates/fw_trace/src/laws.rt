@@ -1,9 +1,9 @@
-//! What a line shows of what was written.
+//! Lines show what was encoded.
 
 ghost use Rattle.fw_trace.specs.Laws.{ShowsAnswers, ShowsCommands, ShowsParts, ShowsWhole};
 
-/// What a node asked or answered is what the line of its message shows: the message that a command is written as shows that
-/// command with its fields, and the message of an answer shows that answer's code and fields.
+/// The line of an encoded command shows that command with its fields. The line of an encoded answer
+/// shows that answer's code and fields.
 pub fn shows_what_was_written()
     ensures commands { ShowsCommands }
     ensures answers { ShowsAnswers }
@@ -13,8 +13,8 @@ pub fn shows_what_was_written()
     fwup_wire::answers_read_back();
 }
 
-/// A packet of a message whose packets before it are held is shown as a part, and the last one as the message. A message of
-/// one packet is shown whole, whatever was sent before.
+/// If the earlier packets of a message are held, the next one is shown as a part, and the last one
+/// as the message. A message of one packet is shown whole, whatever was sent before.
 pub fn shows_messages()
     ensures parts { ShowsParts }
     ensures whole { ShowsWhole }

@@ -1,4 +1,5 @@
-//! What is told of a run besides its report: its packets, a line of text each or as a capture, and its event log in lines.
+//! Text of a run besides its report: the packets, as lines or as a capture, and the lines of the
+//! event log.
 #![tactic(auto)]
 
 mod answers;

@@ -1,4 +1,5 @@
-//! A line of each packet between an agent and a device. Each function's only error is want of memory.
+//! A line for each packet between an agent and a device. Each function's only error is
+//! `AllocError`.
 
 ghost use Rattle.std.specs.Prelude.{◌≡◌, ◌≤◌, ◌++◌, codes, length, OnOk};
 ghost use Rattle.mctp_reasm.specs.Pieces.{packet_of};
@@ -19,9 +20,8 @@ use mctp_wire::{Head, Packet, Unit};
 use std::alloc::{AllocError, Global};
 use std::marker::Model;
 
-/// Reads the packets between an agent and a device, each once and in the order in which they were sent, and tells what each
-/// says. What goes to the device is put together by its assemblies, what goes to the agent by the agent's; time doesn't age
-/// what they hold.
+/// Decodes the packets between an agent and a device for a trace. It takes each packet once, in the
+/// order of sending. Each end has assemblies of its own; what they hold doesn't age.
 #[derive(Drop)]
 pub struct PacketReader {
     at_agent: EndAssemblies,
@@ -39,10 +39,10 @@ impl Model for PacketReader {
     ghost invariant = { λ r. (r.at_agent.unit ≡ r.at_device.unit) × (r.at_agent.own ≡ r.at_device.peer) × (r.at_agent.peer ≡ r.at_device.own) };
 }
 
-/// Where a packet stands among those of its pair.
+/// The place of a packet among those of its pair.
 #[derive(Clone, Copy)]
 struct Place {
-    /// When it was sent, in ticks.
+    /// The tick at which it was sent.
     turn: u32,
     /// The pair's device.
     device: u8,
@@ -51,8 +51,8 @@ struct Place {
 }
 
 impl PacketReader {
-    /// A reader of the packets between the endpoints `agent` and `device` of a network with this transmission unit, before the
-    /// first packet.
+    /// Creates a reader of the packets between the endpoints `agent` and `device`, in a network
+    /// with this transmission unit, before the first packet.
     pub fn new(unit: Unit, agent: u8, device: u8) -> PacketReader
         ensures { result ≡ new_reader unit agent device }
     {
@@ -62,28 +62,28 @@ impl PacketReader {
         }
     }
 
-    /// The network's transmission unit.
+    /// Returns the network's transmission unit.
     pub fn unit(&self) -> Unit
         ensures { result ≡ self.now.unit }
     {
         self.at_device.unit()
     }
 
-    /// The agent's endpoint identifier.
+    /// Returns the agent's endpoint identifier.
     pub fn agent(&self) -> u8
         ensures { result ≡ self.now.agent }
     {
         self.at_device.peer()
     }
 
-    /// The device's endpoint identifier.
+    /// Returns the device's endpoint identifier.
     pub fn device(&self) -> u8
         ensures { result ≡ self.now.device }
     {
         self.at_device.own()
     }
 
-    /// Hears a packet at the end that it goes to.
+    /// Feeds a packet to the assemblies of its destination.
     #[tactic(auto, unfolding(crate::specs::Lines::outcome_of_packet, crate::specs::Lines::after_packet))]
     fn assemble(&mut self, packet: &Packet<'_>) -> PacketOutcome
         requires body { (1 ≤ length packet.now.body.now) × (length packet.now.body.now ≤ bytes_of self.old.unit) }
@@ -107,11 +107,12 @@ impl PacketReader {
         PacketOutcome::Fed(self.at_agent.feed(packet))
     }
 
-    /// Appends the line of the next packet: it was sent at `turn`, in ticks, as the pair's packet of this number, counted from
-    /// 1. Bytes that are no packet are shown as they are, and change nothing. The reader goes on whatever the result.
+    /// Appends the line of the next packet, sent at tick `turn` as the pair's packet `number`,
+    /// counted from 1. Bytes that aren't a packet are shown in digits, and no assembly changes. The
+    /// reader is updated whatever the result.
     ///
     /// # Errors
-    /// Memory was refused. Of the text nothing is known then.
+    /// `AllocError` if memory is refused; the text's content is unspecified then.
     #[tactic(auto, unfolding(crate::specs::Lines::packet_line, crate::specs::Lines::reader_after))]
     pub fn push_line(
         &mut self,
@@ -137,7 +138,7 @@ impl PacketReader {
     }
 }
 
-/// Appends when a packet was sent, its device, and its number.
+/// Appends the tick at which a packet was sent, its device, and its number.
 fn push_place(alloc: Global, text: &mut Vec<u8>, place: Place) -> Result<(), AllocError>
     ensures { OnOk result (AppendsText text.old.items text.new.items (place_text place.turn place.device place.number)) }
 {
@@ -147,7 +148,7 @@ fn push_place(alloc: Global, text: &mut Vec<u8>, place: Place) -> Result<(), All
     Ok(())
 }
 
-/// Appends the packet's own source and destination, and its tag.
+/// Appends the packet's source and destination, and its tag.
 fn push_head(alloc: Global, text: &mut Vec<u8>, head: &Head) -> Result<(), AllocError>
     ensures { OnOk result (AppendsText text.old.items text.new.items (head_text head.now)) }
 {
@@ -157,7 +158,7 @@ fn push_head(alloc: Global, text: &mut Vec<u8>, head: &Head) -> Result<(), Alloc
     Ok(())
 }
 
-/// Appends a packet of a message that goes on.
+/// Appends a packet that doesn't end its message.
 fn push_part(alloc: Global, text: &mut Vec<u8>, packet: &Packet<'_>) -> Result<(), AllocError>
     ensures { OnOk result (AppendsText text.old.items text.new.items (part_text (packet_of packet.now.head packet.now.body.now))) }
 {
@@ -167,7 +168,7 @@ fn push_part(alloc: Global, text: &mut Vec<u8>, packet: &Packet<'_>) -> Result<(
     Ok(())
 }
 
-/// Appends the message that a packet ends.
+/// Appends the message that a packet completes.
 fn push_whole(alloc: Global, text: &mut Vec<u8>, message: &[u8]) -> Result<(), AllocError>
     ensures { OnOk result (AppendsText text.old.items text.new.items (codes " " ++ message_text message.now)) }
 {
@@ -176,7 +177,7 @@ fn push_whole(alloc: Global, text: &mut Vec<u8>, message: &[u8]) -> Result<(), A
     Ok(())
 }
 
-/// Appends why a packet is dropped.
+/// Appends the reason why a packet is dropped.
 fn push_dropped(text: &mut Vec<u8>, cause: DropCause) -> Result<(), AllocError>
     ensures { OnOk result (AppendsText text.old.items text.new.items (codes " drop " ++ cause_name cause)) }
 {
@@ -185,7 +186,7 @@ fn push_dropped(text: &mut Vec<u8>, cause: DropCause) -> Result<(), AllocError>
     Ok(())
 }
 
-/// Appends what an assembly made of a packet.
+/// Appends the result of feeding a packet to an assembly.
 fn push_fed(
     alloc: Global,
     text: &mut Vec<u8>,
@@ -201,7 +202,7 @@ fn push_fed(
     }
 }
 
-/// Appends what came of a packet.
+/// Appends the outcome of a packet.
 fn push_outcome(
     alloc: Global,
     text: &mut Vec<u8>,
@@ -217,7 +218,7 @@ fn push_outcome(
     }
 }
 
-/// Appends a packet's head, and what came of it.
+/// Appends a packet's head, and its outcome.
 fn push_packet(
     alloc: Global,
     text: &mut Vec<u8>,
@@ -247,7 +248,7 @@ fn push_packet_line(
     Ok(())
 }
 
-/// Appends the line of bytes that are no packet.
+/// Appends the line of bytes that aren't a packet.
 fn push_bytes_line(
     alloc: Global,
     text: &mut Vec<u8>,

@@ -11,17 +11,17 @@ use std::alloc::{AllocError, Global};
 /// Bytes that were sent as a packet between the agent and a device.
 #[derive(Clone, Copy)]
 pub struct Sent<'a> {
-    /// When they were sent, in ticks.
+    /// The tick at which they were sent.
     pub turn: u32,
     /// The packet's bytes.
     pub bytes: &'a [u8],
 }
 
-/// Appends the lines of the packets between the agent and a device, each once and in the order in which they were sent,
+/// Appends the lines of the packets between the agent and a device, in the order of sending,
 /// numbered from 1.
 ///
 /// # Errors
-/// Memory was refused. Of the text nothing is known then.
+/// `AllocError` if memory is refused; the text's content is unspecified then.
 #[tactic(auto, using(fw_text::proofs::Chains::telling))]
 pub fn push_lines(
     alloc: Global,

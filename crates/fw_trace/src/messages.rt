@@ -1,4 +1,4 @@
-//! What a message says. Each function's only error is want of memory.
+//! The text of a message. Each function's only error is `AllocError`.
 
 ghost use Rattle.std.specs.Prelude.{OnOk, ◌∷◌};
 ghost use Rattle.fw_text.specs.Printing.{AppendsText};
@@ -75,7 +75,7 @@ fn push_answer(
     Ok(())
 }
 
-/// Appends a message of PLDM whose head can't be read, given by what follows its type byte.
+/// Appends a PLDM message whose head can't be decoded, given by the bytes after its type byte.
 fn push_unread(alloc: Global, text: &mut Vec<u8>, bytes: &[u8]) -> Result<(), AllocError>
     ensures { OnOk result (AppendsText text.old.items text.new.items (pldm_unread bytes.now)) }
 {
@@ -84,7 +84,7 @@ fn push_unread(alloc: Global, text: &mut Vec<u8>, bytes: &[u8]) -> Result<(), Al
     Ok(())
 }
 
-/// Appends a message of PLDM, and what follows its type byte where it can't be read.
+/// Appends a PLDM message, or the bytes after its type byte if its head can't be decoded.
 fn push_pldm(
     alloc: Global,
     text: &mut Vec<u8>,
@@ -105,7 +105,7 @@ fn push_pldm(
     }
 }
 
-/// Appends a message of another type than control messages and PLDM.
+/// Appends a message of another type than MCTP control and PLDM.
 fn push_other(alloc: Global, text: &mut Vec<u8>, kind: u8, bytes: &[u8]) -> Result<(), AllocError>
     ensures { OnOk result (AppendsText text.old.items text.new.items (other_text kind bytes.now)) }
 {
@@ -114,11 +114,11 @@ fn push_other(alloc: Global, text: &mut Vec<u8>, kind: u8, bytes: &[u8]) -> Resu
     Ok(())
 }
 
-/// Appends what a message says, its type byte first: of control messages and PLDM what they are, with their fields; of
-/// another type its digits.
+/// Appends the text of a message, given from its type byte on: the decoded fields of MCTP control
+/// and PLDM messages, the digits of other types.
 ///
 /// # Errors
-/// Memory was refused. Of the text nothing is known then.
+/// `AllocError` if memory is refused; the text's content is unspecified then.
 #[tactic(auto, unfolding(crate::specs::Messages::message_text))]
 pub fn push_message(alloc: Global, text: &mut Vec<u8>, message: &[u8]) -> Result<(), AllocError>
     ensures { OnOk result (AppendsText text.old.items text.new.items (message_text message.now)) }

@@ -1,4 +1,5 @@
-//! The standards' names of commands and completion codes, and those of why a packet is dropped.
+//! The standards' names of commands and completion codes, and the names of the reasons why a packet
+//! is dropped.
 
 ghost use Rattle.std.specs.Prelude.{◌≡◌, option_map};
 ghost use Rattle.fw_trace.specs.Names.{base_code, base_command, cause_name, control_code, control_name, shared_code, update_code, update_command};
@@ -8,10 +9,11 @@ use mctp_ctl::ControlCommand;
 use mctp_reasm::DropCause;
 use pldm_base::{GET_PLDM_COMMANDS, GET_PLDM_TYPES, GET_TID, SET_TID, completion};
 
-/// GetPLDMVersion of PLDM type 0 (DSP0240): asks for the versions of a PLDM type.
+/// GetPLDMVersion of PLDM type 0 (DSP0240): requests the versions of a PLDM type.
 pub const GET_PLDM_VERSION: u8 = 0x03;
 
-/// The name of a command of PLDM type 5 (DSP0267 1.0, "PLDM for firmware update command codes"), if it has one.
+/// Returns the name of a command of PLDM type 5 (DSP0267 1.0, "PLDM for firmware update command
+/// codes"), if it has one.
 pub fn update_command(code: u8) -> Option<&'static str>
     ensures { option_map (λ s. s.now) result ≡ update_command code }
 {
@@ -33,7 +35,7 @@ pub fn update_command(code: u8) -> Option<&'static str>
     }
 }
 
-/// The name of a command of PLDM type 0 (DSP0240), if it has one.
+/// Returns the name of a command of PLDM type 0 (DSP0240), if it has one.
 pub fn base_command(code: u8) -> Option<&'static str>
     ensures { option_map (λ s. s.now) result ≡ base_command code }
 {
@@ -60,7 +62,7 @@ fn control_name(command: ControlCommand) -> &'static str
     }
 }
 
-/// The name of a control command, if there is one.
+/// Returns the name of a control command, if there is one.
 pub fn control_command(command: Option<ControlCommand>) -> Option<&'static str>
     ensures { option_map (λ s. s.now) result ≡ option_map control_name command }
 {
@@ -70,7 +72,8 @@ pub fn control_command(command: Option<ControlCommand>) -> Option<&'static str>
     }
 }
 
-/// The name of a completion code that every PLDM type shares (DSP0240, "PLDM completion codes"), if it has one.
+/// Returns the name of a completion code that every PLDM type shares (DSP0240, "PLDM completion
+/// codes"), if it has one.
 pub fn shared_code(code: u8) -> Option<&'static str>
     ensures { option_map (λ s. s.now) result ≡ shared_code code }
 {
@@ -86,7 +89,7 @@ pub fn shared_code(code: u8) -> Option<&'static str>
     }
 }
 
-/// The name of a completion code of PLDM type 0 (DSP0240), if it has one.
+/// Returns the name of a completion code of PLDM type 0 (DSP0240), if it has one.
 pub fn base_code(code: u8) -> Option<&'static str>
     ensures { option_map (λ s. s.now) result ≡ base_code code }
 {
@@ -97,7 +100,8 @@ pub fn base_code(code: u8) -> Option<&'static str>
     }
 }
 
-/// The name of a completion code of PLDM type 5 (DSP0267 1.0, "PLDM for firmware update completion codes"), if it has one.
+/// Returns the name of a completion code of PLDM type 5 (DSP0267 1.0, "PLDM for firmware update
+/// completion codes"), if it has one.
 pub fn update_code(code: u8) -> Option<&'static str>
     ensures { option_map (λ s. s.now) result ≡ update_code code }
 {
@@ -115,7 +119,7 @@ pub fn update_code(code: u8) -> Option<&'static str>
     }
 }
 
-/// The name of a completion code of control messages (DSP0236, Table 13), if it has one.
+/// Returns the name of a completion code of control messages (DSP0236, Table 13), if it has one.
 pub fn control_code(code: u8) -> Option<&'static str>
     ensures { option_map (λ s. s.now) result ≡ control_code code }
 {
@@ -130,7 +134,7 @@ pub fn control_code(code: u8) -> Option<&'static str>
     }
 }
 
-/// The name of why an assembly drops a packet.
+/// Returns the name of the reason why an assembly drops a packet.
 pub fn cause_name(cause: DropCause) -> &'static str
     ensures { result.now ≡ cause_name cause }
 {

@@ -1,4 +1,4 @@
-//! Pieces of a packet's line, each appended to the text that is there. Their only error is want of memory.
+//! Pieces of a packet's line, each appended to the text. Their only error is `AllocError`.
 
 ghost use Rattle.std.specs.Prelude.{OnOk, option_map};
 ghost use Rattle.fw_text.specs.Printing.{AppendsText, word_and_number};
@@ -47,7 +47,7 @@ pub fn push_long(
     push_number(alloc, text, word, number as usize)
 }
 
-/// Appends a word and a byte in two digits.
+/// Appends a word and a byte in two hexadecimal digits.
 #[tactic(auto, unfolding(crate::specs::Pieces::in_two))]
 pub fn push_two(alloc: Global, text: &mut Vec<u8>, word: &str, number: u8) -> Result<(), AllocError>
     ensures { OnOk result (AppendsText text.old.items text.new.items (in_two word.now number)) }
@@ -57,7 +57,7 @@ pub fn push_two(alloc: Global, text: &mut Vec<u8>, word: &str, number: u8) -> Re
     Ok(())
 }
 
-/// Appends a word and data in digits, or a dash where there are none.
+/// Appends a word and data in hexadecimal digits, or a dash if it is empty.
 #[tactic(auto, unfolding(crate::specs::Pieces::in_digits))]
 pub fn push_digits(
     alloc: Global,
@@ -72,7 +72,7 @@ pub fn push_digits(
     Ok(())
 }
 
-/// Appends what isn't read any further: a space and its digits, or nothing where there are none.
+/// Appends bytes that aren't decoded: a space and their digits, or nothing if there are none.
 #[tactic(auto, unfolding(crate::specs::Pieces::rest_text))]
 pub fn push_rest(alloc: Global, text: &mut Vec<u8>, bytes: &[u8]) -> Result<(), AllocError>
     ensures { OnOk result (AppendsText text.old.items text.new.items (rest_text bytes.now)) }
@@ -85,7 +85,7 @@ pub fn push_rest(alloc: Global, text: &mut Vec<u8>, bytes: &[u8]) -> Result<(), 
     Ok(())
 }
 
-/// Appends a space and a name, or the two digits of what has none.
+/// Appends a space and a name, or the number's two digits if there is no name.
 pub fn push_name(
     alloc: Global,
     text: &mut Vec<u8>,
@@ -116,7 +116,7 @@ fn push_encoding(alloc: Global, text: &mut Vec<u8>, number: u8) -> Result<(), Al
     }
 }
 
-/// Appends a word and a text that isn't ASCII: its encoding and its digits.
+/// Appends a word and a text that isn't ASCII: its encoding, and its bytes in digits.
 fn push_encoded(
     alloc: Global,
     text: &mut Vec<u8>,
@@ -131,7 +131,8 @@ fn push_encoded(
     Ok(())
 }
 
-/// Appends a word and a text: ASCII in quotes, another one with its encoding and in digits.
+/// Appends a word and a text: ASCII in quotes; another encoding by its name, with the bytes in
+/// digits.
 pub fn push_text(
     alloc: Global,
     text: &mut Vec<u8>,

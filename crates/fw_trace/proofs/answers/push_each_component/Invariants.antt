@@ -3,7 +3,7 @@ use Rattle.std.specs.List.{flat_map}
 use Rattle.fw_trace.specs.Answers.{parameters_fields}
 use Rattle.fw_trace.proofs.answers.push_each_component.Given as goal
 
--- what is appended, and what is left to append
+-- the text so far, then the rest to append
 abbrev pub invariant-loop-parameters : goal.invariant-loop-parameters
 invariant-loop-parameters l =
     (goal.iterator-loop-parameters).can_next l.parameters-iterator × (goal.iterator-loop-parameters).is_finite l.parameters-iterator

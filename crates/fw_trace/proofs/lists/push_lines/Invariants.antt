@@ -3,7 +3,7 @@ use Rattle.fw_trace.specs.Lines.{lines_of, reader_along}
 use Rattle.fw_trace.specs.Sent.{sent_of}
 use Rattle.fw_trace.proofs.lists.push_lines.Given as goal
 
--- what is told, and what is left to tell
+-- the lines so far, then those of the remaining packets
 abbrev pub invariant-loop-place : goal.invariant-loop-place
 invariant-loop-place l =
     (l.text.items ++ lines_of l.reader (l.place + 1) (map sent_of (drop l.place l.packets))
