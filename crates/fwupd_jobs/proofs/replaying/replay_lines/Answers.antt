@@ -24,7 +24,7 @@ loop-next-preserved g c =
       few = omega (arith, next.within);
       same = c.in-Ok.ensures.same ∙ c.loop-next.invariant.same;
       seen = λ traced none.
-          rises_to (g.V.Watch.watched c.loop-next.watch).seen (g.V.Watch.watched c.take_observed.new.watch).seen c.loop-next.taken (c.loop-next.invariant.seen traced none)
+          rises_to (g.V.Observer.watched c.loop-next.watch).seen (g.V.Observer.watched c.take_observed.new.watch).seen c.loop-next.taken (c.loop-next.invariant.seen traced none)
           (omega (arith, next.within, c.requires.countable)) (c.in-Ok.ensures.seen traced);
     }
 

@@ -9,8 +9,8 @@ invariant-loop-next g l = record {
   run : Run l.fn.world (take l.taken (all_steps l.lines)) l.world;
   left : drop l.taken (all_steps l.lines) ≡ l.steps;
   few : l.taken ≤ length (all_steps l.lines);
-  same : (g.V.Watch.watched l.watch).shows ≡ (g.V.Watch.watched l.fn.watch).shows;
-  seen : l.is_traced ≡ true → (g.V.Watch.watched l.fn.watch).seen ≡ 0 → (g.V.Watch.watched l.watch).seen ≡ l.taken;
+  same : (g.V.Observer.watched l.watch).shows ≡ (g.V.Observer.watched l.fn.watch).shows;
+  seen : l.is_traced ≡ true → (g.V.Observer.watched l.fn.watch).seen ≡ 0 → (g.V.Observer.watched l.watch).seen ≡ l.taken;
 }
 
 abbrev pub decreases-loop-next : goal.decreases-loop-next

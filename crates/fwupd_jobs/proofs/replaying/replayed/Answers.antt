@@ -22,6 +22,6 @@ pub returns-clause-each : goal.returns-clause-each
 returns-clause-each g c traced none =
     c.end-watched.ensures.seen
     ∙ (elim c.match-replay_lines.branch [
-      | in-Ok h ↦ subst (λ f. (g.V.Watch.watched c.replay_lines.new.watch).seen ≡ taken_of (all_steps c.args.lines.now) f) (sym h.fault-is) (h.in-Ok.ensures.seen (c.is_some.ensures ∙ traced) none)
-      | in-Err h ↦ subst (λ f. (g.V.Watch.watched c.replay_lines.new.watch).seen ≡ taken_of (all_steps c.args.lines.now) f) (sym h.fault-is) (h.in-Err.ensures.seen_before (c.is_some.ensures ∙ traced) none)
+      | in-Ok h ↦ subst (λ f. (g.V.Observer.watched c.replay_lines.new.watch).seen ≡ taken_of (all_steps c.args.lines.now) f) (sym h.fault-is) (h.in-Ok.ensures.seen (c.is_some.ensures ∙ traced) none)
+      | in-Err h ↦ subst (λ f. (g.V.Observer.watched c.replay_lines.new.watch).seen ≡ taken_of (all_steps c.args.lines.now) f) (sym h.fault-is) (h.in-Err.ensures.seen_before (c.is_some.ensures ∙ traced) none)
     ])

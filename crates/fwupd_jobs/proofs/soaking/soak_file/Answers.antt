@@ -24,8 +24,8 @@ returns-then-is_over_read-clause-fault g c =
 
 pub returns-in-Err-write-clause-fault : goal.returns-in-Err-write-clause-fault
 returns-in-Err-write-clause-fault g c =
-    ends_broken (g.F.Files.holds c.args.files.now) c.args.config.now c.args.order (option_map (λ p. p.now) c.args.file) c.in-Err-write.fault (g.P.Places.is_known c.args.places.now)
-    (g.P.Places.held c.args.places.now) c.in-Ok-soak.soaked.summary (option_map (λ k. k.items) c.in-Ok-soak.soaked.kept) c.args.output.now c.write.new.self c.in-Err-write.ensures.fault
+    ends_broken (g.F.Files.holds c.args.files.now) c.args.config.now c.args.order (option_map (λ p. p.now) c.args.file) c.in-Err-write.fault (g.P.OutputPlaces.is_known c.args.places.now)
+    (g.P.OutputPlaces.held c.args.places.now) c.in-Ok-soak.soaked.summary (option_map (λ k. k.items) c.in-Ok-soak.soaked.kept) c.args.output.now c.write.new.self c.in-Err-write.ensures.fault
     (soaks_so (g.F.Files.holds c.args.files.now) c.args.config.now c.in-Ok.config c.as_slice.result.now c.in-Ok-package_files.contents.items c.as_slice-2.result.now
     c.in-Ok-packages_in.packages.items c.as_slice-5.result.now c.as_slice-4.result.now (option_map (λ p. p.now) c.args.file) c.args.order.runs c.in-Ok-soak.soaked.summary (option_map (λ k. k.items) c.in-Ok-soak.soaked.kept)
     c.in-Ok.ensures.says c.as_slice.ensures.value c.in-Ok-package_files.ensures.packed (rw c.as_slice-3.ensures.value at (c.is_over_read.ensures.apart c.if-is_over_read.false)) c.as_slice-2.ensures.value c.in-Ok-packages_in.ensures.is c.as_slice-5.ensures.value
@@ -42,8 +42,8 @@ returns-in-Ok-judge-clause-ok g c =
 
 pub returns-clause-fault : goal.returns-clause-fault
 returns-clause-fault g c =
-    ends_wrong (g.F.Files.holds c.args.files.now) c.args.config.now c.args.order (option_map (λ p. p.now) c.args.file) c.in-Err-judge.fault (g.P.Places.is_known c.args.places.now)
-    (g.P.Places.held c.judge.new.places) c.in-Ok-soak.soaked.summary (option_map (λ k. k.items) c.in-Ok-soak.soaked.kept) c.args.output.now c.write.new.self c.in-Err-judge.ensures.fault
+    ends_wrong (g.F.Files.holds c.args.files.now) c.args.config.now c.args.order (option_map (λ p. p.now) c.args.file) c.in-Err-judge.fault (g.P.OutputPlaces.is_known c.args.places.now)
+    (g.P.OutputPlaces.held c.judge.new.places) c.in-Ok-soak.soaked.summary (option_map (λ k. k.items) c.in-Ok-soak.soaked.kept) c.args.output.now c.write.new.self c.in-Err-judge.ensures.fault
     (soaks_so (g.F.Files.holds c.args.files.now) c.args.config.now c.in-Ok.config c.as_slice.result.now c.in-Ok-package_files.contents.items c.as_slice-2.result.now
     c.in-Ok-packages_in.packages.items c.as_slice-5.result.now c.as_slice-4.result.now (option_map (λ p. p.now) c.args.file) c.args.order.runs c.in-Ok-soak.soaked.summary (option_map (λ k. k.items) c.in-Ok-soak.soaked.kept)
     c.in-Ok.ensures.says c.as_slice.ensures.value c.in-Ok-package_files.ensures.packed (rw c.as_slice-3.ensures.value at (c.is_over_read.ensures.apart c.if-is_over_read.false)) c.as_slice-2.ensures.value c.in-Ok-packages_in.ensures.is c.as_slice-5.ensures.value

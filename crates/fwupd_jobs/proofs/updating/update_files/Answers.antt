@@ -32,7 +32,7 @@ returns-in-Err-update_new-clause-fault g c =
 
 pub returns-in-Err-open_kept-clause-fault : goal.returns-in-Err-open_kept-clause-fault
 returns-in-Err-open_kept-clause-fault g c =
-    stores_end (g.F.Files.holds c.args.files.now) (source_of (stores_in (g.T.Stores.is_known c.args.stores.now) (g.T.Stores.files c.args.stores.now)) (option_map (λ p. p.now) c.args.store) c.args.config.now) c.args.order.number (show_of c.args.show) (g.V.Watch.refuses c.args.watch.now) (g.S.Wires.lacks c.args.wires.now c.args.folder.now) c.in-Err-open_kept.fault (g.V.Watch.watched c.args.watch.now)
+    stores_end (g.F.Files.holds c.args.files.now) (source_of (stores_in (g.T.Stores.is_known c.args.stores.now) (g.T.Stores.files c.args.stores.now)) (option_map (λ p. p.now) c.args.store) c.args.config.now) c.args.order.number (show_of c.args.show) (g.V.Observer.refuses c.args.watch.now) (g.S.Wires.lacks c.args.wires.now c.args.folder.now) c.in-Err-open_kept.fault (g.V.Observer.watched c.args.watch.now)
     c.args.output.now
     (stores_fail (g.F.Files.holds c.args.files.now) (source_of (stores_in (g.T.Stores.is_known c.args.stores.now) (g.T.Stores.files c.args.stores.now)) (option_map (λ p. p.now) c.args.store) c.args.config.now) c.in-Ok.config c.in-Ok-packages_in.packages.items c.in-Err-open_kept.fault c.in-Ok.ensures.says
     (named_there (g.F.Files.holds c.args.files.now) c.in-Ok.config c.as_slice.result.now c.in-Ok-package_files.contents.items c.as_slice-2.result.now c.in-Ok-packages_in.packages.items c.as_slice.ensures.value

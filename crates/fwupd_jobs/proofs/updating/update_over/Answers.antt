@@ -9,7 +9,7 @@ returns-in-Err-clause-sees g c none =
 
 pub returns-in-Err-update_reporting-clause-unwritten : goal.returns-in-Err-update_reporting-clause-unwritten
 returns-in-Err-update_reporting-clause-unwritten g c =
-    caused_unwritten c.args.order.number c.args.world.now c.update_reporting.new.world c.in-Err-update_reporting.fault (g.V.Watch.watched c.update_reporting.new.watch) c.in-Err-update_reporting.ensures.fault
+    caused_unwritten c.args.order.number c.args.world.now c.update_reporting.new.world c.in-Err-update_reporting.fault (g.V.Observer.watched c.update_reporting.new.watch) c.in-Err-update_reporting.ensures.fault
 
 pub returns-in-Err-write_report-clause-fault : goal.returns-in-Err-write_report-clause-fault
 returns-in-Err-write_report-clause-fault g c = elim c.in-Err-write_report.ensures.fault [

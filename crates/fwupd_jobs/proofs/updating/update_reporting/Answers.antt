@@ -8,13 +8,13 @@ use Rattle.fwupd_jobs.proofs.updating.update_reporting.Goals as goal
 
 pub returns-in-Err-clause-lost : goal.returns-in-Err-clause-lost
 returns-in-Err-clause-lost g c e =
-    lost_told (λ k. k.tally.failures) c.update_observed.new.world c.args.links.now c.update_observed.new.links (g.V.Watch.watched c.lose_failed.new.watch).lost
+    lost_told (λ k. k.tally.failures) c.update_observed.new.world c.args.links.now c.update_observed.new.links (g.V.Observer.watched c.lose_failed.new.watch).lost
     c.in-Err.ensures.devices (c.in-Err.ensures.failed.0 e) c.lose_failed.ensures.lost
 
 pub returns-in-Err-clause-fault : goal.returns-in-Err-clause-fault
 returns-in-Err-clause-fault g c = elim c.in-Err.ensures.fault [
   | inl e ↦ inl e
-  | inr h ↦ inr (caused_still c.args.order.number c.args.world.now c.update_observed.new.world c.in-Err.fault (g.V.Watch.watched c.update_observed.new.watch) (g.V.Watch.watched c.lose_failed.new.watch) c.lose_failed.ensures.fault c.lose_failed.ensures.ended h)
+  | inr h ↦ inr (caused_still c.args.order.number c.args.world.now c.update_observed.new.world c.in-Err.fault (g.V.Observer.watched c.update_observed.new.watch) (g.V.Observer.watched c.lose_failed.new.watch) c.lose_failed.ensures.fault c.lose_failed.ensures.ended h)
 ]
 
 pub returns-in-Err-clause-sees : goal.returns-in-Err-clause-sees

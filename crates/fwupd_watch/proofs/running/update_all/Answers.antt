@@ -21,10 +21,10 @@ loop-init g c = record {
   seen = λ none. c.note-noted.ensures.seen ∙ none;
   lost = c.note-noted.ensures.lost;
   recorded =
-      run_begun c.args.world.now c.start_all-started.new.world (g.V.Watch.watched c.args.watch.now).recording (g.V.Watch.watched c.note-noted.new.self).recording c.start_all-started.new.steps.items c.as_slice.result.now
+      run_begun c.args.world.now c.start_all-started.new.world (g.V.Observer.watched c.args.watch.now).recording (g.V.Observer.watched c.note-noted.new.self).recording c.start_all-started.new.steps.items c.as_slice.result.now
       (starts_of c.args.number c.args.world.now.sites) c.as_slice.ensures.value c.in-Ok.ensures.listed c.in-Ok.ensures.started c.in-Ok-noted.ensures.noted;
   history =
-      kept_same (g.V.Watch.watched c.args.watch.now).history (g.V.Watch.watched c.note-noted.new.self).history c.args.world.now.history c.start_all-started.new.world.history c.note-noted.ensures.history
+      kept_same (g.V.Observer.watched c.args.watch.now).history (g.V.Observer.watched c.note-noted.new.self).history c.args.world.now.history c.start_all-started.new.world.history c.note-noted.ensures.history
       c.start_all-started.ensures.history;
   shows = c.note-noted.ensures.same;
 }
@@ -68,7 +68,7 @@ returns-in-Err-drive-clause-unwritten g c = turned_apart c.in-Err-drive.fault c.
 
 pub returns-in-Err-see_turn-clause-unwritten : goal.returns-in-Err-see_turn-clause-unwritten
 returns-in-Err-see_turn-clause-unwritten g c =
-    unwritten_by c.in-Err-see_turn.fault (g.V.Watch.watched c.see_turn.new.watch).fault c.observer_fault-in-Err-see_turn.result c.observer_fault-in-Err-see_turn.ensures.told c.in-Err-see_turn.ensures.err
+    unwritten_by c.in-Err-see_turn.fault (g.V.Observer.watched c.see_turn.new.watch).fault c.observer_fault-in-Err-see_turn.result c.observer_fault-in-Err-see_turn.ensures.told c.in-Err-see_turn.ensures.err
 
 pub returns-then-driven-eq0-clause-sent : goal.returns-then-driven-eq0-clause-sent
 returns-then-driven-eq0-clause-sent g c =
@@ -87,14 +87,14 @@ loop-preserved g c = record {
       sent_on (packet_counts c.args.world.now.sites) (packet_counts c.loop.world.sites) (packet_counts c.drive.new.world.sites)
       (map (λ k. (g.L.Link.tally k).sent) c.args.links.now) (map (λ k. (g.L.Link.tally k).sent) c.loop.links) (map (λ k. (g.L.Link.tally k).sent) c.drive.new.links) c.loop.invariant.sent c.in-Ok-drive.ensures.done.counts.sent;
   kept = c.in-Ok-drive.ensures.done.counts.kept ∙ c.loop.invariant.kept;
-  seen = λ none. seen_next (g.V.Watch.watched c.loop.watch).seen (g.V.Watch.watched c.see_turn.new.watch).seen c.loop.counter (omega arith) (c.loop.invariant.seen none) c.see_turn.ensures.seen;
+  seen = λ none. seen_next (g.V.Observer.watched c.loop.watch).seen (g.V.Observer.watched c.see_turn.new.watch).seen c.loop.counter (omega arith) (c.loop.invariant.seen none) c.see_turn.ensures.seen;
   lost = c.see_turn.ensures.lost ∙ c.loop.invariant.lost;
   recorded =
-      run_noted c.schedules_read_back.ensures.portions c.args.world.now c.loop.world c.drive.new.world (g.V.Watch.watched c.args.watch.now).recording (g.V.Watch.watched c.loop.watch).recording
-      (g.V.Watch.watched c.see_turn.new.watch).recording c.loop.steps.items c.drive.new.steps.items c.as_slice-in-loop.result.now c.loop.invariant.recorded c.loop.invariant.none c.drive.ensures.drives.drives
+      run_noted c.schedules_read_back.ensures.portions c.args.world.now c.loop.world c.drive.new.world (g.V.Observer.watched c.args.watch.now).recording (g.V.Observer.watched c.loop.watch).recording
+      (g.V.Observer.watched c.see_turn.new.watch).recording c.loop.steps.items c.drive.new.steps.items c.as_slice-in-loop.result.now c.loop.invariant.recorded c.loop.invariant.none c.drive.ensures.drives.drives
       c.as_slice-in-loop.ensures.value c.in-Ok-see_turn.ensures.noted;
   history = λ h.
-      kept_on (g.V.Watch.watched c.loop.watch).history (g.V.Watch.watched c.see_turn.new.watch).history c.loop.world.history c.drive.new.world.history (entries_between c.loop.world c.drive.new.world) (c.loop.invariant.history h)
+      kept_on (g.V.Observer.watched c.loop.watch).history (g.V.Observer.watched c.see_turn.new.watch).history c.loop.world.history c.drive.new.world.history (entries_between c.loop.world c.drive.new.world) (c.loop.invariant.history h)
       (c.moments_are_tied.ensures.grow c.loop.world c.drive.new.world c.drive.ensures.drives.drives.steps c.drive.ensures.drives.drives.run) c.in-Ok-see_turn.ensures.history;
   shows = c.see_turn.ensures.same ∙ c.loop.invariant.shows;
 }
@@ -104,13 +104,13 @@ returns-clause-reached g c = updates_reached c.args.number c.args.world.now c.lo
 
 pub returns-in-Err-drive-clause-sees : goal.returns-in-Err-drive-clause-sees
 returns-in-Err-drive-clause-sees g c none =
-    updates_seen_off c.args.number c.args.world.now c.loop.world c.drive.new.world c.loop.counter (g.V.Watch.watched c.broken_off.new.watch).seen c.loop.steps.items c.drive.new.steps.items c.loop.invariant.updates
+    updates_seen_off c.args.number c.args.world.now c.loop.world c.drive.new.world c.loop.counter (g.V.Observer.watched c.broken_off.new.watch).seen c.loop.steps.items c.drive.new.steps.items c.loop.invariant.updates
     c.loop.invariant.none c.drive.ensures.drives.drives (let few = c.in-Err-drive.ensures.stopped.ticks in let first = c.in-Err-drive.ensures.stopped.within in omega arith)
-    (seen_next (g.V.Watch.watched c.loop.watch).seen (g.V.Watch.watched c.broken_off.new.watch).seen c.loop.counter (omega arith) (c.loop.invariant.seen none) c.broken_off.ensures.seen)
+    (seen_next (g.V.Observer.watched c.loop.watch).seen (g.V.Observer.watched c.broken_off.new.watch).seen c.loop.counter (omega arith) (c.loop.invariant.seen none) c.broken_off.ensures.seen)
 
 pub returns-then-driven-eq0-clause-sees : goal.returns-then-driven-eq0-clause-sees
 returns-then-driven-eq0-clause-sees g c none =
-    updates_seen c.args.number c.args.world.now c.drive.new.world c.loop.counter (g.V.Watch.watched c.loop.watch).seen
+    updates_seen c.args.number c.args.world.now c.drive.new.world c.loop.counter (g.V.Observer.watched c.loop.watch).seen
     (subst (λ n. UpdatesDevices c.args.number c.args.world.now c.drive.new.world n) (omega (arith, c.if-driven-eq0.true))
     (updates_more c.args.number c.args.world.now c.loop.world c.drive.new.world c.loop.counter c.in-Ok-drive.driven.turns c.loop.steps.items c.drive.new.steps.items c.loop.invariant.updates
     c.loop.invariant.none c.drive.ensures.drives.drives c.in-Ok-drive.ensures.done.ticks))
@@ -118,14 +118,14 @@ returns-then-driven-eq0-clause-sees g c none =
 
 pub returns-in-Err-see_turn-clause-sees : goal.returns-in-Err-see_turn-clause-sees
 returns-in-Err-see_turn-clause-sees g c none =
-    updates_seen c.args.number c.args.world.now c.drive.new.world (c.loop.counter + 1) (g.V.Watch.watched c.see_turn.new.watch).seen
+    updates_seen c.args.number c.args.world.now c.drive.new.world (c.loop.counter + 1) (g.V.Observer.watched c.see_turn.new.watch).seen
     (subst (λ n. UpdatesDevices c.args.number c.args.world.now c.drive.new.world (c.loop.counter + n)) (omega (arith, c.in-Ok-drive.ensures.done.within, c.if-driven-eq0.false))
     (updates_more c.args.number c.args.world.now c.loop.world c.drive.new.world c.loop.counter c.in-Ok-drive.driven.turns c.loop.steps.items c.drive.new.steps.items c.loop.invariant.updates
     c.loop.invariant.none c.drive.ensures.drives.drives c.in-Ok-drive.ensures.done.ticks))
-    (seen_next (g.V.Watch.watched c.loop.watch).seen (g.V.Watch.watched c.see_turn.new.watch).seen c.loop.counter (omega arith) (c.loop.invariant.seen none) c.see_turn.ensures.seen)
+    (seen_next (g.V.Observer.watched c.loop.watch).seen (g.V.Observer.watched c.see_turn.new.watch).seen c.loop.counter (omega arith) (c.loop.invariant.seen none) c.see_turn.ensures.seen)
 
 pub returns-clause-sees : goal.returns-clause-sees
-returns-clause-sees g c none = updates_seen c.args.number c.args.world.now c.loop.world c.loop.counter (g.V.Watch.watched c.loop.watch).seen c.loop.invariant.updates (c.loop.invariant.seen none)
+returns-clause-sees g c none = updates_seen c.args.number c.args.world.now c.loop.world c.loop.counter (g.V.Observer.watched c.loop.watch).seen c.loop.invariant.updates (c.loop.invariant.seen none)
 
 pub returns-in-Err-clause-sees : goal.returns-in-Err-clause-sees
 returns-in-Err-clause-sees g c none =
@@ -149,7 +149,7 @@ returns-in-Err-noted-clause-step g c e = absurd (watched_apart c.in-Err-noted.fa
 
 pub returns-then-driven-eq0-clause-history : goal.returns-then-driven-eq0-clause-history
 returns-then-driven-eq0-clause-history g c h =
-    kept_same (g.V.Watch.watched c.loop.watch).history (g.V.Watch.watched c.loop.watch).history c.loop.world.history c.drive.new.world.history refl
+    kept_same (g.V.Observer.watched c.loop.watch).history (g.V.Observer.watched c.loop.watch).history c.loop.world.history c.drive.new.world.history refl
     (ap (λ x. x.history)
     (none_driven c.in-Ok-drive.driven.turns c.loop.world c.loop.steps.items _ c.drive.new.world c.drive.new.steps.items _ c.in-Ok-drive.driven.foreign c.if-driven-eq0.true c.in-Ok-drive.ensures.done.drove))
     (c.loop.invariant.history h)
@@ -161,44 +161,44 @@ returns-then-driven-eq0-clause-noted g c =
 
 pub returns-in-Err-clause-noted_still : goal.returns-in-Err-clause-noted_still
 returns-in-Err-clause-noted_still g c none =
-    run_broken c.args.world.now c.start_all-started.new.world (g.V.Watch.watched c.args.watch.now).recording (g.V.Watch.watched c.note-noted.new.self).recording c.start_all-started.new.steps.items c.as_slice.result.now
-    c.note-noted.result (g.V.Watch.watched c.note-noted.new.self).fault c.as_slice.ensures.value c.start_all-started.ensures.run c.note-noted.ensures.noted c.note-noted.ensures.err none
+    run_broken c.args.world.now c.start_all-started.new.world (g.V.Observer.watched c.args.watch.now).recording (g.V.Observer.watched c.note-noted.new.self).recording c.start_all-started.new.steps.items c.as_slice.result.now
+    c.note-noted.result (g.V.Observer.watched c.note-noted.new.self).fault c.as_slice.ensures.value c.start_all-started.ensures.run c.note-noted.ensures.noted c.note-noted.ensures.err none
 
 pub returns-in-Err-clause-history_still : goal.returns-in-Err-clause-history_still
 returns-in-Err-clause-history_still g c kept =
-    kept_still (g.V.Watch.watched c.note-noted.new.self).history c.start_all-started.new.world.history
-    (kept_same (g.V.Watch.watched c.args.watch.now).history (g.V.Watch.watched c.note-noted.new.self).history c.args.world.now.history c.start_all-started.new.world.history c.note-noted.ensures.history
+    kept_still (g.V.Observer.watched c.note-noted.new.self).history c.start_all-started.new.world.history
+    (kept_same (g.V.Observer.watched c.args.watch.now).history (g.V.Observer.watched c.note-noted.new.self).history c.args.world.now.history c.start_all-started.new.world.history c.note-noted.ensures.history
     c.start_all-started.ensures.history kept)
 
 pub returns-in-Err-noted-clause-history_still : goal.returns-in-Err-noted-clause-history_still
 returns-in-Err-noted-clause-history_still g c kept =
-    kept_still (g.V.Watch.watched c.note-noted.new.self).history c.start_all-started.new.world.history
-    (kept_same (g.V.Watch.watched c.args.watch.now).history (g.V.Watch.watched c.note-noted.new.self).history c.args.world.now.history c.start_all-started.new.world.history c.note-noted.ensures.history
+    kept_still (g.V.Observer.watched c.note-noted.new.self).history c.start_all-started.new.world.history
+    (kept_same (g.V.Observer.watched c.args.watch.now).history (g.V.Observer.watched c.note-noted.new.self).history c.args.world.now.history c.start_all-started.new.world.history c.note-noted.ensures.history
     c.start_all-started.ensures.history kept)
 
 pub returns-in-Err-drive-clause-history_still : goal.returns-in-Err-drive-clause-history_still
 returns-in-Err-drive-clause-history_still g c kept =
-    kept_on_still (g.V.Watch.watched c.loop.watch).history (g.V.Watch.watched c.broken_off.new.watch).history c.loop.world.history c.drive.new.world.history (entries_between c.loop.world c.drive.new.world) (c.loop.invariant.history kept)
+    kept_on_still (g.V.Observer.watched c.loop.watch).history (g.V.Observer.watched c.broken_off.new.watch).history c.loop.world.history c.drive.new.world.history (entries_between c.loop.world c.drive.new.world) (c.loop.invariant.history kept)
     (c.moments_are_tied.ensures.grow c.loop.world c.drive.new.world c.drive.ensures.drives.drives.steps c.drive.ensures.drives.drives.run) c.broken_off.ensures.history_still
 
 pub returns-in-Err-see_turn-clause-history_still : goal.returns-in-Err-see_turn-clause-history_still
 returns-in-Err-see_turn-clause-history_still g c kept =
-    kept_on_still (g.V.Watch.watched c.loop.watch).history (g.V.Watch.watched c.see_turn.new.watch).history c.loop.world.history c.drive.new.world.history (entries_between c.loop.world c.drive.new.world) (c.loop.invariant.history kept)
+    kept_on_still (g.V.Observer.watched c.loop.watch).history (g.V.Observer.watched c.see_turn.new.watch).history c.loop.world.history c.drive.new.world.history (entries_between c.loop.world c.drive.new.world) (c.loop.invariant.history kept)
     (c.moments_are_tied.ensures.grow c.loop.world c.drive.new.world c.drive.ensures.drives.drives.steps c.drive.ensures.drives.drives.run) c.see_turn.ensures.history_still
 
 pub returns-then-driven-eq0-clause-history_still : goal.returns-then-driven-eq0-clause-history_still
 returns-then-driven-eq0-clause-history_still g c kept =
-    kept_still (g.V.Watch.watched c.loop.watch).history c.drive.new.world.history
-    (kept_same (g.V.Watch.watched c.loop.watch).history (g.V.Watch.watched c.loop.watch).history c.loop.world.history c.drive.new.world.history refl
+    kept_still (g.V.Observer.watched c.loop.watch).history c.drive.new.world.history
+    (kept_same (g.V.Observer.watched c.loop.watch).history (g.V.Observer.watched c.loop.watch).history c.loop.world.history c.drive.new.world.history refl
     (ap (λ x. x.history)
     (none_driven c.in-Ok-drive.driven.turns c.loop.world c.loop.steps.items _ c.drive.new.world c.drive.new.steps.items _ c.in-Ok-drive.driven.foreign c.if-driven-eq0.true c.in-Ok-drive.ensures.done.drove))
     (c.loop.invariant.history kept))
 
 pub returns-clause-history_still : goal.returns-clause-history_still
-returns-clause-history_still g c kept = kept_still (g.V.Watch.watched c.loop.watch).history c.loop.world.history (c.loop.invariant.history kept)
+returns-clause-history_still g c kept = kept_still (g.V.Observer.watched c.loop.watch).history c.loop.world.history (c.loop.invariant.history kept)
 
 pub returns-in-Err-drive-clause-noted_still : goal.returns-in-Err-drive-clause-noted_still
 returns-in-Err-drive-clause-noted_still g c none =
-    run_noted c.schedules_read_back.ensures.portions c.args.world.now c.loop.world c.drive.new.world (g.V.Watch.watched c.args.watch.now).recording (g.V.Watch.watched c.loop.watch).recording
-    (g.V.Watch.watched c.broken_off.new.watch).recording c.loop.steps.items c.drive.new.steps.items c.as_slice-in-Err-drive.result.now c.loop.invariant.recorded c.loop.invariant.none c.drive.ensures.drives.drives
+    run_noted c.schedules_read_back.ensures.portions c.args.world.now c.loop.world c.drive.new.world (g.V.Observer.watched c.args.watch.now).recording (g.V.Observer.watched c.loop.watch).recording
+    (g.V.Observer.watched c.broken_off.new.watch).recording c.loop.steps.items c.drive.new.steps.items c.as_slice-in-Err-drive.result.now c.loop.invariant.recorded c.loop.invariant.none c.drive.ensures.drives.drives
     c.as_slice-in-Err-drive.ensures.value (c.broken_off.ensures.noted none)

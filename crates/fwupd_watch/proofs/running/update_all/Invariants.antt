@@ -13,9 +13,9 @@ invariant-loop g l = record {
   none : l.steps.items ≡ [];
   sent : AllSent (packet_counts l.fn.world.sites) (packet_counts l.world.sites) (map (λ k. (g.L.Link.tally k).sent) l.fn.links) (map (λ k. (g.L.Link.tally k).sent) l.links);
   kept : map (λ k. (g.L.Link.tally k).failures) l.links ≡ map (λ k. (g.L.Link.tally k).failures) l.fn.links;
-  seen : (g.V.Watch.watched l.fn.watch).seen ≡ 0 → (g.V.Watch.watched l.watch).seen ≡ l.counter;
-  lost : (g.V.Watch.watched l.watch).lost ≡ (g.V.Watch.watched l.fn.watch).lost;
-  recorded : RecordsRun l.fn.world l.world (g.V.Watch.watched l.fn.watch).recording (g.V.Watch.watched l.watch).recording;
-  history : HasHistoryLinesIfAny (g.V.Watch.watched l.fn.watch).history l.fn.world.history → HasHistoryLinesIfAny (g.V.Watch.watched l.watch).history l.world.history;
-  shows : (g.V.Watch.watched l.watch).shows ≡ (g.V.Watch.watched l.fn.watch).shows;
+  seen : (g.V.Observer.watched l.fn.watch).seen ≡ 0 → (g.V.Observer.watched l.watch).seen ≡ l.counter;
+  lost : (g.V.Observer.watched l.watch).lost ≡ (g.V.Observer.watched l.fn.watch).lost;
+  recorded : RecordsRun l.fn.world l.world (g.V.Observer.watched l.fn.watch).recording (g.V.Observer.watched l.watch).recording;
+  history : HasHistoryLinesIfAny (g.V.Observer.watched l.fn.watch).history l.fn.world.history → HasHistoryLinesIfAny (g.V.Observer.watched l.watch).history l.world.history;
+  shows : (g.V.Observer.watched l.watch).shows ≡ (g.V.Observer.watched l.fn.watch).shows;
 }

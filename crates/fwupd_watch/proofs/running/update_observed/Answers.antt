@@ -28,12 +28,12 @@ returns-in-Ok-watched-clause-sees g c none = subst (RunsStepsSeen c.args.number 
 
 pub returns-in-Ok-watched-clause-recorded : goal.returns-in-Ok-watched-clause-recorded
 returns-in-Ok-watched-clause-recorded g c new =
-    recorded_whole c.schedules_read_back.ensures.read c.args.world.now c.update_all-end.new.world (g.V.Watch.watched c.args.watch.now).recording (g.V.Watch.watched c.update_all-end.new.watch).recording
-    (g.V.Watch.watched c.end-watched.new.self).recording c.in-Ok.ensures.noted c.in-Ok-watched.ensures.closed new
+    recorded_whole c.schedules_read_back.ensures.read c.args.world.now c.update_all-end.new.world (g.V.Observer.watched c.args.watch.now).recording (g.V.Observer.watched c.update_all-end.new.watch).recording
+    (g.V.Observer.watched c.end-watched.new.self).recording c.in-Ok.ensures.noted c.in-Ok-watched.ensures.closed new
 
 pub returns-in-Ok-watched-clause-history : goal.returns-in-Ok-watched-clause-history
 returns-in-Ok-watched-clause-history g c h =
-    kept_same (g.V.Watch.watched c.update_all-end.new.watch).history (g.V.Watch.watched c.end-watched.new.self).history c.update_all-end.new.world.history c.update_all-end.new.world.history c.end-watched.ensures.history refl
+    kept_same (g.V.Observer.watched c.update_all-end.new.watch).history (g.V.Observer.watched c.end-watched.new.self).history c.update_all-end.new.world.history c.update_all-end.new.world.history c.end-watched.ensures.history refl
     (c.in-Ok.ensures.history h)
 
 pub returns-in-Err-clause-history_still : goal.returns-in-Err-clause-history_still
@@ -50,8 +50,8 @@ returns-in-Ok-watched-clause-history_still g c kept =
 
 pub returns-in-Err-clause-recorded_still : goal.returns-in-Err-clause-recorded_still
 returns-in-Err-clause-recorded_still g c none new =
-    recorded_whole c.schedules_read_back.ensures.read c.args.world.now c.update_all-end.new.world (g.V.Watch.watched c.args.watch.now).recording (g.V.Watch.watched c.update_all-end.new.watch).recording
-    (g.V.Watch.watched c.end-watched.new.self).recording
-    (c.in-Err.ensures.noted_still (none_before c.end-watched.result (g.V.Watch.watched c.update_all-end.new.watch).fault (g.V.Watch.watched c.end-watched.new.self).fault c.end-watched.ensures.first c.end-watched.ensures.err none))
-    (well_ended c.end-watched.result (g.V.Watch.watched c.end-watched.new.self).fault _ c.end-watched.ensures.err none c.end-watched.ensures.closed)
+    recorded_whole c.schedules_read_back.ensures.read c.args.world.now c.update_all-end.new.world (g.V.Observer.watched c.args.watch.now).recording (g.V.Observer.watched c.update_all-end.new.watch).recording
+    (g.V.Observer.watched c.end-watched.new.self).recording
+    (c.in-Err.ensures.noted_still (none_before c.end-watched.result (g.V.Observer.watched c.update_all-end.new.watch).fault (g.V.Observer.watched c.end-watched.new.self).fault c.end-watched.ensures.first c.end-watched.ensures.err none))
+    (well_ended c.end-watched.result (g.V.Observer.watched c.end-watched.new.self).fault _ c.end-watched.ensures.err none c.end-watched.ensures.closed)
     new
