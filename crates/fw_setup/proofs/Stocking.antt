@@ -155,7 +155,7 @@ seen_more s os xs i x y lt within is new h =
 pub seen_all : (s : StoresOf) (os xs : List DeviceConfig) (i : ℕ) → i ≡ length os → AreSeenSoFar s os xs i → HaveStoredImages s (map device_of os) (map device_of xs)
 seen_all s os xs i e h = all_so_far s (map device_of os) (map device_of xs) i (e ∙ sym (length-map os device_of)) h
 
--- the cause why the next store isn't opened
+-- the reason why the next store isn't opened
 pub seen_unopened : (s : StoresOf) (os xs : List DeviceConfig) (i : ℕ) (x : DeviceConfig) (e : Unopened) → i < length os → i < length xs → x ≡ get_or xs i x
     → e.device ≡ x.endpoint.eid → IsFaulty s (device_of x) e.why → AreSeenSoFar s os xs i → IsUnopened s (map device_of os) e
 seen_unopened s os xs i x e lt within is its so h =

@@ -52,7 +52,7 @@ HaveStoredImages s [] [] = Unit {0}
 HaveStoredImages s (x ∷ xs) (y ∷ ys) = HasStoredImages s x y × HaveStoredImages s xs ys
 HaveStoredImages s xs ys = ⊥
 
--- The cause why a device's store isn't opened: its folder is damaged or foreign only if its files
+-- The reason why a device's store isn't opened: its folder is damaged or foreign only if its files
 -- are.
 pub record IsFaulty (s : StoresOf) (x : DeviceConfigOf) (why : OpenFault) : Type 0 where
   pub damaged : why ≡ reasons.Damaged → s.is_known ≡ true → found_in (images_configured x.components) (s.files x.endpoint.eid) ≡ Err reasons.Damaged

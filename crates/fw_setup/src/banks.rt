@@ -11,7 +11,7 @@ use fd_core::{Bank, MemBank};
 use fw_script::ComponentConfig;
 use std::alloc::{AllocError, Global};
 
-/// The cause why a bank isn't made.
+/// The reason why a bank isn't made.
 #[derive(Clone, Copy, Debug, PartialEq, Eq)]
 pub enum BanksFault {
     /// Memory was refused.
