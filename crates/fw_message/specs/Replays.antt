@@ -51,7 +51,7 @@ MessageRun w (s ∷ ss) v = (mid : CountedWorldOf) × StepsToCounted w s mid × 
 abbrev pub HasNode : MessageWorldOf → MessageStep → Type 0
 HasNode w s = (restarts_agent w.agent s || is_some (node_at w.nodes (device_of s))) ≡ true
 
--- The cause why a step isn't taken: there is no such node; or there is and the step isn't allowed,
+-- The reason why a step isn't taken: there is no such node; or there is and the step isn't allowed,
 -- whether the bank works or not; or it is allowed, and memory that it needs is refused.
 abbrev pub RefusesMessageStep : MessageWorldOf → MessageStep → MessageStepFault → Type 0
 RefusesMessageStep w s faults.NoSuchNode = (restarts_agent w.agent s ≡ false) × (node_at w.nodes (device_of s) ≡ None)

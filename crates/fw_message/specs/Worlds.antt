@@ -136,7 +136,7 @@ abbrev pub named_step : ℕ → Bool → MessageStep → WorldStepOf
 named_step agent works s =
     if restarts_agent agent s then WorldStepOf.RestartAgent else WorldStepOf.OfPair (device_of s) (pair_step works s)
 
--- the cause why a step isn't taken: `Refused` for the operator's calls and verdicts, `NotNow` for
+-- the reason why a step isn't taken: `Refused` for the operator's calls and verdicts, `NotNow` for
 -- others
 abbrev pub refusal_of : MessageStep → MessageStepFault
 refusal_of (steps.Start device number) = faults.Refused
@@ -150,7 +150,7 @@ abbrev pub needs_memory : MessageStep → Option Stepped → Bool
 needs_memory (steps.Start device number) stepped = true
 needs_memory s stepped = adds_entries stepped
 
--- The cause why a device's step isn't taken, from its pair after it: the step isn't allowed,
+-- The reason why a device's step isn't taken, from its pair after it: the step isn't allowed,
 -- whether the bank works or not; or it is allowed, and memory that it needs is refused.
 abbrev pub IsPairRefusal : MessageStep → MessageStepFault → (Bool → Option Stepped) → Type 0
 IsPairRefusal s e after =

@@ -67,7 +67,7 @@ impl MessageStep {
     }
 }
 
-/// The cause why a step isn't taken. The world is unchanged then.
+/// The reason why a step isn't taken. The world is unchanged then.
 #[derive(Clone, Copy, Debug, PartialEq, Eq, Error)]
 pub enum MessageStepFault {
     /// There is no such node. The agent is none if the step needs a device.

@@ -1,4 +1,4 @@
--- Where a session is led that passes components, one by one.
+-- The stage of a session after it passed components, one by one.
 use Rattle.std.proofs.Common.{◌≡◌, ◌∙◌, ◌++◌, ◌||◌, ℕ, suc, Bool, true, false, if◌then◌else◌, List, [], ◌∷◌, Some, None, Result, Ok, Err, length, map, refl}
 use Rattle.std.specs.Prelude.{Option}
 use Rattle.fd_core.specs.Images.{RowOf}
@@ -14,7 +14,7 @@ use Rattle.ua_core.specs.declared.state.Cause.TheVariants as causes
 use Rattle.fw_setup.specs.Forecasts.{is_any_updated, is_updated}
 use Rattle.fw_setup.specs.ForecastLaws.{ForecastsSessions, failed_by, found_cause, pass_all, pass_planned, plan_cause}
 
--- it fails if nothing is to do so far, and nothing will be
+-- it fails if no component is to be updated so far, nor later
 abbrev cause_with : List Planned → Bool → Option Cause
 cause_with [] b = if b then None else Some causes.NothingToUpdate
 cause_with (t ∷ ts) b = None

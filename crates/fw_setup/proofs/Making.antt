@@ -1,4 +1,4 @@
--- The nodes that are made of a configuration.
+-- The nodes of a configuration.
 use Rattle.mctp_wire.specs.declared.unit.Unit.{«Unit»}
 use Rattle.std.proofs.Common.{◌≡◌, ◌≤◌, ◌<◌, ◌+◌, ◌∙◌, ◌++◌, ℕ, List, [], ◌∷◌, drop, get_or, length, map, take, append_assoc, arith, ap, sym, subst, refl}
 use Rattle.std.specs.List.{AllByRecursion}
@@ -47,7 +47,7 @@ first_unit : (u : «Unit») (agent : ℕ) (ns : List DeviceNodeOf) → 1 ≤ len
 first_unit u agent [] some new = absurd (omega (arith, some))
 first_unit u agent (n ∷ ns) some new = ap (λ (m : DeviceNodeOf). m.half.unit) new.0.is ∙ new.0.unit
 
--- the nodes of a whole configuration are a world's
+-- the nodes of a whole configuration are those of a world
 pub nodes_new : (u : «Unit») (agent : ℕ) (xs : List DeviceConfigOf) (ns : List DeviceNodeOf) → AreWhole agent xs → ns ≡ nodes_made u agent xs
     → AllByRecursion (IsNewNode u agent) ns → AreNewNodes agent ns
 nodes_new u agent xs ns h is new = record {
@@ -58,7 +58,7 @@ nodes_new u agent xs ns h is new = record {
   apart = subst (λ es. AreDifferent (agent ∷ es)) (sym (ap (map (λ n. n.endpoint.eid)) is ∙ eids_made u agent xs)) h.apart;
 }
 
--- one more row leaves the keys behind it new
+-- the keys after one more row are still new
 pub rest_new : (rows : List RowOf) (row : RowOf) (keys : List Key) → AreNew (map key_of rows) (row.key ∷ keys) → AreNew (map key_of (rows ++ row ∷ [])) keys
 rest_new rows row keys h = subst (λ ks. AreNew ks keys) (sym (map-append key_of rows (row ∷ []))) h.1
 
@@ -82,12 +82,12 @@ filled_at total rows after cs i c lt is e h =
     (moved total rows (component_of c) (map component_of (drop (i + 1) cs))
     (subst (λ xs. Filled total rows (map component_of xs)) (drop_more cs i c lt ∙ ap (λ x. x ∷ drop (i + 1) cs) (sym is)) h))
 
--- Each of the devices is one.
+-- A property of each device, for one of them.
 pub device_at : (ds : List DeviceConfig) (i : ℕ) (d : DeviceConfig) → i < length ds → d ≡ get_or ds i d → AllByRecursion IsDevice (map device_of (drop i ds))
     → IsDevice (device_of d) × AllByRecursion IsDevice (map device_of (drop (i + 1) ds))
 device_at ds i d lt is h = subst (λ xs. AllByRecursion IsDevice (map device_of xs)) (drop_more ds i d lt ∙ ap (λ x. x ∷ drop (i + 1) ds) (sym is)) h
 
--- A node more is made.
+-- One more node is made.
 pub nodes_next : (u : «Unit») (agent : ℕ) (ds : List DeviceConfig) (i : ℕ) (d : DeviceConfig) → i < length ds → d ≡ get_or ds i d
     → nodes_made u agent (map device_of (take i ds)) ++ node_made u agent (device_of d) ∷ [] ≡ nodes_made u agent (map device_of (take (i + 1) ds))
 nodes_next u agent ds i d lt is =

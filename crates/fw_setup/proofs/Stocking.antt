@@ -1,4 +1,4 @@
--- Devices with what their stores keep, one after another.
+-- Devices with the images that their stores keep, in order.
 use Rattle.std.proofs.Common.{◌≡◌, ◌≢◌, ◌≤◌, ◌<◌, ◌+◌, ◌∙◌, ◌++◌, ◌⊎◌, inl, inr, ℕ, suc, zero, false, true, List, [], ◌∷◌, Some, None, get_or, length, map, slice_set, take, drop, arith, ap, sym, subst, refl}
 use Rattle.std.specs.Prelude.{IsOk, IsSomeAnd, Option, slice_get}
 use Rattle.std.specs.List.{AllByRecursion}
@@ -20,7 +20,7 @@ use Rattle.fw_setup.specs.Nodes.{row_made}
 use Rattle.fw_setup.specs.Stocks.{HaveStoredImages, CanOpen, IsFaulty, HasStoredImages, IsUnmade, IsUnopened, StoresOf, image_configured, images_configured, component_with_kept, stocked_by, stocked_device}
 use Rattle.fw_setup.specs.declared.stores.Unopened.{Unopened}
 
--- the image of a component is found where its key stands first, and not before
+-- the image of a component is found at the first place of its key, and not before
 pub image_here : (ks : List KeptOf) (i : ℕ) (d : KeptOf) (key : Key) → i < length ks → same_key (get_or ks i d).key key ≡ true → image_for (drop i ks) key ≡ Some (get_or ks i d).image
 image_here ks i d key below is = rw (drop_more ks i d below, is) refl
 
@@ -29,12 +29,12 @@ image_later ks i d key below other = rw (drop_more ks i d below, other) refl
 
 pub ruleset finding = (image_here, image_later, drop_all)
 
--- a store that keeps the configured images keeps what runs
+-- a store that keeps the configured images keeps the running images
 pub running_made : (cs : List ComponentConfigOf) → all_running (map row_made cs) ≡ images_configured cs
 running_made [] = refl
 running_made (c ∷ cs) = ap (λ ks. image_configured c ∷ ks) (running_made cs)
 
--- one component more has its image
+-- one more component has its image
 pub stocked_more : (kept : List KeptOf) (os xs : List ComponentConfig) (i : ℕ) (x y : ComponentConfig) → i < length os → x ≡ get_or xs i x → i < length xs
     → component_of y ≡ component_with_kept kept (component_of x)
     → map component_of xs ≡ map (component_with_kept kept) (take i (map component_of os)) ++ drop i (map component_of os)
@@ -44,7 +44,7 @@ stocked_more kept os xs i x y lt is within e h =
     ∙ map_over_more (component_with_kept kept) (map component_of os) (map component_of xs) i (component_of x) (subst (λ n. i < n) (sym (length-map os component_of)) lt) h
     (ap component_of is ∙ sym (get_or-map component_of xs i x (component_of x) within))
 
--- as many images as components, or others
+-- as many images as components, or another number
 pub more_images : (images : List KeptOf) (cs : List ComponentConfig) → length images ≢ length cs → images ≢ images_configured (map component_of cs)
 more_images images cs more is = more (ap length is ∙ length-map (map component_of cs) image_configured ∙ length-map cs component_of)
 
@@ -101,9 +101,9 @@ whole_stocked s agent xs ys h w = record {
   apart = subst (λ es. AreDifferent (agent ∷ es)) (sym (eids_stocked s xs ys h)) w.apart;
 }
 
--- ONE AFTER ANOTHER
+-- IN ORDER
 
--- the first so many devices have what their stores keep, and the others are as they were
+-- the first `n` devices have the images that their stores keep, and the others are unchanged
 abbrev pub AreSoFar : StoresOf → (os xs : List DeviceConfigOf) → ℕ → Type 0
 AreSoFar s os xs zero = xs ≡ os
 AreSoFar s (o ∷ os) (x ∷ xs) (suc i) = HasStoredImages s o x × AreSoFar s os xs i
@@ -137,7 +137,7 @@ all_so_far s [] xs (suc i) e h = absurd (omega (arith, e))
 all_so_far s (o ∷ os) [] (suc i) e h = absurd h
 all_so_far s (o ∷ os) (x ∷ xs) (suc i) e h = (h.0, all_so_far s os xs i (omega (arith, e)) h.1)
 
--- The same of configurations in the program.
+-- The same for configurations in the program.
 abbrev pub AreSeenSoFar : StoresOf → (os xs : List DeviceConfig) → ℕ → Type 0
 AreSeenSoFar s os xs i = AreSoFar s (map device_of os) (map device_of xs) i
 
@@ -155,7 +155,7 @@ seen_more s os xs i x y lt within is new h =
 pub seen_all : (s : StoresOf) (os xs : List DeviceConfig) (i : ℕ) → i ≡ length os → AreSeenSoFar s os xs i → HaveStoredImages s (map device_of os) (map device_of xs)
 seen_all s os xs i e h = all_so_far s (map device_of os) (map device_of xs) i (e ∙ sym (length-map os device_of)) h
 
--- why the next one isn't opened
+-- the reason why the next store isn't opened
 pub seen_unopened : (s : StoresOf) (os xs : List DeviceConfig) (i : ℕ) (x : DeviceConfig) (e : Unopened) → i < length os → i < length xs → x ≡ get_or xs i x
     → e.device ≡ x.endpoint.eid → IsFaulty s (device_of x) e.why → AreSeenSoFar s os xs i → IsUnopened s (map device_of os) e
 seen_unopened s os xs i x e lt within is its so h =
@@ -169,7 +169,7 @@ seen_unopened s os xs i x e lt within is its so h =
       so = so;
     }
 
--- the identifiers of those so far
+-- the identifiers of the devices so far
 pub eids_more : (os xs : List DeviceConfig) (i : ℕ) (x : DeviceConfig) (s : StoresOf) → i < length os → i < length xs → x ≡ get_or xs i x → AreSeenSoFar s os xs i
     → eids_of (map device_of (take i os)) ++ x.endpoint.eid ∷ [] ≡ eids_of (map device_of (take (i + 1) os))
 eids_more os xs i x s lt within is h =
@@ -179,7 +179,7 @@ eids_more os xs i x s lt within is h =
     ∙ map-append (λ (z : DeviceConfigOf). z.endpoint.eid) (map device_of (take i os)) (device_of (get_or os i x) ∷ [])
     ∙ ap (λ (z : DeviceConfigOf). eids_of (map device_of (take i os)) ++ z.endpoint.eid ∷ []) (sym same))
 
--- want of memory is no fault of a folder
+-- lack of memory is no fault of a folder
 pub memory_so : (s : StoresOf) (x : DeviceConfigOf) → IsFaulty s x reasons.Memory
 memory_so s x = record { damaged = λ e known. absurd (cc); foreign = λ e known. absurd (cc) }
 
@@ -188,7 +188,8 @@ made_so : (s : StoresOf) (x : DeviceConfigOf) (why : OpenFault) → (why ≡ rea
 made_so s x why (inl e) = record { damaged = λ d known. absurd (cc); foreign = λ d known. absurd (cc) }
 made_so s x why (inr e) = record { damaged = λ d known. absurd (cc); foreign = λ d known. absurd (cc) }
 
--- the device whose folder can't be made is among those that are configured, and each store before it can be opened
+-- the device whose folder can't be made is among the configured ones, and each store before it can
+-- be opened
 stocked_at : (s : StoresOf) (xs ys : List DeviceConfigOf) (i : ℕ) (y : DeviceConfigOf) → HaveStoredImages s xs ys → slice_get ys i ≡ Some y → IsSomeAnd (slice_get xs i) (λ x. y.endpoint.eid ≡ x.endpoint.eid)
 stocked_at s [] [] i y h at = absurd (cc)
 stocked_at s [] (z ∷ zs) i y h at = absurd h

@@ -1,5 +1,6 @@
--- What an update comes to, before it is begun: which record of a package a session would find for a device, what the device would
--- answer to each component, and where that would lead the session. Each word is that of the session and of the device.
+-- The forecast of an update: the record of a package that a session would find for a device, the
+-- device's answer to each component, and the resulting stage of the session. It uses the
+-- definitions of the session and of the device.
 use Rattle.std.specs.Prelude.{ℕ, ◌+◌, ◌==◌, Bool, if◌then◌else◌, List, [], ◌∷◌, ◌++◌, Option, None, Some, Result, Ok, Err, codes, length, map}
 use Rattle.std.specs.List.{flat_map, list_any}
 use Rattle.mctp_wire.specs.declared.unit.Unit.TheVariants.{U64}
@@ -17,15 +18,17 @@ use Rattle.ua_core.specs.Learn.{is_to_do}
 use Rattle.ua_core.specs.Lent.{key_of, sent_stamp, package_descriptor}
 use Rattle.fw_setup.specs.Nodes.{device_made}
 
--- what a device with these images answers when it is passed a component: no restriction, or which one
+-- the answer of a device with these images to a component that is passed: no restriction, or a
+-- restriction
 abbrev pub passed : List RowOf → ComponentOf → ℕ
 passed rows c = restriction rows (key_of c) (sent_stamp c)
 
--- whether the session updates the component then
+-- whether the session updates the component after that answer
 abbrev pub is_updated : List RowOf → ComponentOf → Bool
 is_updated rows c = is_to_do c (passed rows c)
 
--- what comes of a component: it is updated, or the device declines it and its option forces it, or it is left out
+-- the outcome of a component: it is updated, or the device declines it and its option forces it, or
+-- it is left out
 abbrev pub component_word : ComponentOf → (code : ℕ) → List ℕ
 component_word c code =
     if code == no_restriction then codes "update"
@@ -34,12 +37,13 @@ component_word c code =
     else if code == stamp_lower then codes "skip lower"
     else codes "skip unsupported"
 
--- what runs for the component's key: its stamp and its text, or dashes where the device has no such component
+-- the running image for the component's key: its stamp and its text, or dashes if the device has no
+-- such component
 abbrev pub active_text : Option RowOf → List ℕ
 active_text None = codes " active - -"
 active_text (Some row) = in_eight (codes " active ") row.active.label.stamp ++ word_and_quoted (codes " ") row.active.label.text
 
--- a component's line. Its stamp is the one that is sent: all ones where its options don't use it
+-- a component's line, with the stamp that is sent: all ones if its options don't use it
 unfoldable pub offer_line : List RowOf → ComponentOf → List ℕ
 offer_line rows c =
     word_and_number (codes "component ") c.classification ++ word_and_number (codes " ident ") c.identifier ++ word_and_number (codes " size ") (length c.image)
@@ -54,7 +58,7 @@ offer_lines p rows ns = flat_map (λ n. offer_line rows (component_at p n)) ns
 unfoldable pub device_head : (number eid : ℕ) → List ℕ
 device_head number eid = word_and_number (codes "device ") eid ++ word_and_number (codes " package ") number
 
--- where no record is for it
+-- the line of a device that has no record
 unfoldable pub no_record_line : (number eid : ℕ) → List ℕ
 no_record_line number eid = device_head number eid ++ codes " record - set - NoRecord\n"
 
@@ -63,7 +67,8 @@ abbrev pub first_lacked : (device : List DescriptorOf) → List DescriptorOf →
 first_lacked device [] = None
 first_lacked device (d ∷ ds) = if is_among device d then first_lacked device ds else Some d
 
--- why a record isn't for the device: the descriptor that it lacks, or the record has none
+-- the reason why a record isn't for the device: the descriptor that it lacks, or that the record
+-- has none
 unfoldable pub lack_line : (record_number : ℕ) → Option DescriptorOf → List ℕ
 lack_line n None = word_and_number (codes "record ") n ++ codes " has none\n"
 lack_line n (Some d) =
@@ -74,7 +79,8 @@ abbrev pub lack_lines : (device : List DescriptorOf) → ℕ → List RecordOf �
 lack_lines device n [] = []
 lack_lines device n (r ∷ rs) = lack_line n (first_lacked device r.descriptors) ++ lack_lines device (n + 1) rs
 
--- where a record is, which counts from 1: its set text, and the word of the update
+-- the line of a device with a record: the record's number from 1, its set text, and the outcome of
+-- the update
 unfoldable pub chosen_line : (number eid chosen : ℕ) → RecordOf → List ℕ → List ℕ
 chosen_line number eid chosen r word =
     device_head number eid ++ word_and_number (codes " record ") (chosen + 1) ++ word_and_quoted (codes " set ") r.set_text.bytes ++ codes " " ++ word ++ codes "\n"
@@ -90,17 +96,17 @@ plan_word plans.TextTooLong = codes "Plan:TextTooLong"
 abbrev pub is_any_updated : PackageText → List RowOf → List ℕ → Bool
 is_any_updated p rows ns = list_any (λ n. is_updated rows (component_at p n)) ns
 
--- it goes on, or fails with the cause NothingToUpdate
+-- the session goes on, or fails with the cause NothingToUpdate
 abbrev pub update_word : PackageText → List RowOf → List ℕ → List ℕ
 update_word p rows ns = if is_any_updated p rows ns then codes "Update" else codes "NothingToUpdate"
 
--- the lines where this record is for the device, and this is its plan
+-- the lines of a device with this record, and this plan of it
 abbrev pub planned_text : (number eid chosen : ℕ) → PackageText → List RowOf → Result (List ℕ) PlanFault → List ℕ
 planned_text number eid chosen p rows (Err fault) = chosen_line number eid chosen (record_at p chosen) (plan_word fault)
 planned_text number eid chosen p rows (Ok ns) =
     chosen_line number eid chosen (record_at p chosen) (update_word p rows ns) ++ offer_lines p rows ns
 
--- the lines where this record is for the device, or none
+-- the lines of a device with this record, or without one
 abbrev pub found_text : (number eid : ℕ) → PackageText → DeviceState → Option ℕ → List ℕ
 found_text number eid p v None = no_record_line number eid ++ lack_lines (map package_descriptor v.descriptors) 1 p.records
 found_text number eid p v (Some chosen) = planned_text number eid chosen p v.rows (plan_of p chosen)
@@ -109,7 +115,8 @@ found_text number eid p v (Some chosen) = planned_text number eid chosen p v.row
 abbrev pub device_text : (number eid : ℕ) → PackageText → DeviceState → List ℕ
 device_text number eid p v = found_text number eid p v (record_number p (map package_descriptor v.descriptors))
 
--- what is printed of a configuration's devices, in their order: of a device its descriptors and images alone, so that any unit does
+-- the text for a configuration's devices, in their order: it depends only on a device's descriptors
+-- and images, so any transmission unit gives the same
 abbrev pub configured_text : (number : ℕ) → PackageText → DeviceConfigOf → List ℕ
 configured_text number p x = device_text number x.endpoint.eid p (device_made U64 x).device
 

@@ -1,4 +1,4 @@
--- The nodes that a configuration is of.
+-- The nodes of a configuration.
 use Rattle.std.specs.Prelude.{ℕ, List, None, map}
 use Rattle.mctp_wire.specs.declared.unit.Unit.{«Unit»}
 use Rattle.fd_core.specs.Images.{RowOf}
@@ -6,7 +6,7 @@ use Rattle.fd_core.specs.States.{DeviceOf, new_device}
 use Rattle.fw_node.specs.Nodes.{DeviceNodeOf, new_device_node}
 use Rattle.fw_script.specs.Configs.{ComponentConfigOf, DeviceConfigOf}
 
--- a component with the image that runs, and nothing applied
+-- a component with its running image, and nothing applied
 abbrev pub row_made : ComponentConfigOf → RowOf
 row_made c = record { key = c.component.key; active = record { label = c.label; bytes = c.image }; applied = None }
 

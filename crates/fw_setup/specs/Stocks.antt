@@ -1,4 +1,4 @@
--- What the stores of devices keep, in the places of the images that a configuration says.
+-- The images that the stores of devices keep, in place of the configured images.
 use Rattle.std.specs.Prelude.{ℕ, ◌≡◌, ◌⊎◌, Bool, true, Err, IsOk, List, [], ◌∷◌, None, Ok, Option, Some, map, slice_get, take}
 use Rattle.std.specs.List.{AllByRecursion}
 use Rattle.fd_core.specs.Images.{ImageOf}
@@ -17,12 +17,12 @@ image_configured c = record { key = c.component.key; image = record { label = c.
 abbrev pub images_configured : List ComponentConfigOf → List KeptOf
 images_configured cs = map image_configured cs
 
--- a component with another image, where there is one
+-- a component with another image, if there is one
 abbrev pub stocked_by : ComponentConfigOf → Option ImageOf → ComponentConfigOf
 stocked_by c None = c
 stocked_by c (Some image) = record c { label = image.label; image = image.bytes }
 
--- a component with the image that is kept for its key, where one is
+-- a component with the image that is kept for its key, if there is one
 abbrev pub component_with_kept : List KeptOf → ComponentConfigOf → ComponentConfigOf
 component_with_kept kept c = stocked_by c (image_for kept c.component.key)
 
@@ -30,28 +30,30 @@ component_with_kept kept c = stocked_by c (image_for kept c.component.key)
 abbrev pub stocked_device : List KeptOf → DeviceConfigOf → DeviceConfigOf
 stocked_device kept x = record x { components = map (component_with_kept kept) x.components }
 
--- What is known of the stores of devices: whether the files are known that each device's folder has, and which they are.
+-- The facts about the stores of devices: whether the files of each device's folder are known, and
+-- the files.
 pub record StoresOf : Type 0 where
   pub is_known : Bool
   pub files : (device : ℕ) → Files
 
--- those of the folder of all stores
+-- the facts about the stores in the folder of all stores
 abbrev pub stores_in : Bool → ((root : List ℕ) → (device : ℕ) → Files) → (root : List ℕ) → StoresOf
 stores_in is_known files root = record { is_known = is_known; files = files root }
 
--- A device with what is found in its folder over its configured images.
+-- A device with the images that are found in its folder, in place of its configured images.
 pub record HasStoredImages (s : StoresOf) (x y : DeviceConfigOf) : Type 0 where
   pub kept : List KeptOf
   pub found : s.is_known ≡ true → found_in (images_configured x.components) (s.files x.endpoint.eid) ≡ Ok kept
   pub is : y ≡ stocked_device kept x
 
--- each of these devices, in their order
+-- each of these devices has its stored images, in their order
 abbrev pub HaveStoredImages : StoresOf → (xs ys : List DeviceConfigOf) → Type 0
 HaveStoredImages s [] [] = Unit {0}
 HaveStoredImages s (x ∷ xs) (y ∷ ys) = HasStoredImages s x y × HaveStoredImages s xs ys
 HaveStoredImages s xs ys = ⊥
 
--- Why a device's store isn't opened: its folder is damaged or foreign only where that is so of its files.
+-- The reason why a device's store isn't opened: its folder is damaged or foreign only if its files
+-- are.
 pub record IsFaulty (s : StoresOf) (x : DeviceConfigOf) (why : OpenFault) : Type 0 where
   pub damaged : why ≡ reasons.Damaged → s.is_known ≡ true → found_in (images_configured x.components) (s.files x.endpoint.eid) ≡ Err reasons.Damaged
   pub foreign : why ≡ reasons.Foreign → s.is_known ≡ true → found_in (images_configured x.components) (s.files x.endpoint.eid) ≡ Err reasons.Foreign
@@ -60,7 +62,7 @@ pub record IsFaulty (s : StoresOf) (x : DeviceConfigOf) (why : OpenFault) : Type
 abbrev pub CanOpen : StoresOf → DeviceConfigOf → Type 0
 CanOpen s x = s.is_known ≡ true → IsOk (found_in (images_configured x.components) (s.files x.endpoint.eid))
 
--- The first device whose store isn't opened, and why.
+-- The first device whose store isn't opened, and the cause.
 pub record IsUnopened (s : StoresOf) (xs : List DeviceConfigOf) (e : Unopened) : Type 0 where
   pub place : ℕ
   pub device : DeviceConfigOf

@@ -1,4 +1,4 @@
-//! Where the banks of a configuration's devices are made.
+//! Makes the banks of a configuration's devices.
 
 ghost use Rattle.std.specs.Prelude.{◌≡◌, [], IfErr, IfOk, map};
 ghost use Rattle.fd_core.specs.Banks.{HaveKeysOnce};
@@ -11,7 +11,7 @@ use fd_core::{Bank, MemBank};
 use fw_script::ComponentConfig;
 use std::alloc::{AllocError, Global};
 
-/// Why a bank isn't made.
+/// The reason why a bank isn't made.
 #[derive(Clone, Copy, Debug, PartialEq, Eq)]
 pub enum BanksFault {
     /// Memory was refused.
@@ -20,12 +20,12 @@ pub enum BanksFault {
     Device(u8),
 }
 
-/// Where the banks of devices are made.
+/// A maker of the banks of devices.
 pub trait Banks<B: Bank + Drop> {
-    /// A bank of a device's components, each with the image that runs, before its first call.
+    /// Makes a bank of a device's components, each with its running image.
     ///
     /// # Errors
-    /// There can be none for this device, or memory is refused.
+    /// `Device` if there can be no bank for this device, `Memory` if memory is refused.
     fn make(
         &mut self,
         alloc: Global,
@@ -62,10 +62,10 @@ impl Banks<MemBank> for MemBanks {
     }
 }
 
-/// A bank in memory of these components, each with the image that runs.
+/// Makes a bank in memory of these components, each with its running image.
 ///
 /// # Errors
-/// `AllocError` where memory for it is refused.
+/// `AllocError` if memory for it is refused.
 pub fn mem_bank(alloc: Global, components: &[ComponentConfig]) -> Result<MemBank, AllocError>
     requires { AreNew [] (keys_of (map component_of components.now)) }
     ensures rows { IfOk result (λ b. b.rows ≡ map row_made (map component_of components.now)) }

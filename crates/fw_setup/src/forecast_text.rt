@@ -1,4 +1,4 @@
-//! The text of what an update comes to, before it is begun.
+//! The text of an update's forecast.
 
 ghost use Rattle.std.specs.Prelude.{◌≡◌, ◌<◌, ◌++◌, All, IfOk, OnOk, length, map, option_map};
 ghost use Rattle.std.specs.List.{flat_map};
@@ -21,14 +21,14 @@ use fw_text::{push_data, push_eight, push_four, push_next, push_number, push_quo
 use fwup_wire::DeviceDescriptors;
 use std::alloc::{AllocError, Global};
 
-/// Which update is meant: of which device, with the package of which number, from 1 on.
+/// The update that is forecast: its device, and the number of its package, from 1.
 #[derive(Clone, Copy)]
 struct Meant {
     number: usize,
     eid: u8,
 }
 
-/// Appends what a device's line begins with.
+/// Appends the head of a device's line.
 fn push_head(alloc: Global, text: &mut Vec<u8>, meant: Meant) -> Result<(), AllocError>
     ensures { OnOk result (AppendsText text.old.items text.new.items (device_head meant.number meant.eid)) }
 {
@@ -46,7 +46,7 @@ fn push_no_record(alloc: Global, text: &mut Vec<u8>, meant: Meant) -> Result<(),
     Ok(())
 }
 
-/// Appends the line of a device for which there is a record, and the word of its update.
+/// Appends the line of a device with a record, and the outcome of its update.
 fn push_chosen(
     alloc: Global,
     text: &mut Vec<u8>,
@@ -66,7 +66,8 @@ fn push_chosen(
     Ok(())
 }
 
-/// Appends why a record isn't for a device: the descriptor that it lacks, or the record has none.
+/// Appends the reason why a record isn't for a device: the descriptor that it lacks, or that the
+/// record has none.
 fn push_lack(
     alloc: Global,
     text: &mut Vec<u8>,
@@ -87,7 +88,7 @@ fn push_lack(
     Ok(())
 }
 
-/// Appends, for each record, why it isn't for a device.
+/// Appends, for each record, the reason why it isn't for a device.
 #[tactic(auto, using(fw_text::proofs::Chains::telling))]
 fn push_lacks(
     alloc: Global,
@@ -111,7 +112,7 @@ fn push_lacks(
     Ok(())
 }
 
-/// Appends what runs for a component, or dashes.
+/// Appends the running image of a component, or dashes.
 fn push_active(
     alloc: Global,
     text: &mut Vec<u8>,
@@ -174,7 +175,7 @@ fn push_offers(
     Ok(())
 }
 
-/// Appends the lines of a device for which there is a record.
+/// Appends the lines of a device with a record.
 fn push_planned(
     alloc: Global,
     text: &mut Vec<u8>,
@@ -199,10 +200,10 @@ fn push_planned(
     Ok(())
 }
 
-/// A device's descriptors, as a package is asked for them.
+/// Returns a device's descriptors in the form in which a package is searched for them.
 ///
 /// # Errors
-/// `AllocError` where memory for them is refused.
+/// `AllocError` if memory for them is refused.
 pub fn known<'a>(
     alloc: Global,
     descriptors: DeviceDescriptors<'a>,
@@ -247,10 +248,10 @@ fn push_device(
     Ok(())
 }
 
-/// What an update of each of these devices comes to, with the package of this number.
+/// Returns the forecast of an update of each of these devices with the package of this number.
 ///
 /// # Errors
-/// `AllocError` where memory for the text is refused.
+/// `AllocError` if memory for the text is refused.
 pub fn forecast(
     alloc: Global,
     number: usize,

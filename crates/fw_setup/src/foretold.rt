@@ -1,4 +1,5 @@
-//! What an update comes to, before it is begun: which components a device would take, and why it would take none.
+//! The forecast of an update: the components that a device would accept, and the cause if it would
+//! accept none.
 
 ghost use Rattle.std.specs.Prelude.{◌≡◌, ◌<◌, All, length, map, option_map};
 ghost use Rattle.fd_core.specs.Images.{row_of};
@@ -19,7 +20,7 @@ use fwup_wire::code::response::{
     COMPARISON_STAMP_IDENTICAL, COMPARISON_STAMP_LOWER, NO_RESTRICTION, NOT_SUPPORTED,
 };
 
-/// A component's key.
+/// Returns a component's key.
 pub fn key(component: Component<'_>) -> Key
     ensures { result ≡ key_of (component_seen component.entry) }
 {
@@ -29,7 +30,7 @@ pub fn key(component: Component<'_>) -> Key
     }
 }
 
-/// A component's comparison stamp, as it is sent: option bit 1 says whether it is used.
+/// Returns a component's comparison stamp, as it is sent: option bit 1 says whether it is used.
 pub fn sent_stamp(component: Component<'_>) -> u32
     ensures { result ≡ sent_stamp (component_seen component.entry) }
 {
@@ -47,7 +48,7 @@ fn is_forced(component: Component<'_>) -> bool
     component.options % 2 == 1
 }
 
-/// What a device has that runs for a key, if it has a component of that key.
+/// Returns the running image that a device has for a key, if it has a component with that key.
 pub fn running(components: &[ComponentConfig], key: Key) -> Option<&ComponentConfig>
     ensures { option_map (λ c. row_made (component_of c.now)) result ≡ row_of (map row_made (map component_of components.now)) key }
 {
@@ -59,7 +60,7 @@ pub fn running(components: &[ComponentConfig], key: Key) -> Option<&ComponentCon
     None
 }
 
-/// What a device answers when it is passed a component: no restriction, or which one.
+/// Returns a device's answer to a component that is passed: no restriction, or a restriction.
 pub fn passed(components: &[ComponentConfig], component: Component<'_>) -> u8
     ensures { result ≡ passed (map row_made (map component_of components.now)) (component_seen component.entry) }
 {
@@ -69,7 +70,7 @@ pub fn passed(components: &[ComponentConfig], component: Component<'_>) -> u8
     }
 }
 
-/// Whether a component is updated that the device answers so to.
+/// Whether a component is updated after the device answers this code.
 fn is_to_do(component: Component<'_>, code: u8) -> bool
     ensures { result ≡ is_to_do (component_seen component.entry) code }
 {
@@ -78,7 +79,7 @@ fn is_to_do(component: Component<'_>, code: u8) -> bool
             && is_forced(component)
 }
 
-/// What comes of a component that the device answers so to.
+/// Returns the outcome of a component after the device answers this code.
 pub fn component_word(component: Component<'_>, code: u8) -> &'static str
     ensures { result.now ≡ component_word (component_seen component.entry) code }
 {
@@ -115,7 +116,7 @@ fn is_any_updated(components: &[ComponentConfig], contents: &Package<'_>, number
     false
 }
 
-/// What comes of an update with these components of a package.
+/// Returns the outcome of an update with these components of a package.
 pub fn update_word(
     components: &[ComponentConfig],
     contents: &Package<'_>,
@@ -131,7 +132,7 @@ pub fn update_word(
     }
 }
 
-/// The cause with which an update fails whose record can't be planned.
+/// Returns the cause with which an update fails if its record can't be planned.
 pub fn plan_word(fault: PlanFault) -> &'static str
     ensures { result.now ≡ plan_word fault }
 {
@@ -155,7 +156,7 @@ fn is_among(device: &[Descriptor<'_>], descriptor: Descriptor<'_>) -> bool
     false
 }
 
-/// The first of these descriptors that the device lacks, if it lacks one.
+/// Returns the first of these descriptors that the device lacks, if it lacks one.
 pub fn first_lacked<'a>(
     device: &[Descriptor<'_>],
     descriptors: Descriptors<'a>,

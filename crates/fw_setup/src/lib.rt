@@ -1,4 +1,4 @@
-//! What a configuration comes to: the world that it opens, and what an update of its devices would do.
+//! The world of a configuration, and the forecast of an update of its devices.
 #![tactic(auto)]
 
 mod banks;

@@ -20,7 +20,7 @@ use mctp_ctl::Endpoint;
 use mctp_wire::Unit;
 use std::alloc::{AllocError, Global};
 
-/// The list of these components.
+/// Returns the list of these components.
 fn component_list(components: &[ComponentConfig]) -> ArrayVec<BankComponent, MAX_COMPONENTS>
     requires { length components.now ≤ 3 }
     ensures { result.items ≡ map (λ c. c.component) (map component_of components.now) }
@@ -32,7 +32,7 @@ fn component_list(components: &[ComponentConfig]) -> ArrayVec<BankComponent, MAX
     list
 }
 
-/// The same descriptors.
+/// Returns the same descriptors.
 fn same_descriptors(descriptors: &DescriptorList) -> DescriptorList
     ensures { result ≡ descriptors.now }
 {
@@ -44,7 +44,7 @@ fn same_descriptors(descriptors: &DescriptorList) -> DescriptorList
     same
 }
 
-/// A device as it is configured, in a network with this transmission unit, before its first command.
+/// Creates a device of the configuration, in a network with this transmission unit.
 #[tactic(auto, using(crate::proofs::Making::keys_made))]
 fn device<B: Bank + Drop, M: Banks<B>>(
     alloc: Global,
@@ -62,7 +62,7 @@ fn device<B: Bank + Drop, M: Banks<B>>(
     Ok(Device::new(unit, descriptors, components, bank))
 }
 
-/// The node of a device as it is configured, before its first packet.
+/// Creates the node of a device of the configuration.
 #[tactic(auto, using(crate::proofs::Making::new_made))]
 fn node<B: Bank + Drop, M: Banks<B>>(
     alloc: Global,
@@ -79,7 +79,7 @@ fn node<B: Bank + Drop, M: Banks<B>>(
     Ok(DeviceNode::new(config.endpoint, agent, device))
 }
 
-/// The nodes of these devices, in their order.
+/// Creates the nodes of these devices, in their order.
 fn node_all<B: Bank + Drop, M: Banks<B>>(
     alloc: Global,
     unit: Unit,
@@ -101,10 +101,10 @@ fn node_all<B: Bank + Drop, M: Banks<B>>(
     Ok(nodes)
 }
 
-/// The nodes of a configuration's devices, in their order, before their first packet.
+/// Creates the nodes of a configuration's devices, in their order.
 ///
 /// # Errors
-/// A device's bank isn't made, or memory for the nodes is refused.
+/// The fault of a device's bank, or `Memory` if memory for the nodes is refused.
 #[tactic(auto, using(crate::proofs::Making::nodes_new))]
 fn nodes<B: Bank + Drop, M: Banks<B>>(
     alloc: Global,
@@ -123,11 +123,11 @@ fn nodes<B: Bank + Drop, M: Banks<B>>(
     }
 }
 
-/// The world of a configuration's nodes, in a network with its transmission unit, before its first step. Each device's bank is one of
-/// these.
+/// Creates the world of a configuration's nodes, in a network with its transmission unit, before
+/// its first step, with a bank from `banks` for each device.
 ///
 /// # Errors
-/// A device's bank isn't made, or memory for the world is refused.
+/// The fault of a device's bank, or `Memory` if memory for the world is refused.
 pub fn opening_world_over<'a, B: Bank + Drop, M: Banks<B>>(
     alloc: Global,
     unit: Unit,
@@ -147,10 +147,10 @@ pub fn opening_world_over<'a, B: Bank + Drop, M: Banks<B>>(
     }
 }
 
-/// The same over banks in memory.
+/// The same with banks in memory.
 ///
 /// # Errors
-/// `AllocError` where memory for it is refused.
+/// `AllocError` if memory for it is refused.
 pub fn opening_world<'a>(
     alloc: Global,
     unit: Unit,

@@ -1,4 +1,4 @@
-//! The images that a store keeps, in the places of those that a configuration says.
+//! The images that a store keeps, in place of the configured images.
 
 ghost use Rattle.std.specs.Prelude.{◌≡◌, IfOk, OnOk, Some, map, option_map};
 ghost use Rattle.fd_core.specs.Images.{key_of};
@@ -12,10 +12,10 @@ use fw_store::{Kept, Stored};
 use fwup_wire::Key;
 use std::alloc::{AllocError, Global};
 
-/// The image that each of these components is configured with, lent.
+/// Returns the configured image of each of these components, borrowed from it.
 ///
 /// # Errors
-/// `AllocError` where memory is refused.
+/// `AllocError` if memory is refused.
 pub fn configured_images<'a>(
     alloc: Global,
     components: &'a [ComponentConfig],
@@ -33,7 +33,7 @@ pub fn configured_images<'a>(
     Ok(images)
 }
 
-/// The keys of these components.
+/// Returns the keys of these components.
 pub(crate) fn component_keys(
     alloc: Global,
     components: &[ComponentConfig],
@@ -47,7 +47,7 @@ pub(crate) fn component_keys(
     Ok(keys)
 }
 
-/// Puts an image in the place of that of a component.
+/// Replaces the image of a component.
 fn replace(alloc: Global, config: &mut ComponentConfig, image: &Kept<'_>) -> Result<(), AllocError>
     ensures { OnOk result (component_of config.new ≡ stocked_by (component_of config.old) (Some image.now.image)) }
 {
@@ -58,7 +58,7 @@ fn replace(alloc: Global, config: &mut ComponentConfig, image: &Kept<'_>) -> Res
     Ok(())
 }
 
-/// The image that is kept for a component, if one is.
+/// Returns the image that is kept for a component, if there is one.
 #[tactic(auto, using(crate::proofs::Stocking::finding))]
 fn kept_for(images: &[Stored], key: Key) -> Option<Kept<'_>>
     ensures { option_map (λ k. k.image) result ≡ image_for images.now key }
@@ -72,7 +72,7 @@ fn kept_for(images: &[Stored], key: Key) -> Option<Kept<'_>>
     None
 }
 
-/// Puts the image that is kept for a component in the place of its own, if one is kept.
+/// Replaces a component's image by the image that is kept for it, if there is one.
 fn stock_component(
     alloc: Global,
     config: &mut ComponentConfig,
@@ -86,7 +86,7 @@ fn stock_component(
     }
 }
 
-/// Puts the images that are kept for components in the places of their own.
+/// Replaces the images of components by those that are kept for them.
 fn stock_all(
     alloc: Global,
     components: &mut [ComponentConfig],
@@ -100,10 +100,10 @@ fn stock_all(
     Ok(())
 }
 
-/// Puts the images that are kept for a device's components in the places of those that it is configured with.
+/// Replaces the configured images of a device's components by those that are kept for them.
 ///
 /// # Errors
-/// `AllocError` where memory is refused: some may be in their places.
+/// `AllocError` if memory is refused. Some images may be replaced then.
 pub fn stock(alloc: Global, device: &mut DeviceConfig, images: &[Stored]) -> Result<(), AllocError>
     ensures { OnOk result (device_of device.new ≡ stocked_device images.now (device_of device.old)) }
 {

@@ -24,14 +24,15 @@ struct DeviceStore<F: Folder + Drop> {
     store: FolderStore<F>,
 }
 
-/// Banks over the stores of devices, which are taken in their order: that of the first device is the first to be taken. What was left
-/// in the folder of a store is removed when it is taken: not before each store is opened.
+/// Banks over the stores of devices, which are taken in their order, the first device's first.
+/// Leftover files in the folder of a store are removed when it is taken, so only after all stores
+/// are opened.
 #[derive(Drop)]
 pub struct StoreBanks<F: Folder + Drop> {
     stores: VecDeque<DeviceStore<F>>,
 }
 
-/// Whether an image is the one that a component is configured with.
+/// Whether an image is the configured image of a component.
 fn is_configured(stored: &Stored, config: &ComponentConfig) -> bool
     ensures same { result ≡ true → stored.now ≡ image_configured (component_of config.now) }
     ensures differ { result ≡ false → stored.now ≢ image_configured (component_of config.now) }
@@ -42,7 +43,7 @@ fn is_configured(stored: &Stored, config: &ComponentConfig) -> bool
         && image.bytes == config.image.as_slice()
 }
 
-/// Whether images are those that components are configured with.
+/// Whether images are the configured images of components.
 #[tactic(auto, using(crate::proofs::Stocking::more_images, crate::proofs::Stocking::other_image))]
 fn are_configured(images: &[Stored], components: &[ComponentConfig]) -> bool
     ensures same { result ≡ true → images.now ≡ images_configured (map component_of components.now) }
@@ -59,7 +60,7 @@ fn are_configured(images: &[Stored], components: &[ComponentConfig]) -> bool
     true
 }
 
-/// A bank of components over a store that keeps the images that they are configured with.
+/// Creates a bank of components over a store that keeps their configured images.
 fn kept_bank<F: Folder + Drop>(
     alloc: Global,
     components: &[ComponentConfig],
@@ -77,7 +78,8 @@ fn kept_bank<F: Folder + Drop>(
     Ok(KeptBank::new(alloc, bank, keys, store))
 }
 
-/// A store from whose folder the files are removed that `active` doesn't name. They stay where the folder doesn't say which it has.
+/// Removes the files that `active` doesn't name from the folder of a store. They stay if the folder
+/// doesn't say which files it has.
 fn swept<F: Folder + Drop>(store: FolderStore<F>) -> Result<FolderStore<F>, AllocError>
     ensures kept { IfOk result (λ s. s.memory.images.items ≡ store.memory.images.items) }
     ensures untouched { IfOk result (λ s. F.is_known store.folder ≡ true → IsUntouched store.entries.items (F.files store.folder) (F.files s.folder)) }
@@ -90,7 +92,7 @@ fn swept<F: Folder + Drop>(store: FolderStore<F>) -> Result<FolderStore<F>, Allo
 }
 
 impl<F: Folder + Drop> StoreBanks<F> {
-    /// Banks over no stores.
+    /// Creates banks over no stores.
     pub(crate) fn new(alloc: Global) -> StoreBanks<F>
         ensures { result.stores.items ≡ [] }
     {
@@ -99,7 +101,7 @@ impl<F: Folder + Drop> StoreBanks<F> {
         }
     }
 
-    /// One store more, of this device.
+    /// Appends the store of a device.
     pub(crate) fn push(&mut self, device: u8, store: FolderStore<F>) -> Result<(), AllocError>
         ensures { OnOk result (self.new.stores.items ≡ self.old.stores.items ++ record { device = device; store = store } ∷ []) }
     {

@@ -1,4 +1,4 @@
-//! The stores of devices, each in a folder of its own.
+//! The stores of devices, each in its own folder.
 
 ghost use Rattle.std.specs.Prelude.{◌≡◌, ◌⊎◌, Bool, Err, IfErr, IfOk, List, None, Ok, OnOk, false, map, true, ℕ};
 ghost use Rattle.fw_script.specs.Seen.{component_of, device_of};
@@ -12,16 +12,17 @@ use fw_script::{ComponentConfig, DeviceConfig};
 use fw_store::{Folder, FolderStore, MemStore, OpenFault, SystemFolder, open_store, read_store};
 use std::alloc::{AllocError, Global};
 
-/// Why the store of a device isn't opened.
+/// The device whose store isn't opened, and the cause.
 #[derive(Clone, Copy, Debug, PartialEq, Eq)]
 pub struct Unopened {
     /// The device's endpoint identifier.
     pub device: u8,
-    /// Why it isn't.
+    /// The cause.
     pub why: OpenFault,
 }
 
-/// Where the folders of devices' stores are, below a folder. Where it is known what they hold, it is known of each of them.
+/// The folders of devices' stores, below a root folder. If the files of one folder are known, those
+/// of each are.
 pub trait Stores<F: Folder + Drop> {
     ghost use Rattle.fw_store.specs.Folders.{Files};
 
@@ -29,31 +30,32 @@ pub trait Stores<F: Folder + Drop> {
 
     ghost files: { Self → List ℕ → ℕ → Files };
 
-    /// The folder of a device's store, below this one. It is made where it isn't there.
+    /// Returns the folder of a device's store, below `root`. It is made if it isn't there.
     ///
     /// # Errors
-    /// `Unreadable` where it can't be made, and `Memory`.
+    /// `Unreadable` if it can't be made, or `Memory`.
     fn make(&self, alloc: Global, root: &str, device: u8) -> Result<F, OpenFault>
         ensures known { IfOk result (λ f. is_known self.now ≡ true → F.is_known f ≡ true) }
         ensures files { IfOk result (λ f. is_known self.now ≡ true → F.files f ≡ files self.now root.now device) }
         ensures fault { IfErr result (λ e. (e ≡ OpenFault.Unreadable) ⊎ (e ≡ OpenFault.Memory)) };
 
-    /// The same to read from. It may not be there: then it has no files.
+    /// Returns the folder for reading. A folder that isn't there has no files.
     ///
     /// # Errors
-    /// `AllocError` where memory is refused.
+    /// `AllocError` if memory is refused.
     fn at(&self, alloc: Global, root: &str, device: u8) -> Result<F, AllocError>
         ensures known { IfOk result (λ f. is_known self.now ≡ true → F.is_known f ≡ true) }
         ensures files { IfOk result (λ f. is_known self.now ≡ true → F.files f ≡ files self.now root.now device) };
 }
 
-/// Folders of the system, of which nothing is known: that of a device is named by its endpoint identifier.
+/// Folders of the system, whose files aren't known. That of a device is named by its endpoint
+/// identifier.
 #[derive(Clone, Copy)]
 pub struct SystemStores<'a> {
     rt: &'a HostRuntime,
 }
 
-/// The path of the folder of a device's store.
+/// Returns the path of the folder of a device's store.
 fn device_path(alloc: Global, root: &str, device: u8) -> Result<String, AllocError> {
     match format!(in alloc; "{root}/{device}") {
         Ok(path) => Ok(path),
@@ -62,7 +64,7 @@ fn device_path(alloc: Global, root: &str, device: u8) -> Result<String, AllocErr
 }
 
 impl<'a> SystemStores<'a> {
-    /// The folders that a runtime reaches.
+    /// Creates the stores over the folders that a runtime reaches.
     pub fn new(rt: &'a HostRuntime) -> SystemStores<'a> {
         SystemStores { rt }
     }
@@ -91,7 +93,7 @@ impl<'a> Stores<SystemFolder<'a>> for SystemStores<'a> {
     }
 }
 
-/// The store of a folder over the images that components are configured with.
+/// Opens the store of a folder, for components with these configured images.
 fn open_over<F: Folder + Drop>(
     alloc: Global,
     folder: F,
@@ -108,7 +110,8 @@ fn open_over<F: Folder + Drop>(
     }
 }
 
-/// What a folder keeps over the images that components are configured with. It is only read.
+/// Reads the images that a folder keeps, for components with these configured images. The folder is
+/// only read.
 fn read_over<F: Folder + Drop>(
     alloc: Global,
     folder: &F,
@@ -124,8 +127,8 @@ fn read_over<F: Folder + Drop>(
     }
 }
 
-/// Opens the store of a device, and puts the images that it keeps in the places of those that the device is configured with. Its
-/// folder is only read.
+/// Opens the store of a device, and replaces the device's configured images by those that the store
+/// keeps. Its folder is only read.
 fn open_device<F: Folder + Drop, S: Stores<F>>(
     alloc: Global,
     stores: &S,
@@ -150,7 +153,7 @@ fn open_device<F: Folder + Drop, S: Stores<F>>(
     }
 }
 
-/// Puts the images that the folder of a device keeps in the places of those that the device is configured with.
+/// Replaces a device's configured images by those that its folder keeps.
 fn read_device<F: Folder + Drop, S: Stores<F>>(
     alloc: Global,
     stores: &S,
@@ -173,10 +176,10 @@ fn read_device<F: Folder + Drop, S: Stores<F>>(
     }
 }
 
-/// Makes the folder of the store of each of these devices, where there is none.
+/// Makes the folder of the store of each of these devices, if there is none.
 ///
 /// # Errors
-/// The first device whose folder can't be made, and why: `Unreadable` or `Memory`.
+/// The first device whose folder can't be made, and the cause: `Unreadable` or `Memory`.
 fn make_folders<F: Folder + Drop, S: Stores<F>>(
     alloc: Global,
     stores: &S,
@@ -195,13 +198,14 @@ fn make_folders<F: Folder + Drop, S: Stores<F>>(
     Ok(())
 }
 
-/// Opens the store of each of these devices, in a folder of its own below this one, and puts the images that it keeps in the places of
-/// those that the device is configured with. Where there is no folder one is made, once each store is opened. Until then the folders
-/// are only read.
+/// Opens the store of each of these devices, in its own folder below `root`, and replaces the
+/// device's configured images by those that the store keeps. Missing folders are made after all
+/// stores are opened. Until then the folders are only read.
 ///
 /// # Errors
-/// The first device whose store isn't opened, and why: `Damaged` and `Foreign` as `found_in` says them, `Unreadable` where its folder
-/// can't be read, and `Memory`; or the first whose folder can't be made. Images of devices before it may be in their places.
+/// The first device whose store isn't opened, and the cause: `Damaged` and `Foreign` as `found_in`
+/// defines them, `Unreadable` if its folder can't be read, and `Memory`; or the first device whose
+/// folder can't be made. Images of devices before it may be replaced then.
 pub fn open_stores<F: Folder + Drop, S: Stores<F>>(
     alloc: Global,
     stores: &S,
@@ -234,8 +238,8 @@ pub fn open_stores<F: Folder + Drop, S: Stores<F>>(
     Ok(banks)
 }
 
-/// Puts the images that the folder of each of these devices keeps in the places of those that the device is configured with. The folders are
-/// only read.
+/// Replaces the configured images of each of these devices by those that its folder keeps. The
+/// folders are only read.
 ///
 /// # Errors
 /// As for `open_stores`.

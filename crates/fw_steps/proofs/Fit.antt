@@ -45,7 +45,7 @@ keys_fit : (rows : List RowOf) (cs : List BankComponent) → AllByRecursion (Has
 keys_fit rows [] h = tt
 keys_fit rows (c ∷ cs) h = (h.0.key, keys_fit rows cs h.1)
 
--- the label found under each of the keys can be encoded
+-- the image found under each of the keys, if there is one, fits its fields
 abbrev KeysFind : List RowOf → List Key → Type 0
 KeysFind rows keys = AllByRecursion (λ k. IfSome (active_of (row_of rows k)) HasImageWidths) keys
 
@@ -82,6 +82,6 @@ has_widths_as_new v descriptors keys few = λ components idle none. record {
   phase = subst (λ p. HasPhaseWidths p (length v.stage)) (sym idle) tt;
 }
 
--- a list in which one element comes before others that have the property
+-- a property of an element, and of all after it
 pub one_before : {X : Type 0} (P : X → Type 0) (xs : List X) (i : ℕ) (x : X) → i < length xs → x ≡ get_or xs i x → P x → AllByRecursion P (drop (i + 1) xs) → AllByRecursion P (drop i xs)
 one_before P xs i x lt is here rest = subst (AllByRecursion P) (sym (drop_more xs i x lt ∙ ap (λ y. y ∷ drop (i + 1) xs) (sym is))) (here, rest)

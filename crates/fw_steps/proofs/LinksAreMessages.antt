@@ -1,33 +1,38 @@
--- Why each step of a link is steps of its pair over whole messages (`links_are_messages`), and why all links of a world and the
--- world over messages go on together. The files, in reading order.
+-- Each step of a link is steps of its pair over whole messages (`links_are_messages`), and all
+-- links of a world take their steps together with the world over messages. The files, in reading
+-- order.
 --
 -- ONE HALF: its core and the cell of the lane in which it asks.
--- - `Cells`: what an asker's giving up is for the cells of both worlds.
--- - `Sides`: what each half does, as steps of its pair over whole messages.
--- - `AgentSide`: what the agent's half does, as steps of its pair over whole messages.
--- - `DeviceSide`: what a device's half does, as steps of its pair over whole messages.
--- - `Holding`: a half goes on: what its core and its cell are then, and the steps of its pair that lead there.
--- - `Rows`: what a tick and a packet leave of an open request, and that a half keeps one deaf count.
--- - `Asks`: the last part of a half's tick, as steps of its pair: time passes for the core, what isn't wished is given up, and
---   what is wished is asked.
--- - `Ticks`: a tick of a half, as steps of its pair: what rests is dropped, or the open request is given up; time passes; and
---   what is wished is asked.
+-- - `Cells`: the cells of both worlds after an asker gave up a request.
+-- - `Sides`: the steps of each half, as steps of its pair over whole messages.
+-- - `AgentSide`: the steps of the agent's half, as steps of its pair over whole messages.
+-- - `DeviceSide`: the steps of a device's half, as steps of its pair over whole messages.
+-- - `Holding`: a half after its steps: its core and its cell, and the steps of its pair.
+-- - `Rows`: an open request after a tick and a packet; and both ends of a half are deaf for as
+--   long.
+-- - `Asks`: the last part of a half's tick, as steps of its pair: time passes for the core, a
+--   request that is no longer the pending command is given up, and the pending command is asked.
+-- - `Ticks`: a tick of a half, as steps of its pair: a cell that nobody waits for is dropped, or
+--   the open request is given up; time passes; and the pending command is asked.
 -- - `Learns`: a reply that a half learns, as a step of its pair.
 -- - `Takes`: a request that a half takes, as a step of its pair.
 --
 -- ONE LINK: both halves.
 -- - `BothHalves`: a link and its pair, half by half; and a tick of the link.
--- - `Delivers`: a packet that comes to a side of a link, as steps of its pair.
+-- - `Delivers`: a packet that is delivered to a side of a link, as steps of its pair.
 -- - `Calls`: the operator's calls, verdicts and restarts on a link, as steps of its pair.
 -- - `Whole`: each step of a link is steps of its pair over whole messages.
--- - `Stands`: a link that is explained with a pair that is joined with it, along the link's steps.
+-- - `Stands`: a link that is explained and the pair that it matches, along the link's steps.
 --
 -- THE WORLD: all links with all pairs.
 -- - `Pairs`: the run of one pair, in the world of all.
--- - `Each`: each link of a world with its pair in the world of messages: one of them takes a step, or all do.
--- - `Moves`: the links of a world and a world of messages that stand for each other: where the links go, the messages go.
--- - `Restarts`: the agent starts anew: each link does, and its pair with it, which is one step of the world of messages.
--- - `Worlds`: how links and messages begin together, and what is promised wherever they went.
+-- - `Each`: each link of a world with its pair in the world of messages: one of them takes a step,
+--   or all do.
+-- - `Moves`: the links of a world and the world of messages that they match: it takes a step with
+--   each of theirs.
+-- - `Restarts`: the agent restarts: each link does, and its pair with it, which is one step of the
+--   world of messages.
+-- - `Worlds`: the openings of links and messages, and the laws of all worlds that they reach.
 pub mod AgentSide
 pub mod Asks
 pub mod BothHalves

@@ -92,7 +92,7 @@ NodeThen n o = IsSomeAnd o (λ y. y.node ≡ n)
 node_then : (o : Option SiteOf) (y : SiteOf) (n : DeviceNodeOf) → o ≡ Some y → y.node ≡ n → NodeThen n o
 node_then o y n e f = subst (NodeThen n) (sym e) f
 
--- If the step is for this device its node has the call, and else it stays.
+-- If the step is for this device its node has the call, else it stays.
 node_if : (mine : Bool) (g : SiteOf → SiteOf) (o : Option SiteOf) (x : SiteOf) (c : DeviceCall) → o ≡ (if mine then Some (g x) else Some x) → (g x).node ≡ device_after_call x.node c
     → NodeThen (device_after_calls x.node (if mine then c ∷ [] else [])) o
 node_if true g o x c e f = node_then o (g x) (device_after_call x.node c) e f
@@ -102,7 +102,7 @@ pub put_if : (mine : Bool) (g : SiteOf → SiteOf) (o q : Option SiteOf) (x : Si
 put_if true g o q x e f = e ∙ ap (option_map g) f
 put_if false g o q x e f = e ∙ f
 
--- a packet comes
+-- a packet is delivered
 device_nothing : (mine works : Bool) (faults : ℕ) (o : Option SiteOf) (x : SiteOf) → o ≡ Some x → NodeThen (device_after_calls x.node (device_receipt mine works faults None)) o
 device_nothing true works faults o x e = node_then o x x.node e refl
 device_nothing false works faults o x e = node_then o x x.node e refl

@@ -1,4 +1,4 @@
--- What is noted after a device's node heard a packet.
+-- The entries after a device's node handled a packet.
 use Rattle.std.proofs.Common.{◌≡◌, ◌∙◌, ◌++◌, ◌&&◌, ℕ, Bool, true, false, List, [], ◌∷◌, map, ap, refl, sym}
 use Rattle.fd_core.specs.Images.{KeyedImage, applied_keyed_images}
 use Rattle.fw_node.specs.Nodes.{device_on_packet}
@@ -20,7 +20,7 @@ never false = refl
 same_device : (now : ℕ) (old new : SiteOf) (bytes : List ℕ) (k : HandlesPacketAtSite now old bytes new) → new.node.half ≡ (device_on_packet k.works old.node bytes).half
 same_device now old new bytes k = ap (λ n. n.half) k.node
 
--- a device that is active where it was ready activated what it had applied
+-- a ready device that is in ACTIVATE afterwards activated its applied images
 pub activation_noted : (now : ℕ) (old new : SiteOf) (bytes : List ℕ) (before after : List NotedOf) (images : List KeyedImage) → HandlesPacketAtSite now old bytes new
     → is_ready old.node.half.core.device.phase ≡ true → is_activated new.node.half.core.device.phase ≡ true → images ≡ applied_keyed_images old.node.half.core.device.rows
     → after ≡ before ++ map (λ p. noted_of old.node.endpoint.eid (EntryOf.Activated p)) images → NotesPacketAtSite now old bytes new before after

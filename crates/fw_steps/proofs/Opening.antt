@@ -1,4 +1,4 @@
--- The nodes of a world as it begins.
+-- The nodes of an opening world.
 use Rattle.std.proofs.Common.{◌≡◌, ◌∙◌, ℕ, List, [], ◌∷◌, ap, length, map, refl, subst, sym}
 use Rattle.std.specs.List.{AllByRecursion}
 use Rattle.std.proofs.lemmas.List.{length-map}
@@ -28,11 +28,11 @@ pub new_node : (u : «Unit») (endpoint : Endpoint) (agent : ℕ) (d : DeviceOf)
 new_node u endpoint agent d unit components idle unapplied eid =
     record { device = d; is = refl; unit = unit; idle = idle; unapplied = All-from_recursion IsUnapplied d.device.rows unapplied; components = components; eid = eid }
 
--- there are as many of them as there are nodes
+-- there are as many sites as nodes
 pub as_many : (ss : List SiteWithRoom) (nodes : List DeviceNodeOf) → sites_of ss ≡ map new_site nodes → length ss ≡ length nodes
 as_many ss nodes is = sym (length-map ss (λ s. s.site)) ∙ ap length is ∙ length-map nodes new_site
 
--- all can be said of new devices
+-- the values of new devices fit the fields of messages
 one_speaks : (u : «Unit») (agent : ℕ) (n : DeviceNodeOf) → IsNewNode u agent n → HasWidthsAsNew n.half.core.device → HasDeviceWidths n.half.core.device
 one_speaks u agent n k h =
     h (new_components u agent n k) (ap (λ (m : DeviceNodeOf). m.half.core.device.phase) k.is ∙ k.idle)
@@ -43,6 +43,6 @@ new_speak : (u : «Unit») (agent : ℕ) (ns : List DeviceNodeOf) → AllByRecur
 new_speak u agent [] k h = tt
 new_speak u agent (n ∷ ns) k h = (one_speaks u agent n k.0 h.0, new_speak u agent ns k.1 h.1)
 
--- a world of new nodes is one as it begins
+-- a world of new nodes is an opening world
 pub opens_so : (w : WorldOf) (agent : Endpoint) (nodes : List DeviceNodeOf) (packages : List PackageText) → AreNewNodes agent.eid nodes → HavePackageWidths packages → AllByRecursion (λ (n : DeviceNodeOf). HasWidthsAsNew n.half.core.device) nodes → w ≡ new_world agent nodes packages → IsOpeningWorld w
 opens_so w agent nodes packages are speak devices is = record { agent = agent; nodes = nodes; are = are; is = is ∙ ap (λ (v : WorldOf). new_world agent nodes v.packages) (sym is); packages = subst HavePackageWidths (sym (ap (λ (v : WorldOf). v.packages) is)) speak; devices = new_speak (unit_of nodes) agent.eid nodes are.new devices }

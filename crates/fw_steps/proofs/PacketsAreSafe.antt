@@ -1,30 +1,34 @@
--- Why a run of the packet world is one over whole messages, and so keeps what these keep (`packets_are_safe`). The files, in
--- reading order.
+-- A run of the packet world is a run over whole messages, and so is safe (`packets_are_safe`). The
+-- files, in reading order.
 --
--- WHAT IS KNOWN of a step of the world: of who is deaf, of the steps of the links, and of codecs.
--- - `KnownDeaf`: how long the agent is deaf after a step, and each of its halves with it.
--- - `KnownSteps`: what is known of the links' steps that a step of the world is.
+-- FACTS about a step of the world: the deaf ticks of the nodes, the steps of the links, and the
+-- codecs.
+-- - `KnownDeaf`: the ticks for which the agent is deaf after a step, and each of its halves with
+--   it.
+-- - `KnownSteps`: facts about the links' steps in a step of the world.
 --
 -- THE HISTORY: the world notes what its links note.
--- - `HistoryNoted`: what a step of a link notes, and how it stands in the history of a world.
--- - `HistoryAgent`: what the agent records of a packet that comes to it, and what the link notes of it.
--- - `HistoryDevice`: what a device activates of a packet that comes to it, what it applies by a verdict, and what its link
---   notes of that.
--- - `HistoryDelivered`: what a packet that comes to a node of the world adds to the history.
--- - `HistoryGrows`: the history of a world grows by what the link that takes the step notes.
+-- - `HistoryNoted`: the entries of a link's step, and their place in the history of a world.
+-- - `HistoryAgent`: the records that the agent makes of a packet, and the link's entries for them.
+-- - `HistoryDevice`: the images that a device activates at a packet and applies at a verdict, and
+--   its link's entries for them.
+-- - `HistoryDelivered`: the entries of a packet that is delivered to a node of the world.
+-- - `HistoryGrows`: the history of a world grows by the entries of the link that takes the step.
 -- - `Grown`: the history of a world only grows.
 --
--- THE HEADLINE: a world stands for one over whole messages from its opening on, so that it is safe.
--- - `SafeStands`: a world that stands for one over whole messages, and stays one whatever step it takes.
--- - `SafeOpening`: a world as it is made stands for one over whole messages as that one begins.
--- - `SafeTicks`: a world that stands for one over whole messages stays one where all its links take a step.
--- - `SafeSteps`: a world that stands for one over whole messages stays one whatever step it takes.
--- - `Safe`: wherever steps lead a world that began as it is made, it is safe.
+-- THE HEADLINE: a world matches one over whole messages from its opening on, so that it is safe.
+-- - `SafeStands`: a world that matches one over whole messages, and still does after each step.
+-- - `SafeOpening`: an opening world matches an opening world over whole messages.
+-- - `SafeTicks`: a world that matches one over whole messages still does after a step of all its
+--   links.
+-- - `SafeSteps`: a world that matches one over whole messages still does after any step.
+-- - `Safe`: every world that steps reach from an opening world is safe.
 --
--- WHAT ELSE holds of runs.
+-- OTHER LAWS of runs.
 -- - `Tied`: any two moments of a run of the packet world are tied.
--- - `AsMessages`: a run of packets is one of whole messages.
--- - `Clocks`: each node keeps time along a run: it misses a tick only where it has counted eight since the last that it missed.
+-- - `AsMessages`: a run of packets is a run of whole messages.
+-- - `Clocks`: each node keeps time along a run: it misses a tick only if it has counted eight since
+--   the last one it missed.
 pub mod AsMessages
 pub mod Clocks
 pub mod Grown

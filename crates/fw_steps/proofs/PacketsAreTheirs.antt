@@ -39,7 +39,7 @@ has_now o y ps e f = subst (HasNow ps) (sym e) f
 none_more : (o : Option SiteOf) (x : SiteOf) (ps : List Sent) → o ≡ Some x → ps ≡ [] → HasNow (x.packets ++ ps) o
 none_more o x ps e f = has_now o x (x.packets ++ ps) e (rw f (sym (append-nil x.packets)))
 
--- a packet comes
+-- a packet is delivered
 nothing_received : (agent here works : Bool) (faults now : ℕ) (w : WorldOf) (eid : ℕ) (x : SiteOf)
     → (sent_now now (filter (is_for eid) (agent_step_packets w.packages w.agent (agent_receipt agent w.now None))) ++ sent_now now (site_step_packets (Some x) (device_receipt here works faults None))) ≡ []
 nothing_received true true works faults now w eid x = refl
@@ -100,7 +100,7 @@ packets_ticked missed w eid x e =
     ∙ ap (λ (k : ℕ). x.packets ++ (sent_now t (filter (is_for eid) (agent_step_packets w.packages w.agent (if agent then AgentCall.Ticks t ∷ [] else [])))
     ++ sent_now t (site_step_packets (Some x) (if counts missed k then DeviceCall.Ticks ∷ [] else [])))) (site_found w.sites eid x e))
 
--- steps in which nothing is sent
+-- steps in which no packet is sent
 changed_quietly : (mine : Bool) (g : SiteOf → SiteOf) (o : Option SiteOf) (x : SiteOf) (ps : List Sent) → o ≡ (if mine then Some (g x) else Some x) → (g x).packets ≡ x.packets → ps ≡ []
     → HasNow (x.packets ++ ps) o
 changed_quietly true g o x ps e f q = has_now o (g x) (x.packets ++ ps) e (f ∙ rw q (sym (append-nil x.packets)))

@@ -1,4 +1,4 @@
--- What stands at a place, and room there.
+-- The site at a place, and room there.
 use Rattle.std.proofs.Common.{◌≡◌, ◌≤◌, ◌<◌, ◌+◌, ◌∙◌, ℕ, zero, suc, List, [], ◌∷◌, ◌++◌, drop, get_or, length, slice_get, slice_set, Some, None, inl, inr, sym, ap, subst, arith}
 use Rattle.std.proofs.lemmas.List.{drop-set-lt, map-set}
 use Rattle.fw_steps.specs.Sites.{HaveRoom, HasFullSite, SiteWithRoom, sites_of}
@@ -52,7 +52,7 @@ same_put [] i x y lt is e = absurd (omega arith)
 same_put (s ∷ ss) zero x y lt is e = ap (λ v. v ∷ sites_of ss) (e ∙ ap (λ z. z.site) is)
 same_put (s ∷ ss) (suc i) x y lt is e = ap (λ vs. s.site ∷ vs) (same_put ss i x y (omega arith) is e)
 
--- one of those that are left lacks room
+-- one of the sites that are left lacks room
 pub lacks_here : (n : ℕ) (ss : List SiteWithRoom) (i : ℕ) (x : SiteWithRoom) → i < length ss → x ≡ get_or ss i x → x.room < n → HasFullSite n (drop i ss)
 lacks_here n [] i x lt is h = absurd (omega arith)
 lacks_here n (s ∷ ss) zero x lt is h = inl (subst (λ y. y.room < n) is h)
@@ -69,7 +69,7 @@ lacks_later n ss i y h =
     let same : drop (i + 1) (slice_set ss i y) ≡ drop (i + 1) ss = drop-set-lt (i + 1) ss i y (omega arith) in
     lacks_before n ss i (subst (λ k. HasFullSite n (drop k ss)) next (subst (HasFullSite n) same h))
 
--- room of those that are left
+-- room of the sites that are left
 pub room_left : (n : ℕ) (ss : List SiteWithRoom) (i : ℕ) (x : SiteWithRoom) → i < length ss → x ≡ get_or ss i x → HaveRoom n (drop i ss) → n ≤ x.room
 room_left n [] i x lt is h = absurd (omega arith)
 room_left n (s ∷ ss) zero x lt is h = subst (λ y. n ≤ y.room) (sym is) h.0

@@ -1,4 +1,4 @@
--- If the calls of separate processes are those of one run, the headline holds of their nodes
+-- If the calls of separate processes are those of one run, the headline holds for their nodes
 -- (`processes_are_safe`).
 use Rattle.std.proofs.Common.{◌≡◌, ◌∙◌, ℕ, List, [], Option, Some, None, IfSome, IsSomeAnd, sym, ap, subst}
 use Rattle.ua_core.specs.Session.{TimedOf}
@@ -13,7 +13,7 @@ use Rattle.fw_steps.specs.Headline.{PacketsAreSafe, pair_run}
 use Rattle.fw_steps.specs.Worlds.{SiteOf, WorldOf, pair_for, pair_with, site_for}
 use Rattle.fw_steps.proofs.NodesAlone.{agent_is_alone, devices_are_alone}
 
--- What holds of a pair of a world holds of the two nodes alone.
+-- A property of a pair of a world is a property of the two nodes alone.
 ends_are : (agent : AgentOf) (eid : ℕ) (o : Option SiteOf) (n : DeviceNodeOf) (P : PairOf → Type 0) → IsSomeAnd o (λ y. y.node ≡ n)
     → IsSomeAnd (pair_with (half_for agent eid) o) P → IsSomeAnd (pair_of_nodes agent eid n) P
 ends_are agent eid None n P e k = absurd e
@@ -23,7 +23,7 @@ ends_are agent eid (Some y) n P e k = with_half (half_for agent eid) k
     with_half None k = absurd k
     with_half (Some h) k = subst (λ (q : DeviceNodeOf). P (record { device = q.half.core.device; session = h.core.session; down = None; up = None })) e k
 
--- so of the nodes in which a run ends
+-- so it is one of the nodes at the end of a run
 safe_ends : (opening v : WorldOf) (eid : ℕ) (x : SiteOf) (m : PairOf) (agent : AgentOf) (n : DeviceNodeOf) → v.agent ≡ agent → IsSomeAnd (site_for v.sites eid) (λ y. y.node ≡ n)
     → IsSomeAnd (pair_for v eid) (λ p. IsSafeAndTied opening.packages (pair_run m []) (pair_run p (history_of eid v.history)))
     → IsSomeAnd (pair_of_nodes agent eid n) (λ p. IsSafeAndTied opening.packages (pair_run m []) (pair_run p (history_of eid v.history)))

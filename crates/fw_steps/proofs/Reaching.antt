@@ -1,4 +1,4 @@
--- Worlds that steps led to: where a step leads from there, and what is promised of them.
+-- Worlds that steps reach: the steps from there, and the laws of these worlds.
 use Rattle.std.proofs.Common.{◌≡◌, ◌++◌, ◌∙◌, List, [], ◌∷◌, map, refl, sym, ap, subst}
 use Rattle.std.specs.Prelude.{Result, Ok, Err, OnOk, OnErr}
 use Rattle.fw_node.specs.Nodes.{DeviceNodeOf}

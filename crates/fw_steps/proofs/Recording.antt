@@ -1,4 +1,4 @@
--- What is noted of the agent's records after a packet.
+-- The entries of the agent's records after a packet.
 use Rattle.std.proofs.Common.{◌≡◌, ◌∙◌, ◌++◌, ℕ, IfSome, List, map, Option, Some, None, ap, refl, sym}
 use Rattle.std.specs.Prelude.{option_to_list}
 use Rattle.ua_core.specs.declared.planned.Recorded.{Recorded}

@@ -1,4 +1,4 @@
--- The bytes of packets that stand one behind the other.
+-- The bytes of packets that are in one list, in order.
 use Rattle.std.proofs.Common.{◌≡◌, ◌≤◌, ◌<◌, ◌+◌, ◌-◌, ◌/◌, ◌++◌, ◌∙◌, ℕ, zero, suc, List, [], ◌∷◌, Some, None, drop, get_or, length, length-append, min, slice_get, slice_range, take, arith, refl, sym, subst, ap}
 use Rattle.std.specs.Prelude.{IsOk, Result, if◌then◌else◌, is_ok, option_map}
 use Rattle.std.proofs.Math.Seq.{drop-append_seam}
@@ -13,7 +13,7 @@ pub count_in : (start : ℕ) (ps : List Place) (bytes : List ℕ) → length (pa
 count_in start [] bytes = refl
 count_in start (p ∷ ps) bytes = ap suc (count_in p.end ps bytes)
 
--- where a packet begins
+-- the start of a packet
 start_behind : (start : ℕ) (ps : List Place) (n : ℕ) (d : Place) → n < length ps → start_at start ps (suc n) ≡ (get_or ps n d).end
 start_behind start [] n d lt = absurd (omega (arith, lt))
 start_behind start (q ∷ ps) zero d lt = refl
@@ -44,7 +44,7 @@ packet_missing start ps bytes n all is at =
     sym (subst (λ o. slice_get (packets_in start ps bytes) n ≡ option_map (λ q. record { date = q.date; bytes = slice_range bytes (start_at start ps n) q.end }) o) at (packet_at start ps bytes n))
     ∙ ap (λ xs. slice_get xs n) is
 
--- the packets behind so many
+-- the packets after the first `n`
 pub packets_behind : (start : ℕ) (ps : List Place) (bytes : List ℕ) (n : ℕ) → packets_in (start_at start ps n) (drop n ps) bytes ≡ drop n (packets_in start ps bytes)
 packets_behind start ps bytes zero = refl
 packets_behind start [] bytes (suc n) = refl
@@ -55,7 +55,7 @@ ends_behind start ps size zero h = h
 ends_behind start [] size (suc n) h = h
 ends_behind start (p ∷ ps) size (suc n) h = ends_behind p.end ps size n h.2
 
--- those of the rest of the places
+-- the places after the first `n`
 rest_of : (n : ℕ) (ps : List Place) → slice_range ps n (length ps) ≡ drop n ps
 rest_of n ps = take_all (length ps - n) (drop n ps) (let left = length-drop n ps in omega arith)
 
@@ -89,7 +89,7 @@ ends_at start (q ∷ ps) size zero p h is =
     subst (λ r. (start ≤ r.end) × (r.end ≤ start + MAX_PACKET) × (r.end ≤ size)) same (h.0, h.1, within)
 ends_at start (q ∷ ps) size (suc n) p h is = ends_at q.end ps size n p h.2 is
 
--- bytes behind the others change none of them
+-- bytes appended to the others change none of them
 same_range : (bytes more : List ℕ) (from to : ℕ) → from ≤ to → to ≤ length bytes → slice_range (bytes ++ more) from to ≡ slice_range bytes from to
 same_range bytes more from to le within =
     ap (take (to - from)) (drop-append-le from bytes more (omega (arith, le, within)))
@@ -112,7 +112,7 @@ pub ends_push : (start : ℕ) (ps : List Place) (size : ℕ) (q : Place) → Are
 ends_push start [] size q h least most = (omega (arith, h, least), omega (arith, h, most), refl)
 ends_push start (p ∷ ps) size q h least most = (h.0, h.1, ends_push p.end ps size q h.2 least most)
 
--- as the code has it
+-- in the code's form
 pub pushed : (ps qs : List Place) (bytes more all : List ℕ) (q : Place) → AreLengthsEnds 0 ps (length bytes) → qs ≡ ps ++ q ∷ [] → all ≡ bytes ++ more → q.end ≡ length all
     → packets_in 0 qs all ≡ packets_in 0 ps bytes ++ record { date = q.date; bytes = more } ∷ []
 pushed ps qs bytes more all q h places is end =
@@ -129,6 +129,6 @@ pushed_ends ps qs bytes more all q h places is end short =
 pub room_pushed : (a b : ℕ) → 1 ≤ min a (b / MAX_PACKET) → (1 ≤ a) × (MAX_PACKET ≤ b)
 room_pushed a b h = (omega (arith, h), omega (arith, h))
 
--- what worked
+-- a result that is Ok
 pub worked : {X A E : Type 0} (r : Result A E) (x y : X) → IsOk r → (if is_ok r then x else y) ≡ x
 worked r x y h = rw h refl

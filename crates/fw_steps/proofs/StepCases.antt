@@ -6,7 +6,8 @@ use Rattle.fw_steps.specs.StepCases.{ConcernsAreJudged, MemoryIsJudged}
 use Rattle.fw_steps.specs.declared.step.Step.{Step}
 use Rattle.fw_steps.specs.declared.step.Step.TheVariants as steps
 
--- what is told apart in the first of such steps: a packet's number, whether the device counts a tick, and whether it is a tick
+-- the differences in the first of such steps: a packet's number, whether the device counts a tick,
+-- and whether it is a tick
 abbrev number_in : List ConcernOf → ℕ
 number_in (ConcernOf.Takes (steps.Deliver device number node) ∷ cs) = number
 number_in cs = 0

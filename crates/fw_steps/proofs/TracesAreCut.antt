@@ -1,6 +1,6 @@
 -- The acts up to a unit that all processes have reached are a trace by themselves
--- (`traces_are_cut`). Beside each process there is its part up to the unit (`Cut`), which the acts
--- after the unit leave as it is.
+-- (`traces_are_cut`). Each process has its part up to the unit (`Cut`), which the acts after the
+-- unit leave unchanged.
 use Rattle.std.proofs.Common.{◌≡◌, ◌⊎◌, ◌∙◌, ◌+◌, ◌-◌, ◌^◌, ◌==◌, ◌<◌, ◌≤◌, ℕ, Bool, if◌then◌else◌, List, [], ◌∷◌, Option, Some, None, IfSome, IsSomeAnd, inl, inr, refl, sym, ap, subst, arith}
 use Rattle.std.specs.List.{Contains}
 use Rattle.std.specs.Option.{option_map}
@@ -17,7 +17,7 @@ use Rattle.fw_steps.proofs.TracesArePlays.Swaps.{kept}
 
 -- A PROCESS AND ITS PART UP TO A UNIT
 
--- What was sent up to the unit was also sent by the part.
+-- The packets that were sent up to the unit were also sent by the part.
 abbrev SameUpTo : ℕ → (all some : List Sent) → Type 0
 SameUpTo unit all some = (s : Sent) → s.date ≤ unit → Contains all s → Contains some s
 
@@ -117,7 +117,7 @@ both_act unit ps qs device d p k e c low eid = elim (eqb_tells device eid) [
   | inr far ↦ rw far.0 (k.devices eid)
 ]
 
--- An act after the unit is done in the whole trace alone.
+-- An act after the unit is done only in the whole trace.
 one_acts : (unit : ℕ) (ps qs : ProcessesOf) (device : ℕ) (d : DeviceAct) (p : DeviceProcess) → Cut unit ps qs → ps.device device ≡ Some p → (c : HasCut unit p (qs.device device)) → unit < device_unit_after p.unit d
     → (eid : ℕ) → CutSite unit (if device == eid then option_map (device_process_after_act d) (ps.device eid) else ps.device eid) (qs.device eid)
 one_acts unit ps qs device d p k e c past eid = elim (eqb_tells device eid) [

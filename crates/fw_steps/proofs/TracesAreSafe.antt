@@ -1,5 +1,5 @@
--- The headline holds of separate processes (`traces_are_safe`): up to a unit their trace is cut,
--- what is left is a play, and a play is safe.
+-- The headline holds for separate processes (`traces_are_safe`): up to a unit their trace is cut,
+-- the rest is a play, and a play is safe.
 use Rattle.std.proofs.Common.{◌≡◌, ◌==◌, ◌∷◌, ℕ, Bool, true, false, if◌then◌else◌, List, [], Option, Some, None, IfSome, IsSomeAnd, refl, sym, ap, subst}
 use Rattle.std.specs.Option.{option_map}
 use Rattle.fw_package.specs.Package.{PackageText}
@@ -15,7 +15,7 @@ use Rattle.fw_steps.proofs.PlaysAreRuns.Runs.{plays_are_safe}
 use Rattle.fw_steps.proofs.TracesAreCut.{traces_are_cut}
 use Rattle.fw_steps.proofs.TracesArePlays.Plays.{traces_are_plays}
 
--- What holds of the play's process of a device holds of the process of the device.
+-- A property of the play's process of a device is a property of the process of the device.
 device_by : (o : Option SiteOf) (q : Option DeviceProcess) (P : DeviceProcess → Type 0) (f : SiteOf → DeviceProcess) → IfSome o (λ x. q ≡ Some (f x)) → (o ≡ None → q ≡ None) → IfSome o (λ x. P (f x)) → IfSome q P
 device_by None q P f same none h = subst (λ z. IfSome z P) (sym (none refl)) tt
 device_by (Some x) q P f same none h = subst (λ z. IfSome z P) (sym same) h
@@ -36,7 +36,7 @@ safe_by opening ps p r none safe = record {
       (λ n. IsSafeAndTied opening.packages (pair_run m []) (pair_run n (history_of eid r.world.history))))) p.agent h)) (safe eid);
 }
 
--- Processes of devices that aren't there don't come into being.
+-- There are no processes of devices that aren't there.
 none_if : (mine : Bool) (d : DeviceAct) (o : Option DeviceProcess) → o ≡ None → (if mine then option_map (device_process_after_act d) o else o) ≡ None
 none_if true d o e = ap (option_map (device_process_after_act d)) e
 none_if false d o e = e

@@ -45,7 +45,8 @@ untied = record {
   gone = λ p h. h 9;
 }
 
--- what is told apart in a list: an identifier, the image that a device's bank runs first, how many records a session has
+-- the differences in a list: an identifier, the first running image of a device's bank, the number
+-- of a session's records
 abbrev head_or : List ℕ → ℕ
 head_or [] = 0
 head_or (n ∷ ns) = n

@@ -1,4 +1,4 @@
--- The names of the causes why a step isn't taken.
+-- The names of the reasons why a step isn't taken.
 use Rattle.std.specs.Prelude.{ℕ, List, codes}
 use Rattle.fw_steps.specs.declared.step.Refusal.TheVariants as refusals
 use Rattle.fw_steps.specs.declared.step.StepFault.{StepFault}

@@ -5,7 +5,7 @@
 -- for it without a premise.
 --
 -- This page can be read alone. The definitions that it takes from elsewhere, in reading order:
--- 1. `src/step.rt`: `Step`, the steps; `StepFault` and `Refusal`, the causes why a step isn't
+-- 1. `src/step.rt`: `Step`, the steps; `StepFault` and `Refusal`, the reasons why a step isn't
 --    taken.
 -- 2. `fw_package`, `Package`: `PackageText`, an update package as its records, components and
 --    images.
@@ -185,7 +185,7 @@ tick_fault true false may = Some (faults.Refused refusals.ClockEnd)
 tick_fault true true false = Some (faults.Refused refusals.ClockSlow)
 tick_fault true true true = None
 
--- The cause why a step may not be taken, or none if it may.
+-- The reason why a step may not be taken, or none if it may.
 abbrev pub may_step : WorldOf → Step → Option StepFault
 may_step w (steps.Deliver device number node) =
     where_known (is_device w device && is_node w node) (packet_fault w.now (item_numbered (packets_of w device) number))

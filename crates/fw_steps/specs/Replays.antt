@@ -1,4 +1,4 @@
--- The cause why a step isn't taken, which stops a replay; and the steps that need memory.
+-- The reason why a step isn't taken, which stops a replay; and the steps that need memory.
 use Rattle.std.specs.Prelude.{◌≡◌, ◌⊎◌, Bool, true, false, Some, None}
 use Rattle.fw_steps.specs.Headline.{may_step}
 use Rattle.fd_core.specs.declared.states.Verdict.{Verdict}
@@ -22,7 +22,7 @@ needs_memory (steps.Start device number) = true
 needs_memory (steps.Verdict device verdict) = adds_entry verdict
 needs_memory s = false
 
--- The cause why a step isn't taken: it may not be taken, for this cause; or it may, and memory that
--- it needs is refused.
+-- The reason why a step isn't taken: it may not be taken, for this cause; or it may, and memory
+-- that it needs is refused.
 abbrev pub RefusesStep : WorldOf → Step → StepFault → Type 0
 RefusesStep w s e = (may_step w s ≡ Some e) ⊎ ((e ≡ faults.Memory) × (needs_memory s ≡ true) × (may_step w s ≡ None))

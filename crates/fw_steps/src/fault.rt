@@ -1,4 +1,4 @@
-//! The names of the causes why a step isn't taken.
+//! The names of the reasons why a step isn't taken.
 
 ghost use Rattle.std.specs.Prelude.{◌≡◌};
 ghost use Rattle.fw_steps.specs.Faults.{fault_name};

@@ -211,7 +211,7 @@ impl<'a, B: Bank + Drop> State<'a, B> {
     /// Takes a step, or leaves the state unchanged.
     ///
     /// # Errors
-    /// The cause why the step isn't taken.
+    /// The reason why the step isn't taken.
     #[tactic(auto, using(crate::proofs::Leading::log_leads))]
     pub(crate) fn step(&mut self, step: &Step) -> Result<(), StepFault>
         ensures taken { OnOk result (StepsTo self.old step.now self.new) }

@@ -50,7 +50,7 @@ pub enum Refusal {
     ClockSlow,
 }
 
-/// The cause why a step isn't taken. The world is unchanged then.
+/// The reason why a step isn't taken. The world is unchanged then.
 #[derive(Clone, Copy, Debug, PartialEq, Eq)]
 pub enum StepFault {
     /// No packet of this number was sent between the agent and the device.

@@ -158,7 +158,7 @@ impl<'a, B: Bank + Drop> World<'a, B> {
     /// Takes a step, or leaves the world unchanged.
     ///
     /// # Errors
-    /// The cause why the step isn't taken: `NoSuchNode`, then `NoSuchPacket`, then `Dead`; for the
+    /// The reason why the step isn't taken: `NoSuchNode`, then `NoSuchPacket`, then `Dead`; for the
     /// operator's calls `NoSuchPackage` before `Busy`, and `NotReady`; `NotNow` for a verdict;
     /// `ClockEnd`, then `ClockSlow` for a tick; and `Memory` for a step that is allowed.
     pub fn step(&mut self, step: &Step) -> Result<(), StepFault>

@@ -1,4 +1,4 @@
-//! Two replays side by side: what is between the agent and a device depends on no other device.
+//! Two replays in two worlds: the state between the agent and a device depends on no other device.
 
 ghost use Rattle.std.specs.Prelude.{◌≡◌, ◌<◌, IfErr, IfSome, IsOk, OnOk, length, slice_get, take};
 ghost use Rattle.fw_steps.specs.Headline.{Run};
@@ -9,14 +9,17 @@ use crate::replays::replay;
 use fd_core::Bank;
 use fw_steps::{Step, StepFault, World, devices_are_isolated};
 
-/// Takes these steps in the first world, then those in the second, each as `replay` does, and gives both results. One silent or
-/// broken device changes nothing between the agent and another: where the worlds agree in a device, the same steps concern it in
-/// both schedules, all steps are taken, and in neither world its bank's count of failures rises or stands at its last value, the
-/// worlds agree in the device afterwards. The other devices, their number and the event log may differ, and so may what is done
-/// with them.
+/// Takes the first steps in the first world, then the second steps in the second world, each as
+/// `replay` does. Returns both results.
+///
+/// A silent or broken device changes nothing between the agent and another device. If the worlds
+/// agree in a device, the same steps of both schedules concern it, all steps are taken, and in
+/// neither world its bank's count of failures rises or is at its last value, then the worlds agree
+/// in the device afterwards. The other devices, their number, their steps and the event log may
+/// differ.
 ///
 /// # Errors
-/// In each result those of `replay`, of its own world and steps.
+/// In each result those of `replay`, for its own world and steps.
 pub fn replay_two<'a, 'b, B: Bank + Drop>(
     first: &mut World<'a, B>,
     first_steps: &[Step],

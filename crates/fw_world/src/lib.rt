@@ -1,5 +1,6 @@
-//! Replays of the packet world: what a list of steps makes of an update agent and its devices (DSP0267 1.0), and what is then
-//! true of every image that a device activates and of every component that the agent records as applied.
+//! Replays of the packet world: the state of an update agent and its devices (DSP0267 1.0) after a
+//! list of steps, and the laws of every image that a device activates and of every component that
+//! the agent records as applied.
 #![tactic(auto)]
 
 mod isolation;

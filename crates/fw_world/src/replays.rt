@@ -11,20 +11,28 @@ ghost use Rattle.fw_steps.specs.declared.step.Step.{Step};
 use fd_core::Bank;
 use fw_steps::{Step, StepFault, World, clocks_keep_time, moments_are_tied, packets_are_safe};
 
-/// Takes these steps one after another: deliveries of packets in any order, any number of times or never, ticks, the operator's
-/// calls, verdicts, restarts and requests of the event log. The history of each device is then safe: the images that a device
-/// activates in one go are those that one package names for it, each recorded since its activation before, and each record has an
-/// application of its own before it. It is tied: what runs on a device and what the agent has recorded are what the history says.
-/// And steps over whole messages lead to the same devices, sessions and history (`promised`). So it is between the moments before
-/// and after the call: the history has only grown, and what runs, what is applied and what is recorded are those of before, with
-/// what happened since (`grown`, `tied`); and so it is at each two moments of the run that led there (`moments`). Each node keeps
-/// time: it counts at most as many ticks as units of time pass, and these are at most its ticks, an eighth of them and one, in this
-/// call (`clocks`, `clocks_stopped`) and between any two moments (`time`).
+/// Takes these steps in order: deliveries of packets in any order, any number of times or never,
+/// ticks, the operator's calls, verdicts, restarts and requests to the event log.
+///
+/// The history of each device is then safe and tied (`promised`). Safe: the images that a device
+/// activates at once are those that one package names for it, each recorded since the device's
+/// previous activation, and each record has its own application before it. Tied: the images that
+/// run on a device and the agent's records are those of the history. Steps over whole messages give
+/// the same devices, sessions and history.
+///
+/// The moments before and after the call are tied too: the history has only grown, and the running
+/// images, the applied images and the records are those of before, changed by the entries since
+/// (`grown`, `tied`). So are any two moments of the run up to here (`moments`).
+///
+/// Each node keeps time: it counts at most as many ticks as units of time pass, and the units are
+/// at most its ticks, plus an eighth of them, rounded down, plus one. This holds in this call
+/// (`clocks`, `clocks_stopped`) and between any two moments (`time`).
 ///
 /// # Errors
-/// The number of the step that isn't taken, counted from 0, and why: `NoSuchNode`, then `NoSuchPacket`, then `Dead`; for the
-/// operator's calls `NoSuchPackage` before `Busy`, and `NotReady`; `NotNow` for a verdict; `ClockEnd`, then `ClockSlow` for a tick;
-/// and `Memory` for a step that might be taken. The world is then the one after the steps before it.
+/// The number of the step that isn't taken, counted from 0, and the cause: `NoSuchNode`, then
+/// `NoSuchPacket`, then `Dead`; for the operator's calls `NoSuchPackage` before `Busy`, and
+/// `NotReady`; `NotNow` for a verdict; `ClockEnd`, then `ClockSlow` for a tick; and `Memory` for a
+/// step that is allowed. The world is the one after the steps before it.
 pub fn replay<B: Bank + Drop>(
     world: &mut World<'_, B>,
     steps: &[Step],
@@ -48,7 +56,7 @@ pub fn replay<B: Bank + Drop>(
     taken
 }
 
-/// Takes these steps one after another, up to the first that isn't taken.
+/// Takes these steps in order, up to the first that isn't taken.
 fn take_all<B: Bank + Drop>(
     world: &mut World<'_, B>,
     steps: &[Step],

@@ -1,4 +1,4 @@
--- What the agent's half does, as steps of its pair over whole messages.
+-- The steps of the agent's half, as steps of its pair over whole messages.
 use Rattle.mctp_wire.specs.declared.unit.Unit.{«Unit»}
 use Rattle.std.proofs.Common.{◌≡◌, ℕ, ◌+◌, ◌==◌, ◌&&◌, not, Bool, true, false, if◌then◌else◌, List, [], length, map, Option, Some, None, Ok, refl, sym, subst}
 use Rattle.fw_package.specs.Package.{PackageText}
@@ -20,15 +20,15 @@ use Rattle.fw_steps.specs.Joins.{IsCommandFor, IsWishedIn}
 use Rattle.fw_steps.proofs.LinksAreMessages.Cells.{closed_stays, stays, told_for}
 use Rattle.fw_steps.proofs.LinksAreMessages.Sides.{closed_to, PairLeads, Sided, closes, no_step}
 
--- the pair by the agent's half, with this device
+-- the pair of the agent's half and this device
 abbrev pub agent_place : DeviceState → TimedOf → Option CellContentOf → Option CellContentOf → PairOf
 agent_place d x own other = record { device = d; session = x.session; down = own; up = other }
 
--- what the session records of a command
+-- the record that the session makes of a command
 abbrev pub agent_notes : List PackageText → TimedOf → CommandOf → Bool → Bool → List EntryOf
 agent_notes packages x c quiet works = map EntryOf.Recording (recorded_by (package_of packages x.session) x.session c)
 
--- a pair is closed to this one, where the device's own cell stays
+-- the pair after closing, if the device's own cell stays
 closed_so : (packages : List PackageText) (d : DeviceState) (s : SessionOf) (own after other : Option CellContentOf) → IsWishedIn other (device_wish d)
     → closed_unless (down_wish packages s) own ≡ after
     → unwished_closed packages (record { device = d; session = s; down = own; up = other }) ≡ record { device = d; session = s; down = after; up = other }
@@ -48,7 +48,7 @@ gives packages d x h other k live =
     (agent_place d ((session_core packages).silent x) (Some (record h { live = false })) other) (StepOf.GiveUp ways.Down) tt
     (rw live refl) (closed_so packages d (agent_silent x.session) (Some (record h { live = false })) (Some (record h { live = false })) other k refl)
 
--- nothing happens to the session, and nothing to what it asks
+-- the session and its command are unchanged
 unmoved : (packages : List PackageText) (d : DeviceState) (s : SessionOf) (idle later : ℕ) (own other : Option CellContentOf) → IsWishedIn own (down_wish packages s)
     → PairLeads packages (agent_place d (record { session = s; idle = idle }) own other) [] (agent_place d (record { session = s; idle = later }) (closed_unless (down_wish packages s) own) other)
 unmoved packages d s idle later own other k =
@@ -88,7 +88,7 @@ learns packages d x h a works other k live answered =
     (agent_place d ((session_core packages).learn x (Ok a) works) None other) StepOf.LearnDown tt
     (rw (live, answered) refl) (closed_so packages d ((session_core packages).learn x (Ok a) works).session None None other k refl)
 
--- The session starts anew.
+-- The session restarts.
 pub agent_restarts : (packages : List PackageText) (d : DeviceState) (x : TimedOf) (own other : Option CellContentOf) → IsWishedIn other (device_wish d)
     → pair_after packages (agent_place d x own other) (StepOf.Restart sides.Agent) ≡ Some (step_without_entries (agent_place d ((session_core packages).restarted x) (cell_after_close own) other))
 agent_restarts packages d x own other k =
@@ -96,7 +96,7 @@ agent_restarts packages d x own other k =
     (agent_place d ((session_core packages).restarted x) (cell_after_close own) other) (StepOf.Restart sides.Agent)
     refl (closed_so packages d (agent_restart x.session) (cell_after_close own) (cell_after_close own) other k (closed_stays (down_wish packages (agent_restart x.session)) own))
 
--- A call of the operator, which leaves the session so.
+-- A call of the operator, which leaves this session.
 pub session_calls : (packages : List PackageText) (d : DeviceState) (x after : TimedOf) (own other : Option CellContentOf) (s : StepOf) → HasName s → IsWishedIn other (device_wish d)
     → step_of packages (agent_place d x own other) s ≡ Some (step_without_entries (record { device = d; session = after.session; down = own; up = other }))
     → PairLeads packages (agent_place d x own other) [] (agent_place d after (closed_unless (down_wish packages after.session) own) other)
@@ -105,7 +105,7 @@ session_calls packages d x after own other s named k e =
     (agent_place d after (closed_unless (down_wish packages after.session) own) other) s named e
     (closed_so packages d after.session own (closed_unless (down_wish packages after.session) own) other k refl)
 
--- what the session took
+-- the session after it took a command
 abbrev pub agent_took : List PackageText → TimedOf → CommandOf → TimedOf
 agent_took packages x c = ((session_core packages).take x c true true).core
 
@@ -137,7 +137,7 @@ takes packages d x own h quiet works k new may =
     (Some (record h { reply = Some (agent_answer (package_of packages x.session) x.session h.command) })))
     StepOf.TakeUp tt (rw new refl) (takes_closed packages d x own h k))
 
--- what a session wishes is for a device
+-- a session's pending command is one for a device
 wishes_at : (u : «Unit») (p : PackageText) (g : Stage) (c : CommandOf) → stage_wish u p g ≡ Some c → IsCommandFor false c
 wishes_at u p Stage.Query c e = told_for false CommandOf.QueryDeviceIdentifiers c e refl
 wishes_at u p (Stage.Params _) c e = told_for false CommandOf.GetFirmwareParameters c e refl

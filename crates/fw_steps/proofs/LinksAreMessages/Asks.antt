@@ -1,5 +1,5 @@
--- The last part of a half's tick, as steps of its pair: time passes for the core, what isn't wished is given up, and what is
--- wished is asked.
+-- The last part of a half's tick, as steps of its pair: time passes for the core, a request that is
+-- no longer the pending command is given up, and the pending command is asked.
 use Rattle.std.proofs.Common.{◌≡◌, Bool, true, false, List, [], ◌∷◌, ◌++◌, Option, Some, None, IfSome, refl, sym, ap, subst}
 use Rattle.std.specs.Option.{option_map}
 use Rattle.pldm_exch.specs.Caller.{CallerState, request_of_open, may_begin}
@@ -23,14 +23,14 @@ pub goes_on : {C : Type 0} {packages : List PackageText} {core : CoreOf C} {agen
     → PairLeads packages m [] mid → CoreGoes packages core agent place mid other x cell → CoreGoes packages core agent place m other x cell
 goes_on a g = record { own = g.own; leads = leads_on a g.leads; holds = g.holds }
 
--- nothing happens
+-- no step is taken
 stays_so : {C : Type 0} {packages : List PackageText} {core : CoreOf C} {agent : Bool} {place : Place C} (x : C) (own other : Option CellContentOf) (run last : CellRun)
     → Holds core agent x run.cell own → Some run ≡ Some last → CoreGoes packages core agent place (place x own other) other x last.cell
 stays_so {C} {packages} {core} {agent} {place} x own other run last holds e =
     let same : run ≡ last = cc in
     subst (λ r. CoreGoes packages core agent place (place x own other) other x r.cell) same (record { own = own; leads = no_step packages (place x own other); holds = holds })
 
--- what is asked is what the cell holds
+-- the command asked is the one in the cell
 asked_as : (c : CommandOf) → WritesCommands → CommandRoundTrips c → IsAskedAs (command_code c) (command_bytes c) true (fresh_cell c)
 asked_as c written spoken = record { said = record { code = refl; reads = written c spoken.widths spoken.writable }; reply = refl; live_is = refl }
 

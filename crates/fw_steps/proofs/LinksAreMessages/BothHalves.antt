@@ -24,7 +24,7 @@ use Rattle.fw_steps.proofs.LinksAreMessages.Rows.{ticks_deaf}
 use Rattle.fw_steps.proofs.LinksAreMessages.Sides.{PairLeads, leads_on}
 use Rattle.fw_steps.proofs.LinksAreMessages.Ticks.{half_ticks_on}
 
--- both halves of a link, with their cells and what a pair holds
+-- both halves of a link, with their cells and those of a pair
 pub record BothHold (packages : List PackageText) (l : LinkOf) (down_cell up_cell : Cell) (down up : Option CellContentOf) : Type 0 where
   pub agent : Holds (session_core packages) false l.agent.core down_cell down
   pub device : Holds device_core true l.device.core up_cell up
@@ -35,24 +35,24 @@ pub record BothHold (packages : List PackageText) (l : LinkOf) (down_cell up_cel
 abbrev pub pair_at : LinkOf → (down up : Option CellContentOf) → PairOf
 pair_at l down up = agent_place l.device.core.device l.agent.core down up
 
--- what each asker of a link waits for is in its cell
+-- the request that each asker of a link waits for is in its cell
 pub record BothWait (l : LinkOf) (down_cell up_cell : Cell) : Type 0 where
   pub down : awaited_request down_cell ≡ option_map request_of_open l.agent.asker.caller.asked
   pub up : awaited_request up_cell ≡ option_map request_of_open l.device.asker.caller.asked
 
--- where an asker of a link hears and is quiet, its cell is empty
+-- if an asker of a link hears and is quiet, its cell is empty
 pub record BothRest (l : LinkOf) (down_cell up_cell : Cell) : Type 0 where
   pub down : l.agent.asker.deaf ≡ 0 → is_quiet l.agent.asker.caller ≡ true → down_cell ≡ Cell.Empty
   pub up : l.device.asker.deaf ≡ 0 → is_quiet l.device.asker.caller ≡ true → up_cell ≡ Cell.Empty
 
--- The link went on, and its pair with it.
+-- The link took its step, and its pair with it.
 pub record PairGoes (packages : List PackageText) (m : PairOf) (t : LinkStepped) (down_cell up_cell : Cell) : Type 0 where
   pub down : Option CellContentOf
   pub up : Option CellContentOf
   pub leads : PairLeads packages m t.noted (pair_at t.after down up)
   pub both : BothHold packages t.after down_cell up_cell down up
 
--- a link and its pair that are joined, half by half
+-- a link that matches its pair, half by half
 pub joined_both : (packages : List PackageText) (l : LinkOf) (down_cell up_cell : Cell) (m : PairOf) → LinkMatchesPair packages l down_cell up_cell m → BothHold packages l down_cell up_cell m.down m.up
 joined_both packages l down_cell up_cell m j = record {
   agent = record { stands = j.down; wished = subst (λ s. IsWishedIn m.down (down_wish packages s)) j.session j.down_wished; is_for = j.down_for };

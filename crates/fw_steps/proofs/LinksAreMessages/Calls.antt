@@ -29,7 +29,7 @@ use Rattle.fw_steps.proofs.LinksAreMessages.DeviceSide.{device_judged, device_re
 use Rattle.fw_steps.proofs.LinksAreMessages.Holding.{Holds, holds_still, settled_cell, settles}
 use Rattle.fw_steps.proofs.LinksAreMessages.BothHalves.{BothHold, BothWait, PairGoes, both_joined, pair_at}
 
--- The agent's half, whose session is another now.
+-- The agent's half with a new session.
 recast_joins : (packages : List PackageText) (now : ℕ) (l : LinkOf) (after : TimedOf) (step : StepOf) (named : HasName step) (down up : Option CellContentOf) (down_past : List LaneEntry) (down_run up_run down_last up_last : CellRun)
     → BothHold packages l down_run.cell up_run.cell down up → BothWait l down_run.cell up_run.cell
     → step_of packages (pair_at l down up) step ≡ Some (step_without_entries (record { device = l.device.core.device; session = after.session; down = down; up = up }))
@@ -48,7 +48,7 @@ recast_joins packages now l after step named down up down_past down_run up_run d
   };
 }
 
--- what a refusal or a step is
+-- a step that may be taken or is refused
 taken_if : (t u : LinkStepped) (may : Bool) → (if may then Some t else None) ≡ Some u → (may ≡ true) × (t ≡ u)
 taken_if t u true e = (refl, cc)
 taken_if t u false e = absurd (cc)
@@ -95,7 +95,7 @@ pub activate_joins : (packages : List PackageText) (now : ℕ) (l : LinkOf) (t :
 activate_joins packages now l t down up down_past down_run up_run down_last up_last both waits s e f =
     activate_from packages now l (agent_activated l.agent.core.session) t down up down_past down_run up_run down_last up_last both waits refl s e f
 
--- A verdict that counts.
+-- A verdict that the device waits for.
 abbrev judged_link : LinkOf → VerdictEffect → LinkStepped
 judged_link l j = record {
   after = record l { device = half_with_core device_core l.device (record { device = j.after; idle = 0 }) };
@@ -133,7 +133,7 @@ judge_joins packages now l verdict works t down up up_past down_run up_run down_
 
 -- RESTARTS
 
--- a cell whose asker starts anew
+-- a cell whose asker restarts
 closed_stands : (asked : Option Open) (run last : CellRun) (cell : Cell) (own : Option CellContentOf) → awaited_request cell ≡ option_map request_of_open asked → run.cell ≡ cell → MatchesCell cell own
     → (if is_some asked then close_in run cell else Some run) ≡ Some last → MatchesCell last.cell (cell_after_close own)
 closed_stands None run last Cell.Empty None waits at k e =
@@ -162,7 +162,7 @@ closes_as : (waits : Bool) (run last : CellRun) → cell_closes_if waits run ≡
 closes_as true run last e = e
 closes_as false run last e = e
 
--- nothing is waited for then
+-- then nobody waits for a command
 closed_wished : (wish : Option CommandOf) (own : Option CellContentOf) → IsWishedIn (cell_after_close own) wish
 closed_wished wish None = tt
 closed_wished wish (Some h) = λ f. absurd (cc)
@@ -179,7 +179,7 @@ restarted core agent x asked run last own waits holds e = record {
   is_for = closed_for agent own holds.is_for;
 }
 
--- A side of the link starts anew.
+-- A side of the link restarts.
 pub agent_restart_joins : (packages : List PackageText) (now : ℕ) (l : LinkOf) (t : LinkStepped) (down up : Option CellContentOf) (down_past up_past : List LaneEntry) (down_run up_run down_last up_last : CellRun)
     → BothHold packages l down_run.cell up_run.cell down up → BothWait l down_run.cell up_run.cell
     → Some (link_step_without_entries (record l { agent = half_restarts (session_core packages) l.agent })) ≡ Some t

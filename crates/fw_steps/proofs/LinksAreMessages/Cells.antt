@@ -1,4 +1,4 @@
--- What an asker's giving up is for the cells of both worlds.
+-- The cells of both worlds after an asker gave up a request.
 use Rattle.std.proofs.Common.{◌≡◌, ◌∙◌, ℕ, ◌==◌, ◌&&◌, Bool, true, false, List, [], ◌∷◌, Option, Some, None, refl, sym, ap, subst, inl, inr}
 use Rattle.std.specs.Option.{option_map}
 use Rattle.std.proofs.lemmas.Bool.Decides.{eqb_tells}
@@ -13,19 +13,20 @@ use Rattle.fw_node.specs.Halves.{is_wished as is_wished_there}
 use Rattle.fw_steps.specs.Joins.{IsAnsweredAs, IsAskedAs, IsCommandFor, IsCellFor, DecodesToCommand, IsWishedIn, MatchesCell, cell_kept, cell_unless}
 use Rattle.fw_steps.proofs.LinksAreLanes.Routes.{both_hold}
 
--- a node and a pair ask the same of a wish
+-- a node and a pair compare a command with the pending one alike
 same_wish : (c : CommandOf) (wish : Option CommandOf) → is_wished_there c wish ≡ is_wished c wish
 same_wish c None = refl
 same_wish c (Some d) = refl
 
--- whether an open request is still wished is whether its command is
+-- an open request is of the pending command exactly if its command is that
 wished_as : (wish : Option CommandOf) (o : Open) (command : ℕ) (body : List ℕ) (c : CommandOf) → Some (command, body) ≡ Some (request_of_open o) → DecodesToCommand command body c
     → still_wished wish o ≡ is_wished c wish
 wished_as wish o command body c e said =
     let same : (command, body) ≡ request_of_open o = cc in
     ap (λ p. wished_read wish (command_read p.0 p.1)) (sym same) ∙ ap (wished_read wish) said.reads ∙ same_wish c wish
 
--- the request of an asked cell is given up where its command isn't wished, and so is that of whole messages
+-- the request of an asked cell is given up if its command is no longer pending, and so is that of
+-- whole messages
 asked_kept : (wished : Bool) (command : ℕ) (body : List ℕ) (h : CellContentOf) → IsAskedAs command body true h
     → MatchesCell (cell_kept wished (Cell.Asked command body true)) (Some (record h { live = h.live && wished }))
 asked_kept true command body h k = record { said = k.said; reply = k.reply; live_is = rw k.live_is refl }
@@ -36,7 +37,8 @@ answered_kept : (wished : Bool) (command : ℕ) (body reply : List ℕ) (h : Cel
 answered_kept true command body reply h k = record { said = k.said; answer = k.answer; reply_is = k.reply_is; reads = k.reads; live_is = rw k.live_is refl }
 answered_kept false command body reply h k = record { said = k.said; answer = k.answer; reply_is = k.reply_is; reads = k.reads; live_is = rw k.live_is refl }
 
--- A lane's cell after its asker gave up what isn't wished stands for the cell of whole messages after its closing.
+-- A lane's cell after its asker gave up a request that is no longer the pending command matches the
+-- cell of whole messages after its closing.
 pub gives_up : (wish : Option CommandOf) (o : Option Open) (cell : Cell) (held : Option CellContentOf) → awaited_request cell ≡ option_map request_of_open o → MatchesCell cell held
     → MatchesCell (cell_unless wish o cell) (closed_unless wish held)
 gives_up wish None Cell.Empty None e k = tt
@@ -53,7 +55,7 @@ gives_up wish None (Cell.Answered command body reply false) (Some h) e k = recor
 gives_up wish (Some o) (Cell.Answered command body reply false) (Some h) e k = absurd (cc)
 gives_up wish o cell held e k = absurd k
 
--- what is left is wished
+-- a command that is left open is the pending command
 wished_left : (live wished : Bool) → (live && wished) ≡ true → wished ≡ true
 wished_left true wished e = e
 wished_left false wished e = absurd (cc)
@@ -62,7 +64,7 @@ pub left_wished : (wish : Option CommandOf) (held : Option CellContentOf) → Is
 left_wished wish None = tt
 left_wished wish (Some h) = λ e. wished_left h.live (is_wished h.command wish) e
 
--- what is wished stays open
+-- the pending command stays open
 stays_by : (live wished : Bool) → (live ≡ true → wished ≡ true) → (live && wished) ≡ live
 stays_by true wished k = k refl
 stays_by false wished k = refl
@@ -71,12 +73,12 @@ pub stays : (wish : Option CommandOf) (held : Option CellContentOf) → IsWished
 stays wish None k = refl
 stays wish (Some h) k = rw (stays_by h.live (is_wished h.command wish) k) refl
 
--- what is closed stays closed
+-- a closed cell stays closed
 pub closed_stays : (wish : Option CommandOf) (own : Option CellContentOf) → closed_unless wish (cell_after_close own) ≡ cell_after_close own
 closed_stays wish None = refl
 closed_stays wish (Some h) = refl
 
--- whom a command is for stays
+-- a command stays for the same side
 pub still_for : (agent : Bool) (wish : Option CommandOf) (held : Option CellContentOf) → IsCellFor agent held → IsCellFor agent (closed_unless wish held)
 still_for agent wish None k = tt
 still_for agent wish (Some h) k = k
@@ -97,7 +99,7 @@ bytes_are (x ∷ xs) (y ∷ ys) e =
 pub numbers_are : (m n : ℕ) → (m == n) ≡ true → m ≡ n
 numbers_are m n e = elim (eqb_tells m n) [ inl same ↦ same.1 | inr other ↦ absurd (let o = other.0 in cc) ]
 
--- whom a command is for that is this one
+-- a command is for the same side as an equal one
 pub told_for : (agent : Bool) (c d : CommandOf) → Some c ≡ Some d → IsCommandFor agent c → IsCommandFor agent d
 told_for agent c d e k =
     let same : c ≡ d = cc in

@@ -1,4 +1,4 @@
--- A packet that comes to a side of a link, as steps of its pair.
+-- A packet that is delivered to a side of a link, as steps of its pair.
 use Rattle.std.proofs.Common.{◌≡◌, ◌≢◌, ◌⊎◌, ◌∙◌, ℕ, not, Bool, true, false, List, [], ◌∷◌, Option, Some, sym, ap, subst, inl, inr}
 use Rattle.std.specs.Option.{option_map}
 use Rattle.pldm_exch.specs.Caller.{request_of_open, is_quiet}
@@ -83,7 +83,7 @@ request_comes {A} {B} {packages} {core} {agent} {place} {peer_wish} {notes} side
     (sym heard)
     (hears_request side works a row own other w run last other_run other_last holds theirs deaf waits rests (row_hears a.unit a.own a.peer a.taker s.bytes) (subst (TakenAnswerRoundTrips (core.unit a.core)) heard told) along (sym comes ∙ steps))
 
--- A packet of the link comes to a half.
+-- A packet of the link is delivered to a half.
 pub half_comes : {A B : Type 0} {packages : List PackageText} {core : CoreOf A} {agent : Bool} {place : Place A} {peer_wish : Option CommandOf} {notes : Notes A} (side : Sided packages core agent place peer_wish notes)
     (works : Bool) (now : Times) (a : HalfOf A) (b : HalfOf B) (ps : List Sent) (past later : List LaneEntry) (number : ℕ) (s : Sent) (own other : Option CellContentOf) (run last other_run other_last : CellRun)
     → b.unit ≡ a.unit → a.own ≢ b.own → a.peer ≡ b.own → b.peer ≡ a.own → item_numbered ps number ≡ Some s → (is_of a.unit a.own b.own s ≡ true) ⊎ (is_of b.unit b.own a.own s ≡ true)

@@ -1,4 +1,4 @@
--- What a device's half does, as steps of its pair over whole messages.
+-- The steps of a device's half, as steps of its pair over whole messages.
 use Rattle.mctp_wire.specs.declared.unit.Unit.{«Unit»}
 use Rattle.std.proofs.Common.{◌≡◌, ℕ, ◌+◌, ◌&&◌, not, nat_lt, Bool, true, false, if◌then◌else◌, List, [], length, map, Option, Some, None, Ok, refl, sym, subst}
 use Rattle.fw_package.specs.Package.{PackageText}
@@ -27,11 +27,11 @@ use Rattle.fw_steps.proofs.LinksAreMessages.Sides.{PairLeads, Sided, closes, no_
 abbrev pub device_place : SessionOf → TimedDevice → Option CellContentOf → Option CellContentOf → PairOf
 device_place s x own other = record { device = x.device; session = s; down = other; up = own }
 
--- what the device activates by a command
+-- the images that the device activates by a command
 abbrev pub device_notes : TimedDevice → CommandOf → Bool → Bool → List EntryOf
 device_notes x c quiet works = map EntryOf.Activated (device_take x.device c quiet works).activated
 
--- a pair is closed to this one, where the session's own cell stays
+-- the pair after closing, if the session's own cell stays
 closed_so : (packages : List PackageText) (s : SessionOf) (d : DeviceState) (own after other : Option CellContentOf) → IsWishedIn other (down_wish packages s)
     → closed_unless (device_wish d) own ≡ after
     → unwished_closed packages (record { device = d; session = s; down = other; up = own }) ≡ record { device = d; session = s; down = other; up = after }
@@ -51,18 +51,18 @@ gives packages s x h other k live =
     (device_place s x (Some (record h { live = false })) other) (StepOf.GiveUp ways.Up) tt
     (rw live refl) (closed_so packages s x.device (Some (record h { live = false })) (Some (record h { live = false })) other k refl)
 
--- the device, after what a tick makes of it
+-- the device after a tick
 abbrev timed_by : DeviceState × ℕ → TimedDevice
 timed_by p = record { device = p.0; idle = p.1 }
 
--- nothing happens to the device, and nothing to what it asks
+-- the device and its command are unchanged
 unmoved : (packages : List PackageText) (s : SessionOf) (d : DeviceState) (idle later : ℕ) (own other : Option CellContentOf) → IsWishedIn own (device_wish d)
     → PairLeads packages (device_place s (record { device = d; idle = idle }) own other) [] (device_place s (record { device = d; idle = later }) (closed_unless (device_wish d) own) other)
 unmoved packages s d idle later own other k =
     subst (λ o. PairLeads packages (device_place s (record { device = d; idle = idle }) own other) [] (device_place s (record { device = d; idle = later }) o other))
     (sym (stays (device_wish d) own k)) (no_step packages (device_place s (record { device = d; idle = idle }) own other))
 
--- it waited too long
+-- its wait timed out
 outwaited : (packages : List PackageText) (s : SessionOf) (d : DeviceState) (idle : ℕ) (own other : Option CellContentOf) → IsWishedIn other (down_wish packages s) → times_out d.phase ≡ true
     → PairLeads packages (device_place s (record { device = d; idle = idle }) own other) []
     (device_place s (record { device = device_timeout d; idle = 0 }) (closed_unless (device_wish (device_timeout d)) own) other)
@@ -110,7 +110,7 @@ learns packages s x h a works other k live answered =
     (device_place s (device_core.learn x (Ok a) works) None other) (StepOf.LearnUp works) tt
     (rw (live, answered) refl) (closed_so packages s (device_core.learn x (Ok a) works).device None None other k refl)
 
--- The device starts anew.
+-- The device restarts.
 pub device_restarts : (packages : List PackageText) (s : SessionOf) (x : TimedDevice) (own other : Option CellContentOf) → IsWishedIn other (down_wish packages s)
     → PairLeads packages (device_place s x own other) [] (device_place s (device_core.restarted x) (cell_after_close own) other)
 device_restarts packages s x own other k =
@@ -118,7 +118,7 @@ device_restarts packages s x own other k =
     (device_place s (device_core.restarted x) (cell_after_close own) other) (StepOf.Restart sides.Device) tt
     refl (closed_so packages s (device_restart x.device) (cell_after_close own) (cell_after_close own) other k (closed_stays (device_wish (device_restart x.device)) own))
 
--- A verdict, which leaves the device so.
+-- A verdict, which leaves this device.
 pub device_judged : (packages : List PackageText) (s : SessionOf) (x after : TimedDevice) (own other : Option CellContentOf) (step : StepOf) (es : List EntryOf) → HasName step → IsWishedIn other (down_wish packages s)
     → step_of packages (device_place s x own other) step ≡ Some (record { after = record { device = after.device; session = s; down = other; up = own }; noted = es })
     → PairLeads packages (device_place s x own other) es (device_place s after (closed_unless (device_wish after.device) own) other)
@@ -154,7 +154,7 @@ takes packages s x own h quiet works k new may =
     (closes packages (device_place s x own (Some h)) (down_taken (device_place s x own (Some h)) h (device_take x.device h.command quiet works))
     (took s x own h quiet works) (StepOf.TakeDown quiet works) tt (rw (new, may) refl) (takes_closed packages s x own h quiet works k))
 
--- what a device wishes is for the agent
+-- a device's pending command is one for the agent
 reports_at : (command : ℕ → CommandOf) (result : Option ℕ) (c : CommandOf) → report_if command result ≡ Some c → ((n : ℕ) → IsCommandFor true (command n)) → IsCommandFor true c
 reports_at command None c e k = absurd (cc)
 reports_at command (Some n) c e k = told_for true (command n) c e (k n)

@@ -17,13 +17,13 @@ use Rattle.fw_steps.proofs.LinksAreMessages.Pairs.{among, node_of, pair_among}
 use Rattle.fw_steps.proofs.LinksAreMessages.Sides.{all_along}
 use Rattle.fw_steps.proofs.LinksAreMessages.Stands.{Stands, StandsOn}
 
--- each link stands with the pair in its place
+-- each link matches the pair at its place
 abbrev pub AllStand : List PackageText → (now : ℕ) → List LinkOf → List NodeOf → Type 0
 AllStand packages now [] [] = Unit {0}
 AllStand packages now (l ∷ ls) (n ∷ ns) = Stands packages now l n.pair × AllStand packages now ls ns
 AllStand packages now ls ns = ⊥
 
--- none of these identifiers is in front
+-- none of these identifiers is among the first nodes
 abbrev pub AreAway : List NodeOf → List ℕ → Type 0
 AreAway front [] = Unit {0}
 AreAway front (eid ∷ eids) = (node_at front eid ≡ None) × AreAway front eids
@@ -46,11 +46,11 @@ away_all (eid ∷ eids) = (refl, away_all eids)
 abbrev pub nodes_in : MessageWorldOf → List NodeOf → List NotedOf → MessageWorldOf
 nodes_in w ns history = record w { nodes = ns; history = history }
 
--- the front grew by one
+-- the first nodes are one more
 moved_on : (w : MessageWorldOf) (front : List NodeOf) (n : NodeOf) (ns : List NodeOf) (history : List NotedOf) → nodes_in w ((front ++ n ∷ []) ++ ns) history ≡ nodes_in w (front ++ n ∷ ns) history
 moved_on w front n ns history = ap (λ xs. nodes_in w xs history) (append_assoc front (n ∷ []) ns)
 
--- a step of a link that isn't a restart of the agent, which is one of all links
+-- a step of a link that isn't a restart of the agent, which restarts all links
 abbrev pub IsAlone : LinkStep → Type 0
 IsAlone (LinkStep.Restart sides.Agent) = ⊥
 IsAlone s = Unit {0}
@@ -66,7 +66,7 @@ named_among eid (s ∷ steps) k = (k.0, named_among eid steps k.1)
 
 -- ONE LINK
 
--- one link took a step, and its pair went along; all others stay
+-- one link took a step, and its pair with it; all others stay
 pub record OneGone (packages : List PackageText) (now : ℕ) (s : LinkStep) (w : MessageWorldOf) (front ns : List NodeOf) (ls : List LinkOf) (place : ℕ) (l : LinkOf) (history : List NotedOf) : Type 0 where
   pub stepped : LinkStepped
   pub after : link_after now packages l s ≡ Some stepped
@@ -95,7 +95,7 @@ one_here now s w front n ns l ls history alone is away stand on = record {
   same = refl;
 }
 
--- one behind it
+-- one of the others
 one_there : (now : ℕ) (s : LinkStep) (w : MessageWorldOf) (front : List NodeOf) (n : NodeOf) (ns : List NodeOf) (x : LinkOf) (ls : List LinkOf) (place : ℕ) (l : LinkOf) (history : List NotedOf)
     → Stands w.packages now x n.pair → OneGone w.packages now s w (front ++ n ∷ []) ns ls place l history → OneGone w.packages now s w front (n ∷ ns) (x ∷ ls) (suc place) l history
 one_there now s w front n ns x ls place l history here g = record {
@@ -125,7 +125,7 @@ one_from now s w front (n ∷ ns) (x ∷ ls) (suc place) l history alone is away
 one_from now s w front [] (x ∷ ls) place l history alone is away apart stand e go = absurd stand
 one_from now s w front (n ∷ ns) [] place l history alone is away apart stand e go = absurd stand
 
--- One link of many takes a step that takes no time.
+-- One link of many takes a step, and the time stays.
 pub one_goes : (now : ℕ) (s : LinkStep) (w : MessageWorldOf) (ls : List LinkOf) (place : ℕ) (l : LinkOf) → IsAlone s → time_after now s ≡ now
     → AreDifferent (map eid_of w.nodes) → AllStand w.packages now ls w.nodes → slice_get ls place ≡ Some l → ((n : NodeOf) → Stands w.packages now l n.pair → StandsOn w.packages now l s n.pair)
     → OneGone w.packages now s w [] w.nodes ls place l w.history
@@ -142,7 +142,7 @@ AllAfter packages now s ls ts = ⊥
 abbrev pub link_of : LinkStepped → LinkOf
 link_of t = t.after
 
--- what happened to their devices
+-- the entries of their devices
 abbrev pub notes_of : List ℕ → List LinkStepped → List NotedOf
 notes_of (eid ∷ eids) (t ∷ ts) = map (noted_of eid) t.noted ++ notes_of eids ts
 notes_of eids ts = []
@@ -206,7 +206,7 @@ all_from now then s w front (n ∷ ns) (l ∷ ls) history alone time away apart 
 all_from now then s w front [] (l ∷ ls) history alone time away apart stand may = absurd stand
 all_from now then s w front (n ∷ ns) [] history alone time away apart stand may = absurd stand
 
--- Each link takes a step of its own, all in the same time.
+-- Each link takes its own step, all at the same time.
 pub all_go : (now then : ℕ) (s : LinkOf → LinkStep) (w : MessageWorldOf) (ls : List LinkOf) → ((l : LinkOf) → IsAlone (s l)) → ((l : LinkOf) → time_after now (s l) ≡ then) → AreDifferent (map eid_of w.nodes) → AllStand w.packages now ls w.nodes → AllMay w.packages now s ls
     → AllGone w.packages now then s w [] w.nodes ls w.history
 all_go now then s w ls alone time apart stand may = all_from now then s w [] w.nodes ls w.history alone time (away_all (map eid_of w.nodes)) apart stand may

@@ -1,4 +1,4 @@
--- A half goes on: what its core and its cell are then, and the steps of its pair that lead there.
+-- A half after its steps: its core and its cell, and the steps of its pair.
 use Rattle.std.proofs.Common.{◌≡◌, ◌∙◌, Bool, true, false, List, [], ◌∷◌, Option, Some, None, refl, sym, ap, subst}
 use Rattle.std.specs.Option.{option_map}
 use Rattle.pldm_exch.specs.Caller.{Open, request_of_open}
@@ -15,13 +15,14 @@ use Rattle.fw_steps.specs.Lanes.{abandon_steps, unless_wished}
 use Rattle.fw_steps.proofs.LinksAreMessages.Cells.{gives_up, left_wished, still_for}
 use Rattle.fw_steps.proofs.LinksAreMessages.Sides.{PairLeads, Place}
 
--- A core with its cell: the cell stands for what the pair holds, what is waited for is wished, and the other half answers it.
+-- A core with its cell: the lane's cell matches the pair's, a command that its asker waits for is
+-- pending, and the other half answers it.
 pub record Holds {C : Type 0} (core : CoreOf C) (agent : Bool) (x : C) (cell : Cell) (own : Option CellContentOf) : Type 0 where
   pub stands : MatchesCell cell own
   pub wished : IsWishedIn own (core.wish x)
   pub is_for : IsCellFor agent own
 
--- Steps that add nothing to the history lead from a pair to one with this core, and its cell is this.
+-- Steps that add nothing to the history, from a pair to one with this core, and its cell is this.
 pub record CoreGoes {C : Type 0} (packages : List PackageText) (core : CoreOf C) (agent : Bool) (place : Place C) (m : PairOf) (other : Option CellContentOf) (x : C) (cell : Cell) : Type 0 where
   pub own : Option CellContentOf
   pub leads : PairLeads packages m [] (place x own other)
@@ -40,7 +41,7 @@ pub went : (w : LaneOf) (ss : List LaneStepOf) (o : Option CellRun) (last : Cell
 went w ss (Some run) last e = record { run = run; is = refl }
 went w ss None last e = absurd (let n = stuck_along w ss in cc)
 
--- what is closed is what is kept where it isn't wished
+-- a cell is closed exactly if its command is no longer pending
 closed_cell : (run after : CellRun) (cell : Cell) → close_in run cell ≡ Some after → after.cell ≡ cell_kept false cell
 closed_cell run after (Cell.Asked command body true) e =
     let is : ◌≡◌ {A = CellRun} (record run { cell = Cell.Asked command body false }) after = cc in
@@ -65,7 +66,7 @@ pub unless_empty : (wish : Option CommandOf) (asked : Option Open) → cell_unle
 unless_empty wish None = refl
 unless_empty wish (Some o) = kept_empty (still_wished wish o)
 
--- A lane's asker gave up what isn't wished, and these steps come after it.
+-- A lane's asker gave up a request that is no longer the pending command, and these steps follow.
 pub record Abandoned (wish : Option CommandOf) (asked : Option Open) (ss : List LaneStepOf) (run last : CellRun) : Type 0 where
   pub lane : LaneOf
   pub mid : CellRun
@@ -89,7 +90,7 @@ pub abandoned : (wish : Option CommandOf) (asked : Option Open) (w : LaneOf) (ss
 abandoned wish None w ss run last e = record { lane = w; mid = run; along = e; cell = refl }
 abandoned wish (Some o) w ss run last e = abandoned_by (still_wished wish o) wish o w ss run last refl e
 
--- A core that is another now, after its half gave up what isn't wished.
+-- A new core, after its half gave up a request that is no longer the pending command.
 pub settles : {C : Type 0} (core : CoreOf C) (agent : Bool) (x : C) (asked : Option Open) (cell after : Cell) (own : Option CellContentOf)
     → awaited_request cell ≡ option_map request_of_open asked → MatchesCell cell own → IsCellFor agent own → after ≡ cell_unless (core.wish x) asked cell
     → Holds core agent x after (closed_unless (core.wish x) own)
@@ -99,7 +100,7 @@ settles core agent x asked cell after own waits stands k is = record {
   is_for = still_for agent (core.wish x) own k;
 }
 
--- the cell of a half whose core is another now
+-- the cell of a half with a new core
 pub settled_cell : (wish : Option CommandOf) (asked : Option Open) (w : LaneOf) (run last : CellRun) → cells_along w (abandon_steps wish asked []) (Some run) ≡ Some last
     → last.cell ≡ cell_unless wish asked run.cell
 settled_cell wish asked w run last e =
@@ -108,7 +109,7 @@ settled_cell wish asked w run last e =
     let same : a.mid ≡ last = cc in
     ap (λ r. r.cell) (sym same) ∙ a.cell
 
--- nothing happened to a core and its cell
+-- a core and its cell are unchanged
 pub holds_still : {C : Type 0} (core : CoreOf C) (agent : Bool) (x : C) (run last : CellRun) (own : Option CellContentOf) → Some run ≡ Some last → Holds core agent x run.cell own
     → Holds core agent x last.cell own
 holds_still core agent x run last own e holds =

@@ -26,9 +26,9 @@ use Rattle.fw_steps.proofs.LinksAreMessages.Holding.{Holds, holds_still, settled
 use Rattle.fw_steps.proofs.LinksAreMessages.Rows.{IsOneDeaf}
 use Rattle.fw_steps.proofs.LinksAreMessages.Sides.{PairLeads, Notes, Place, Sided, no_step}
 
--- WHAT IS HEARD ANSWERS WHAT IS OPEN
+-- A REPLY ANSWERS THE OPEN REQUEST
 
--- what a row brings is the answer to the open request
+-- the reply of a row is the answer to the open request
 pub record Answers (o : Option (ℕ × List ℕ)) (heard : ReplyInOf) : Type 0 where
   pub body : List ℕ
   pub is : o ≡ Some (heard.command, body)
@@ -70,9 +70,9 @@ hearing_row u false a p = tt
 pub row_answers : (u : «Unit») (own peer : ℕ) (a : AskerOf) (bytes : List ℕ) → RowAnswers (asker_row u own peer a bytes) (option_map request_of_open a.caller.asked)
 row_answers u own peer a bytes = hearing_row u (a.deaf == 0) a (packet_for u own peer false bytes)
 
--- A HALF THAT HEARD
+-- A HALF AFTER A REPLY
 
--- what another half asks, in its cell
+-- the other half's command, in its cell
 pub record Others (agent : Bool) (wish : Option CommandOf) (cell : Cell) (held : Option CellContentOf) : Type 0 where
   pub stands : MatchesCell cell held
   pub wished : IsWishedIn held wish
@@ -83,13 +83,13 @@ others_still agent wish run last held e k =
     let same : run ≡ last = cc in
     subst (λ r. Others agent wish r.cell held) same k
 
--- what was heard is this half, with these entries
+-- the outcome is this half, with these entries
 abbrev pub IsHeardAs : {C : Type 0} → Notes C → C → (quiet works : Bool) → HalfOutcome C → HalfOf C → List NoteOf → Type 0
 IsHeardAs notes x quiet works (HalfOutcome.Went half sent) h es = (half ≡ h) × (es ≡ [])
 IsHeardAs notes x quiet works (HalfOutcome.Took half sent command answer) h es = (half ≡ h) × (es ≡ notes x command quiet works)
 IsHeardAs notes x quiet works heard h es = ⊥
 
--- What a half heard is steps of its pair.
+-- The outcome of a half is steps of its pair.
 pub record HeardGoes {C : Type 0} (packages : List PackageText) (core : CoreOf C) (agent : Bool) (place : Place C) (peer_wish : Option CommandOf) (notes : Notes C)
     (m : PairOf) (x : C) (quiet works : Bool) (heard : HalfOutcome C) (cell other_cell : Cell) : Type 0 where
   pub half : HalfOf C
@@ -102,7 +102,7 @@ pub record HeardGoes {C : Type 0} (packages : List PackageText) (core : CoreOf C
   pub theirs : Others (not agent) peer_wish other_cell other
   pub deaf : IsOneDeaf half
 
--- A reply in a cell: it is the answer that the pair's cell holds.
+-- A reply in a cell: it is the answer in the pair's cell.
 record Learnt (own : Option CellContentOf) (heard : ReplyInOf) (after : CellRun) : Type 0 where
   held : CellContentOf
   answer : AnswerOf

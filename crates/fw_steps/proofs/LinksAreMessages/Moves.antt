@@ -1,4 +1,5 @@
--- The links of a world and a world of messages that stand for each other: where the links go, the messages go.
+-- The links of a world and the world of messages that they match: it takes a step with each of
+-- theirs.
 use Rattle.std.proofs.Common.{◌≡◌, ◌∙◌, ℕ, List, [], ◌∷◌, ◌++◌, map, slice_get, slice_set, Option, Some, refl, sym, ap, subst}
 use Rattle.std.specs.List.{AllByRecursion}
 use Rattle.fw_package.specs.Package.{PackageText}
@@ -11,12 +12,13 @@ use Rattle.fw_steps.specs.Links.{LinkOf, LinkStep, LinkStepped, link_after, time
 use Rattle.fw_steps.proofs.LinksAreMessages.Each.{AllAfter, AllMay, AllStand, IsAlone, all_go, eid_of, link_of, nodes_in, notes_of, one_goes}
 use Rattle.fw_steps.proofs.LinksAreMessages.Stands.{stands_on}
 
--- Each link stands with the pair in its place, and no identifier stands twice.
+-- Each link matches the pair at its place, and no identifier is there twice.
 pub record WorldStands (now : ℕ) (ls : List LinkOf) (v : MessageWorldOf) : Type 0 where
   pub stand : AllStand v.packages now ls v.nodes
   pub apart : AreDifferent (map eid_of v.nodes)
 
--- The world of messages goes along: it stands for these links then, and this is added to its history.
+-- The world of messages takes its steps: it matches these links afterwards, and these entries are
+-- added to its history.
 pub record MovesOn (now : ℕ) (ls : List LinkOf) (notes : List NotedOf) (v : MessageWorldOf) : Type 0 where
   pub steps : List WorldStepOf
   pub named : AllByRecursion IsNamedStep steps
@@ -28,7 +30,7 @@ pub record MovesOn (now : ℕ) (ls : List LinkOf) (notes : List NotedOf) (v : Me
   pub same : map eid_of after.nodes ≡ map eid_of v.nodes
   pub stands : WorldStands now ls after
 
--- what a link becomes is one thing
+-- a link has one state after a step
 one_after : (o : Option LinkStepped) (t u : LinkStepped) → o ≡ Some t → o ≡ Some u → t ≡ u
 one_after o t u e f = cc
 
@@ -43,7 +45,7 @@ all_after packages now s (l ∷ ls) (t ∷ ts) [] e f = absurd f
 one_eid : (o : Option ℕ) (x y : ℕ) → o ≡ Some x → o ≡ Some y → x ≡ y
 one_eid o x y e f = cc
 
--- One link takes a step that takes no time.
+-- One link takes a step, and the time stays.
 pub one_moves : LinksAreLanes → LinksAreMessages → (now : ℕ) (v : MessageWorldOf) (ls : List LinkOf) (place : ℕ) (l : LinkOf) (s : LinkStep) (t : LinkStepped) (eid : ℕ)
     → WorldStands now ls v → slice_get ls place ≡ Some l → slice_get (map eid_of v.nodes) place ≡ Some eid → time_after now s ≡ now → IsAlone s
     → MayHappen now v.packages l s → LinkStepRoundTrips v.packages l s → link_after now v.packages l s ≡ Some t

@@ -14,7 +14,7 @@ node_of eid m = record { eid = eid; pair = m }
 abbrev pub among : MessageWorldOf → (front back : List NodeOf) → ℕ → PairOf → List NotedOf → MessageWorldOf
 among w front back eid m history = record w { nodes = front ++ node_of eid m ∷ back; history = history }
 
--- it is found where none before it has its identifier
+-- it is found if no node before it has its identifier
 skipped : (here : Bool) (m : NodeOf) (o p : Option NodeOf) (n : NodeOf) → (if here then Some m else o) ≡ None → (o ≡ None → p ≡ Some n) → (if here then Some m else p) ≡ Some n
 skipped true m o p n e k = absurd (cc)
 skipped false m o p n e k = k e
@@ -36,7 +36,7 @@ put_behind (n ∷ front) back eid m after e =
     left_alone (n.eid == eid) n (node_at front eid) (with_pair (front ++ node_of eid m ∷ back) eid after) (record n { pair = after } ∷ (front ++ node_of eid m ∷ back)) (front ++ node_of eid after ∷ back) e
     (λ none. put_behind front back eid m after none)
 
--- what is noted stands behind
+-- the entries are appended
 pub noted_behind : (es more : List EntryOf) → history_with es more ≡ es ++ more
 noted_behind es [] = sym (append-nil es)
 noted_behind es (x ∷ more) = noted_behind (es ++ x ∷ []) more ∙ append_assoc es (x ∷ []) more
@@ -52,7 +52,7 @@ step_among w front back eid m history s t away e =
     ∙ ap (option_map (went_on here eid)) e
     ∙ ap (λ ns. Some (record here { nodes = ns; history = history ++ map (noted_of eid) t.noted })) (put_behind front back eid m t.after away)
 
--- the history of the world, where that of the pair is this
+-- the history of the world, for this history of the pair
 abbrev pub told : List NotedOf → ℕ → List EntryOf → List NotedOf
 told history eid es = history ++ map (noted_of eid) es
 
@@ -85,7 +85,7 @@ runs_among w front back eid history [] r last away e =
 runs_among w front back eid history (s ∷ steps) r last away e =
     goes_by w front back eid history s steps r last (pair_after w.packages r.pair s) away refl (λ next k. runs_among w front back eid history steps next last away k) e
 
--- A device's pair goes on in the world, from an empty history of its own.
+-- A device's pair takes its steps in the world, from its own empty history.
 pub pair_among : (w : MessageWorldOf) (front back : List NodeOf) (eid : ℕ) (history : List NotedOf) (steps : List StepOf) (m after : PairOf) (more : List EntryOf) → node_at front eid ≡ None
     → message_along w.packages (Some (record { pair = m; entries = [] })) steps ≡ Some (record { pair = after; entries = history_with [] more })
     → world_along (Some (among w front back eid m history)) (map (WorldStepOf.OfPair eid) steps) ≡ Some (among w front back eid after (history ++ map (noted_of eid) more))

@@ -1,4 +1,5 @@
--- The agent starts anew: each link does, and its pair with it, which is one step of the world of messages.
+-- The agent restarts: each link does, and its pair with it, which is one step of the world of
+-- messages.
 use Rattle.std.proofs.Common.{◌≡◌, ℕ, List, [], ◌∷◌, map, append-nil, Option, Some, None, refl, sym, ap, subst}
 use Rattle.std.specs.Option.{option_map}
 use Rattle.fw_package.specs.Package.{PackageText}
@@ -60,7 +61,7 @@ goes_anew : (v : MessageWorldOf) → world_along (Some v) (WorldStepOf.RestartAg
 unfolding message_world_after
 goes_anew v = refl
 
--- The links start anew, and nothing is noted.
+-- The links restart, and nothing is noted.
 pub all_restart_move : LinksAreLanes → LinksAreMessages → (now : ℕ) (v : MessageWorldOf) (ls : List LinkOf) (ts : List LinkStepped) → WorldStands now ls v
     → AllMayHappen now v.packages (λ l. anew) ls → AllAfter v.packages now (λ l. anew) ls ts → MovesOn now (map link_of ts) [] v
 all_restart_move lanes messages now v ls ts stands may after =

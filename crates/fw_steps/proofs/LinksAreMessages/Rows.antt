@@ -1,4 +1,4 @@
--- What a tick and a packet leave of an open request, and that a half keeps one deaf count.
+-- An open request after a tick and a packet; and both ends of a half are deaf for as long.
 use Rattle.std.proofs.Common.{◌≡◌, ◌∙◌, ℕ, ◌+◌, ◌-◌, ◌==◌, nat_le, Bool, true, false, List, map, [], ◌∷◌, Option, Some, None, refl, sym, ap, subst}
 use Rattle.std.specs.Option.{option_map}
 use Rattle.mctp_reasm.specs.Held.{held_tick}
@@ -9,7 +9,7 @@ use Rattle.pldm_exch.specs.Sides.{AskerTick, asker_called, asker_counts, taker_c
 use Rattle.fwup_wire.specs.Values.{CommandOf}
 use Rattle.fw_node.specs.Halves.{CoreOf, HalfOf, begins_if, begins_wish, half_tick_by_row, half_ticks, tick_if, unwished_abandoned, with_caller}
 
--- what waits after a tick: what waited, or nothing, where it was given up
+-- the request that waits after a tick: the one before, or none if it was given up
 abbrev pub RowWaits : AskerTick → Option (ℕ × List ℕ) → Type 0
 RowWaits (AskerTick.Waits a) o = option_map request_of_open a.caller.asked ≡ o
 RowWaits (AskerTick.Resends a m) o = option_map request_of_open a.caller.asked ≡ o
@@ -84,7 +84,7 @@ counts_deaf a t e =
     ∙ ap (deaf_after (nat_le a.deaf 1)) e
     ∙ sym (taker_deaf t (nat_le a.deaf 1) (ap (λ n. nat_le n 1) (sym e)))
 
--- a half's one deaf count
+-- both ends of a half are deaf for as long
 abbrev pub IsOneDeaf : {C : Type 0} → HalfOf C → Type 0
 IsOneDeaf h = h.asker.deaf ≡ h.taker.deaf
 

@@ -1,4 +1,4 @@
--- What each half does, as steps of its pair over whole messages.
+-- The steps of each half, as steps of its pair over whole messages.
 use Rattle.std.proofs.Common.{◌≡◌, ◌∙◌, ◌&&◌, not, Bool, true, false, List, [], ◌∷◌, ◌++◌, Option, Some, None, Ok, refl, sym, ap}
 use Rattle.std.specs.List.{AllByRecursion}
 use Rattle.std.specs.Option.{option_map}
@@ -11,7 +11,8 @@ use Rattle.fw_message.specs.Pairs.{CellContentOf, PairOf, PairRun, StepOf, Stepp
 use Rattle.fw_node.specs.Halves.{CoreOf}
 use Rattle.fw_steps.specs.Joins.{IsCommandFor, IsWishedIn}
 
--- Steps of whole messages lead from one pair to another, and add these entries to the history. None restarts the session alone.
+-- Steps of whole messages from one pair to another, which add these entries to the history. None
+-- restarts the session alone.
 pub record PairLeads (packages : List PackageText) (m : PairOf) (more : List EntryOf) (after : PairOf) : Type 0 where
   pub steps : List StepOf
   pub named : AllByRecursion HasName steps
@@ -38,7 +39,7 @@ noted_more : (es more later : List EntryOf) → history_with es (more ++ later) 
 noted_more es [] later = refl
 noted_more es (x ∷ more) later = noted_more (es ++ x ∷ []) more later
 
--- what holds of all of two lists holds of both in a row
+-- a property of all elements of two lists is a property of all of both together
 pub all_along : {A : Type 0} (P : A → Type 0) (xs ys : List A) → AllByRecursion P xs → AllByRecursion P ys → AllByRecursion P (xs ++ ys)
 all_along P [] ys k h = h
 all_along P (x ∷ xs) ys k h = (k.0, all_along P xs ys k.1 h)
@@ -55,15 +56,16 @@ leads_on {packages} {m} {mid} {after} {more} {later} a b = record {
       ∙ ap (λ x. Some (record { pair = after; entries = x })) (sym (noted_more es more later));
 }
 
--- the pair by a half's core, what the half asks and what it is asked; and the entries of what it takes
+-- the pair of a half's core, its own cell and the other half's cell; and the entries of a command
+-- that it takes
 abbrev pub Place : Type 0 → Type 0
 Place C = C → Option CellContentOf → Option CellContentOf → PairOf
 
 abbrev pub Notes : Type 0 → Type 0
 Notes C = C → CommandOf → Bool → Bool → List EntryOf
 
--- What a half with this core does, as steps of its pair: what it asks is for the agent or for a device, and `peer_wish` is
--- the other's wish.
+-- The steps of a half with this core, as steps of its pair: its commands are for the agent or for a
+-- device, and `peer_wish` is the other half's pending command.
 pub record Sided {C : Type 0} (packages : List PackageText) (core : CoreOf C) (agent : Bool) (place : Place C) (peer_wish : Option CommandOf) (notes : Notes C) : Type 0 where
   pub drop : (x : C) (h : CellContentOf) (other : Option CellContentOf) → IsWishedIn other peer_wish → h.live ≡ false
       → PairLeads packages (place x (Some h) other) [] (place x None other)
@@ -81,7 +83,7 @@ pub record Sided {C : Type 0} (packages : List PackageText) (core : CoreOf C) (a
   pub wishes : (x : C) (c : CommandOf) → core.wish x ≡ Some c → IsCommandFor agent c
   pub serves : (c : CommandOf) → IsCommandFor (not agent) c → core.serves (command_code c) ≡ true
 
--- a step that leaves this is closed so
+-- a step with this result is closed to this pair
 pub closed_to : (packages : List PackageText) (m : PairOf) (t : Stepped) (after : PairOf) (s : StepOf) → step_of packages m s ≡ Some t → unwished_closed packages t.after ≡ after
     → pair_after packages m s ≡ Some (record { after = after; noted = t.noted })
 unfolding pair_after

@@ -1,4 +1,4 @@
--- A link that is explained with a pair that is joined with it, along the link's steps.
+-- A link that is explained and the pair that it matches, along the link's steps.
 use Rattle.std.proofs.Common.{◌≡◌, ◌∙◌, ℕ, List, [], Some, None, refl, ap}
 use Rattle.pldm_exch.specs.Caller.{is_quiet}
 use Rattle.pldm_exch.specs.Ends.{AskerOf, asker_new}
@@ -24,7 +24,7 @@ pub record Stands (packages : List PackageText) (now : ℕ) (l : LinkOf) (m : Pa
   pub explained : LinkExplained now l
   pub joined : LinkMatchesPair packages l explained.down.run.cell explained.up.run.cell m
 
--- The link takes the step, and its pair goes along.
+-- The link takes the step, and its pair takes its steps.
 pub record StandsOn (packages : List PackageText) (now : ℕ) (l : LinkOf) (s : LinkStep) (m : PairOf) : Type 0 where
   pub stepped : LinkStepped
   pub after : link_after now packages l s ≡ Some stepped
@@ -50,7 +50,7 @@ stands_on lanes messages now packages l s m stands may said =
       stands = record { explained = on.explained; joined = goes.joined };
     }
 
--- a cell of a lane in which nothing was asked yet is empty
+-- a cell of a new lane is empty
 new_cell : (own peer : ℕ) (a : AskerOf) (w : LaneOf) (run : CellRun) → a ≡ asker_new own peer 0 → w.asker ≡ a → IsCellOf w run → run.cell ≡ Cell.Empty
 new_cell own peer a w run new is k =
     let asker : w.asker ≡ asker_new own peer 0 = is ∙ new in
@@ -72,7 +72,7 @@ one_deaf h new = rw (new.asker, new.taker) refl
 nothing_asked : (cell : Cell) → cell ≡ Cell.Empty → MatchesCell cell None
 nothing_asked cell e = rw e tt
 
--- A link on which nothing was sent yet stands with a pair that has asked nothing.
+-- A link without packets matches a pair with empty cells.
 pub new_link_stands : LaneIsACell → (packages : List PackageText) (l : LinkOf) → l.device.unit ≡ l.agent.unit → l.agent.core.session.unit ≡ l.agent.unit → AreEnds l.agent.own l.device.own → l.agent.peer ≡ l.device.own → l.device.peer ≡ l.agent.own
     → IsNewHalf l.agent → IsNewHalf l.device → l.packets ≡ [] → l.agent_since_miss ≡ 8 → l.device_since_miss ≡ 8 → Stands packages 0 l (pair_at l None None)
 new_link_stands law packages l unit session_unit ends peer back agent device none agent_misses device_misses =

@@ -29,7 +29,7 @@ use Rattle.fw_steps.proofs.LinksAreMessages.Rows.{IsOneDeaf}
 use Rattle.fw_steps.proofs.LinksAreMessages.Sides.{PairLeads, Notes, Place, Sided, no_step}
 use Rattle.fw_steps.proofs.LinksAreLanes.Routes.{both_hold}
 
--- WHO TAKES HEARS
+-- A NODE THAT TAKES HEARS
 
 -- a row that takes a request is of a node that hears
 abbrev pub RowHears : TakerRow → TakerOf → Type 0
@@ -49,7 +49,7 @@ hearing_row u false t p e = tt
 pub row_hears : (u : «Unit») (own peer : ℕ) (t : TakerOf) (bytes : List ℕ) → RowHears (taker_row u own peer t bytes) t
 row_hears u own peer t bytes = hearing_row u (t.deaf == 0) t (packet_for u own peer true bytes) refl
 
--- a half that is quiet asks nothing, so that it may be told so
+-- a quiet half has an empty cell, so `quiet` may be true for it
 asks_none : (own : Option CellContentOf) → MatchesCell Cell.Empty own → is_empty own ≡ true
 asks_none None k = refl
 asks_none (Some h) k = absurd k
@@ -60,9 +60,9 @@ is_told_so true cell own k rests =
     rw (asks_none own none) refl
 is_told_so false cell own k rests = refl
 
--- WHAT IS TAKEN IS WHAT WAS ASKED
+-- THE COMMAND TAKEN IS THE ONE ASKED
 
--- A request in a cell: it is the command that the pair's cell holds.
+-- A request in a cell: it is the command in the pair's cell.
 record Taken (held : Option CellContentOf) (command : ℕ) (body reply : List ℕ) (after : CellRun) : Type 0 where
   asked : CellContentOf
   is : held ≡ Some asked
@@ -96,12 +96,12 @@ takes_from run after command body reply (Cell.Answered asked data_of old live) h
 takes_from run after command body reply Cell.Empty held k e = absurd (cc)
 takes_from run after command body reply (Cell.Asked asked data_of live) None k e = absurd k
 
--- what is taken is of PLDM type 5
+-- a command that is taken is of PLDM type 5
 five_if : (five : Bool) (o : Option CellRun) (after : CellRun) → (if five then o else None) ≡ Some after → (five ≡ true) × (o ≡ Some after)
 five_if true o after e = (refl, e)
 five_if false o after e = absurd (cc)
 
--- a command that a core serves is read
+-- a command that a core serves is decoded
 read_as : {C : Type 0} (core : CoreOf C) (command : ℕ) (body : List ℕ) (c : CommandOf) → command ≡ command_code c → core.serves (command_code c) ≡ true → command_read command body ≡ Ok c
     → read_by core command body ≡ Ok c
 read_as core command body c code serves reads =

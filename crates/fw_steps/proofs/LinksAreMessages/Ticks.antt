@@ -1,5 +1,5 @@
--- A tick of a half, as steps of its pair: what rests is dropped, or the open request is given up; time passes; and what is
--- wished is asked.
+-- A tick of a half, as steps of its pair: a cell that nobody waits for is dropped, or the open
+-- request is given up; time passes; and the pending command is asked.
 use Rattle.std.proofs.Common.{◌≡◌, ◌∙◌, ℕ, ◌==◌, Bool, true, false, if◌then◌else◌, List, [], ◌∷◌, Option, Some, None, IfSome, refl, sym, ap, subst}
 use Rattle.std.specs.Option.{option_map}
 use Rattle.mctp_reasm.specs.Pieces.{MessageOf}
@@ -23,12 +23,12 @@ use Rattle.fw_steps.proofs.LinksAreMessages.Rows.{RowWaits, row_waits}
 use Rattle.fw_steps.proofs.LinksAreLanes.Ticks.{deaf_before, hears_then}
 use Rattle.fw_steps.proofs.LinksAreMessages.Sides.{PairLeads, Notes, Place, Sided, no_step}
 
--- A half goes on, and the request that waits is the one that waited.
+-- A half takes its steps, and the request that waits is the one that waited before.
 record Rests {C : Type 0} (packages : List PackageText) (core : CoreOf C) (agent : Bool) (place : Place C) (m : PairOf) (other : Option CellContentOf) (x : C) (cell : Cell) (waits : Option (ℕ × List ℕ)) : Type 0 where
   pub goes : CoreGoes packages core agent place m other x cell
   pub waiting : awaited_request cell ≡ waits
 
--- nothing is left
+-- the cell is empty
 rested : {C : Type 0} {packages : List PackageText} {core : CoreOf C} {agent : Bool} {place : Place C} (m : PairOf) (other : Option CellContentOf) (x : C) (cell : Cell)
     → cell ≡ Cell.Empty → PairLeads packages m [] (place x None other) → Rests packages core agent place m other x cell None
 rested m other x cell is leads = rw is (record { goes = record { own = None; leads = leads; holds = record { stands = tt; wished = tt; is_for = tt } }; waiting = refl })
@@ -55,7 +55,7 @@ rests_from side x None other run after (Cell.Asked command body false) k at hold
 rests_from side x None other run after (Cell.Answered command body reply false) k at holds e = absurd holds.stands
 rests_from side x (Some h) other run after Cell.Empty k at holds e = absurd holds.stands
 
--- nothing happens
+-- no step is taken
 unmoved : {C : Type 0} {packages : List PackageText} {core : CoreOf C} {agent : Bool} {place : Place C} (x : C) (own other : Option CellContentOf) (run after : CellRun)
     → Holds core agent x run.cell own → Some run ≡ Some after → Rests packages core agent place (place x own other) other x after.cell (awaited_request run.cell)
 unmoved {C} {packages} {core} {agent} {place} x own other run after holds e =
@@ -114,7 +114,7 @@ after_row core x (AskerTick.Waits a) = after_hearing (a.deaf == 0) core x
 after_row core x (AskerTick.Resends a m) = after_hearing (a.deaf == 0) core x
 after_row core x (AskerTick.GivesUp a) = after_hearing (a.deaf == 0) core (core.silent x)
 
--- a part that rests or gives up, and the last part
+-- a part in which a cell is dropped or a request given up, and the last part
 then_hears : {C : Type 0} {packages : List PackageText} {core : CoreOf C} {agent : Bool} {place : Place C} {peer_wish : Option CommandOf} {notes : Notes C} (side : Sided packages core agent place peer_wish notes)
     (m : PairOf) (other : Option CellContentOf) (x : C) (w : LaneOf) (run last : CellRun) (waits : Option (ℕ × List ℕ)) (hears : Bool) (caller : CallerState) → WritesCommands → IsWishedIn other peer_wish
     → (hears ≡ true → IfSome (core.wish (after_hearing hears core x)) CommandRoundTrips)

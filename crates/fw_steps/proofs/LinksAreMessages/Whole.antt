@@ -30,7 +30,7 @@ use Rattle.fw_steps.proofs.LinksAreLanes.Comings.{fact_of}
 
 -- A PACKET
 
--- what the agent's half heard, on the link
+-- the outcome of the agent's half, on the link
 agent_on : (packages : List PackageText) (l : LinkOf) (m : PairOf) (x : TimedOf) (quiet works : Bool) (heard : HalfOutcome TimedOf) (half : HalfOf TimedOf) (ps : List Sent) (es : List EntryOf) (down_cell up_cell : Cell)
     → (g : HeardGoes packages (session_core packages) false (agent_place l.device.core.device) (device_wish l.device.core.device) (agent_notes packages) m x quiet works heard down_cell up_cell)
     → half ≡ g.half → es ≡ g.es → l.device.asker.deaf ≡ l.device.taker.deaf
@@ -61,7 +61,7 @@ agent_hears packages now l m quiet works (HalfOutcome.Took half sent command ans
 agent_hears packages now l m quiet works (HalfOutcome.Asks half request head body) t down_cell up_cell g e deaf = absurd (cc)
 agent_hears packages now l m quiet works (HalfOutcome.Strayed half message) t down_cell up_cell g e deaf = absurd (cc)
 
--- what the device's half heard
+-- the outcome of the device's half, on the link
 device_on : (packages : List PackageText) (l : LinkOf) (m : PairOf) (x : TimedDevice) (quiet works : Bool) (heard : HalfOutcome TimedDevice) (half : HalfOf TimedDevice) (ps : List Sent) (es : List EntryOf) (down_cell up_cell : Cell)
     → (g : HeardGoes packages device_core true (device_place l.agent.core.session) (down_wish packages l.agent.core.session) device_notes m x quiet works heard up_cell down_cell)
     → half ≡ g.half → es ≡ g.es → l.agent.asker.deaf ≡ l.agent.taker.deaf
@@ -96,7 +96,7 @@ coming : (late : Bool) (o : Option LinkStepped) (t : LinkStepped) → (if late t
 coming true o t e = absurd (cc)
 coming false o t e = e
 
--- a packet that comes is living
+-- a packet that is delivered is living
 living : (date now : ℕ) (o : Option LinkStepped) (t : LinkStepped) → (if nat_lt date now then None else o) ≡ Some t → (now ≤ date) × (o ≡ Some t)
 living date now o t e = elim (cases_lt date now) [
   | inl late ↦ absurd (let dead = lt-ltb date now late in cc)
@@ -107,7 +107,7 @@ either_way : {A B : Type 0} → A ⊎ B → B ⊎ A
 either_way (inl a) = inr a
 either_way (inr b) = inl b
 
--- A packet of the link comes to a side.
+-- A packet of the link is delivered to a side.
 deliver_joins : (packages : List PackageText) (now : ℕ) (l : LinkOf) (to : Side) (works : Bool) (number : ℕ) (o : Option Sent) (t : LinkStepped) (down up : Option CellContentOf) (down_past up_past : List LaneEntry) (down_run up_run down_last up_last : CellRun)
     → LinkExplained now l → BothHold packages l down_run.cell up_run.cell down up → BothWait l down_run.cell up_run.cell → BothRest l down_run.cell up_run.cell
     → item_numbered l.packets number ≡ o → IfSome o (λ p. AnswerRoundTripsOn packages l to works p.bytes) → delivers_on now packages l to works o ≡ Some t
@@ -138,7 +138,7 @@ ticks_if packages m true u t down_cell up_cell e g =
     subst (λ x. PairGoes packages m x down_cell up_cell) is g
 ticks_if packages m false u t down_cell up_cell e g = absurd (cc)
 
--- as the law says it
+-- in the form of the law
 in_messages : (packages : List PackageText) (l : LinkOf) (s : LinkStep) (t : LinkStepped) (down up : Option CellContentOf) (down_cell up_cell : Cell) → (g : PairGoes packages (pair_at l down up) t down_cell up_cell)
     → AreStepsOf s g.leads.steps → StepsInMessages packages (pair_at l down up) s t down_cell up_cell
 in_messages packages l s t down up down_cell up_cell g named = record {
@@ -181,11 +181,11 @@ link_joins written packages now l (LinkStep.Restart sides.Device) t down up down
     let g = device_restart_joins packages now l t down up down_past up_past down_run up_run down_last up_last both waits s e f in
     in_messages packages l (LinkStep.Restart sides.Device) t down up down_last.cell up_last.cell g g.leads.named
 
--- from the pair that it is
+-- from the link's own pair
 from_pair : (packages : List PackageText) (m n : PairOf) (s : LinkStep) (t : LinkStepped) (down_cell up_cell : Cell) → m ≡ n → StepsInMessages packages n s t down_cell up_cell → StepsInMessages packages m s t down_cell up_cell
 from_pair packages m n s t down_cell up_cell is k = subst (λ x. StepsInMessages packages x s t down_cell up_cell) (sym is) k
 
--- Every step of a link that is explained is steps of a pair that is joined with it.
+-- Every step of a link that is explained is steps of a pair that it matches.
 pub links_are_messages : WritesCommands → LinksAreMessages
 links_are_messages written now packages l s before on m said j =
     from_pair packages m (pair_at l m.down m.up) s on.stepped on.explained.down.run.cell on.explained.up.run.cell

@@ -1,4 +1,4 @@
--- How links and messages begin together, and what is promised wherever they went.
+-- The openings of links and messages, and the laws of all worlds that they reach.
 use Rattle.std.proofs.Common.{◌≡◌, ◌∙◌, ℕ, Bool, true, false, if◌then◌else◌, List, [], ◌∷◌, ◌++◌, map, Some, None, IfSome, refl, sym, ap, subst}
 use Rattle.std.specs.List.{AllByRecursion}
 use Rattle.exch_lane.specs.Lanes.{AreEnds}
@@ -19,9 +19,9 @@ use Rattle.fw_steps.proofs.LinksAreMessages.Sides.{all_along}
 use Rattle.fw_steps.proofs.LinksAreMessages.Stands.{new_link_stands}
 use Rattle.fw_steps.proofs.LinksAreLanes.Openings.{IsNewHalf}
 
--- HOW IT BEGINS
+-- THE OPENING
 
--- a link on which nothing was sent yet
+-- a link without packets
 pub record IsNewLink (l : LinkOf) : Type 0 where
   pub unit : l.device.unit ≡ l.agent.unit
   pub session_unit : l.agent.core.session.unit ≡ l.agent.unit
@@ -49,16 +49,16 @@ new_all_stand law packages (l ∷ ls) new = (
   new_all_stand law packages ls new.1,
 )
 
--- New links stand with the pairs that have asked nothing.
+-- New links match the pairs with empty cells.
 pub new_world_stands : LaneIsACell → (ls : List LinkOf) (v : MessageWorldOf) → AreNewLinks ls → v.nodes ≡ map opening_node ls → AreDifferent (map eid_of v.nodes) → WorldStands 0 ls v
 new_world_stands law ls v new are apart = record {
   stand = subst (AllStand v.packages 0 ls) (sym are) (new_all_stand law v.packages ls new);
   apart = apart;
 }
 
--- WHERE IT GOES
+-- REACHED WORLDS
 
--- steps of messages lead from one world to another
+-- steps of messages from one world to another
 pub record Reaches (opening v : MessageWorldOf) : Type 0 where
   pub steps : List WorldStepOf
   pub named : AllByRecursion IsNamedStep steps
@@ -74,13 +74,13 @@ reaches_on opening v now ls notes r m = record {
   along = along_append r.steps m.steps (Some opening) ∙ ap (λ o. world_along o m.steps) r.along ∙ m.along;
 }
 
--- What is reached is safe.
+-- A world that is reached is safe.
 pub reached_safe : WorldsAreSafe → (opening v : MessageWorldOf) → IsOpeningMessageWorld opening → Reaches opening v → IsSafeMessageWorld opening v
 reached_safe law opening v begins r = subst (λ o. IfSome o (IsSafeMessageWorld opening)) r.along (law opening r.steps begins)
 
--- WHAT NOTES NOTHING
+-- STEPS WITHOUT ENTRIES
 
--- steps of all links that note nothing
+-- steps of all links without entries
 abbrev pub AreUnnoted : List LinkStepped → Type 0
 AreUnnoted [] = Unit {0}
 AreUnnoted (t ∷ ts) = (t.noted ≡ []) × AreUnnoted ts

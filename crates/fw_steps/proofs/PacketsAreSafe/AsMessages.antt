@@ -1,4 +1,4 @@
--- A run of packets is one of whole messages.
+-- A run of packets is a run of whole messages.
 use Rattle.std.proofs.Common.{◌≡◌, ◌≢◌, ◌∙◌, ℕ, List, [], ◌∷◌, map, None, refl, ap, subst, sym}
 use Rattle.std.specs.List.{AllByRecursion}
 use Rattle.std.proofs.lemmas.Bool.{ne_eqb}
@@ -27,7 +27,7 @@ use Rattle.fw_steps.proofs.PacketsAreSafe.Safe.{stand_along}
 use Rattle.fw_steps.proofs.PacketsAreSafe.SafeOpening.{halves_for, links_for, opening_eids, opening_messages, opening_stands, same_nodes, same_peers, sites_for}
 use Rattle.fw_steps.proofs.PacketsAreSafe.SafeStands.{Stand, messages_of}
 
--- what stands for the links has their devices and sessions
+-- a world that matches the links has their devices and sessions
 same_devices : (since : ℕ) (packages : List PackageText) (now : ℕ) (hs : List (HalfOf TimedOf)) (xs : List SiteOf) (ns : List NodeOf) → map half_peer hs ≡ map site_eid xs
     → AllStand packages now (links_in since hs xs) ns → map (λ n. n.pair.device) ns ≡ map (λ x. x.node.half.core.device) xs
 same_devices since packages now [] [] [] same k = refl
@@ -61,7 +61,7 @@ same_world opening w k = record {
   history = k.history;
 }
 
--- AS IT BEGINS
+-- THE OPENING
 
 abbrev opening_nodes : «Unit» → ℕ → List DeviceNodeOf → List NodeOf
 opening_nodes u agent nodes = map opening_node (links_for u agent nodes)

@@ -1,4 +1,5 @@
--- Each node keeps time along a run: it misses a tick only where it has counted eight since the last that it missed.
+-- Each node keeps time along a run: it misses a tick only if it has counted eight since the last
+-- one it missed.
 use Rattle.std.proofs.Common.{◌≡◌, ◌∙◌, ◌≤◌, ◌+◌, ◌==◌, ◌&&◌, ◌||◌, ◌++◌, ◌-◌, ◌^◌, ℕ, Bool, true, false, if◌then◌else◌, is_some, length, List, [], ◌∷◌, map, nat_lt, Option, Some, None, IfSome, inl, inr, refl, sym, ap, subst, arith}
 use Rattle.std.specs.List.{AllByRecursion}
 use Rattle.std.proofs.lemmas.Bool.{ltb-true}
@@ -38,9 +39,9 @@ use Rattle.fw_steps.proofs.PacketsAreSafe.SafeOpening.{opening_stands}
 use Rattle.fw_steps.proofs.PacketsAreSafe.SafeStands.{Stand, known_links, stays_absent}
 use Rattle.fw_steps.proofs.PacketsAreSafe.SafeSteps.{since_goes, stand_on, world_follows}
 
--- TICKS BY THE STEPS
+-- TICKS FROM THE STEPS
 
--- of the ticks among steps, in order, whether a node counts each
+-- the ticks among steps, in order: whether a node counts each
 abbrev pub beat_in : (eid : ℕ) → Step → List Bool
 beat_in eid (steps.Tick missed) = counts missed.items eid ∷ []
 beat_in eid s = []
@@ -103,7 +104,8 @@ all_small : (bs : List Bool) (n : ℕ) → n ≤ 8 → since_all bs n ≤ 8
 all_small [] n h = h
 all_small (b ∷ bs) n h = all_small bs (since_after b n) (after_small b n h)
 
--- A node's clock along steps: from this count on each tick was allowed, and this is its count then.
+-- A node's clock along steps: from count `n` on each tick was allowed, and `m` is its count
+-- afterwards.
 pub record Beats (eid n m : ℕ) (ss : List Step) : Type 0 where
   pub allowed : AreAllowed (beats_in eid ss) n
   pub since : m ≡ since_all (beats_in eid ss) n
@@ -197,7 +199,7 @@ since_on_link now packages l (LinkStep.Judge verdict works) t e = judged_since l
 since_on_link now packages l (LinkStep.Restart sides.Agent) t e = became device_count _ t _ e refl
 since_on_link now packages l (LinkStep.Restart sides.Device) t e = became device_count _ t _ e refl
 
--- what the step of its link makes of it
+-- its count after the step of its link
 abbrev SinceAs : Option LinkStep → (before after : ℕ) → Type 0
 SinceAs None before after = after ≡ before
 SinceAs (Some s) before after = after ≡ since_then s before
@@ -278,7 +280,7 @@ device_along law lanes messages opening w v (s ∷ ss) eid l k is run =
       };
     }
 
--- FROM ITS BEGINNING ON
+-- FROM THE OPENING ON
 
 new_sites_unmissed : (ns : List DeviceNodeOf) → AllByRecursion (λ x. x.since_miss ≡ 8) (map new_site ns)
 new_sites_unmissed [] = tt

@@ -15,7 +15,7 @@ use Rattle.fw_steps.specs.declared.step.Step.{Step}
 use Rattle.fw_steps.specs.declared.step.Step.TheVariants as steps
 use Rattle.fw_steps.proofs.PacketsAreSafe.HistoryGrows.{quiet_history}
 
--- what is behind the history of before
+-- the later history has the earlier one as a prefix
 pub record Grows (w v : WorldOf) : Type 0 where
   pub more : List NotedOf
   pub history : v.history ≡ w.history ++ more
@@ -29,7 +29,7 @@ grows_on w v u g h = record {
   history = h.history ∙ ap (λ xs. xs ++ h.more) g.history ∙ append_assoc w.history g.more h.more;
 }
 
--- a packet comes
+-- a packet is delivered
 device_grows : (works : Bool) (faults : ℕ) (w : WorldOf) (bytes : List ℕ) (place : Option ℕ) (x : Option SiteOf) → Grows w (at_device works faults w bytes place x)
 device_grows works faults w bytes (Some place) (Some x) =
     record { more = map (λ p. noted_of x.node.endpoint.eid (EntryOf.Activated p)) (activated_at works x.node bytes); history = refl }

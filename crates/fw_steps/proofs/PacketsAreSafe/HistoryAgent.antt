@@ -1,4 +1,4 @@
--- What the agent records of a packet that comes to it, and what the link notes of it.
+-- The records that the agent makes of a packet, and the link's entries for them.
 use Rattle.std.proofs.Common.{◌≡◌, ◌≢◌, ◌∙◌, ◌==◌, ◌++◌, ◌∷◌, ℕ, Bool, true, false, if◌then◌else◌, List, [], length, map, slice_get, Option, Some, None, Ok, Err, Result, refl, ap, arith}
 use Rattle.std.specs.Prelude.{option_to_list}
 use Rattle.std.specs.Option.{option_map}
@@ -31,7 +31,7 @@ use Rattle.fw_steps.proofs.LinksAreLanes.AgentArrivals.{heard_from, heard_half, 
 use Rattle.fw_steps.proofs.LinksAreLanes.AgentTicks.{half_put}
 use Rattle.fw_steps.proofs.PacketsAreSafe.HistoryNoted.{noted_each, noted_in}
 
--- the record that stands behind those of a session
+-- the records of a session after its earlier ones
 abbrev pub new_records : SessionOf → SessionOf → List Recorded
 new_records before after = option_to_list (slice_get after.records (length before.records))
 
@@ -39,7 +39,7 @@ none_new : (before after : SessionOf) → after.records ≡ before.records → n
 none_new before after same =
     ap (λ rs. option_to_list (slice_get rs (length before.records))) same ∙ ap option_to_list (slice_get_past before.records (length before.records) (omega arith))
 
--- a command makes it record what stands there
+-- a command makes it record the element there
 stands_behind : (rs : List Recorded) (r : Recorded) → slice_get (rs ++ r ∷ []) (length rs) ≡ Some r
 stands_behind [] r = refl
 stands_behind (x ∷ rs) r = stands_behind rs r
@@ -50,7 +50,8 @@ new_by s (ServeRow.Give bytes) = none_new s s refl
 new_by s (ServeRow.Move g a) = none_new s (after_by s (ServeRow.Move g a)) refl
 new_by s (ServeRow.Record t) = ap option_to_list (stands_behind s.records (record_of s t))
 
--- What a half heard: its session records what the command makes it record, and nothing of anything else.
+-- An outcome of a half: its session makes the record of the command that it took, and none for any
+-- other outcome.
 abbrev pub RecordsHeard : List PackageText → SessionOf → HalfOutcome TimedOf → Type 0
 RecordsHeard packages s (HalfOutcome.Went half sent) = half.core.session.records ≡ s.records
 RecordsHeard packages s (HalfOutcome.Took half sent command answer) = new_records s half.core.session ≡ recorded_by (package_of packages s) s command
@@ -83,7 +84,7 @@ rows_record packages h (AskerRow.Learns replies caller heard) answers =
 pub hearing_records : (packages : List PackageText) (h : HalfOf TimedOf) (bytes : List ℕ) → RecordsHeard packages h.core.session (half_on_packet (session_core packages) true h bytes)
 hearing_records packages h bytes = rows_record packages h (asker_row h.unit h.own h.peer h.asker bytes) (taker_row h.unit h.own h.peer h.taker bytes)
 
--- The link notes what is recorded.
+-- The link notes the record.
 heard_noted : (now : ℕ) (packages : List PackageText) (l : LinkOf) (endpoint : Endpoint) (tid : ℕ) (heard : HalfOutcome TimedOf) → RecordsHeard packages l.agent.core.session heard
     → map EntryOf.Recording (new_records l.agent.core.session (node_outcome_of roles.Agent endpoint tid heard).half.core.session) ≡ noted_in (link_step_of_agent now packages l heard)
 heard_noted now packages l endpoint tid (HalfOutcome.Went half sent) k = ap (map EntryOf.Recording) (none_new l.agent.core.session half.core.session k)
@@ -91,7 +92,7 @@ heard_noted now packages l endpoint tid (HalfOutcome.Took half sent command answ
 heard_noted now packages l endpoint tid (HalfOutcome.Asks half m head body) k = ap (map EntryOf.Recording) (none_new l.agent.core.session half.core.session k)
 heard_noted now packages l endpoint tid (HalfOutcome.Strayed half m) k = ap (map EntryOf.Recording) (none_new l.agent.core.session half.core.session k)
 
--- An agent that stays records nothing.
+-- An agent that is unchanged records nothing.
 none_behind : (o : Option (HalfOf TimedOf)) → record_after (record_count_of o) o ≡ None
 none_behind None = refl
 none_behind (Some h) = slice_get_past h.core.session.records (length h.core.session.records) (omega arith)

@@ -1,4 +1,4 @@
--- What a packet that comes to a node of the world adds to the history.
+-- The entries of a packet that is delivered to a node of the world.
 use Rattle.std.proofs.Common.{◌≡◌, ◌≢◌, ◌⊎◌, ◌∙◌, ◌+◌, ◌==◌, ◌++◌, ◌≤◌, ℕ, Bool, true, false, List, [], is_some, map, Option, Some, None, IsSomeAnd, Ok, append-nil, inl, inr, refl, sym, ap, subst}
 use Rattle.std.proofs.lemmas.Bool.{cases_lt, le-ltb, lt-ltb}
 use Rattle.std.proofs.lemmas.Bool.Decides.{eqb_tells}
@@ -24,7 +24,7 @@ use Rattle.fw_steps.proofs.PacketsAreSafe.HistoryAgent.{deaf_agent_records, devi
 use Rattle.fw_steps.proofs.PacketsAreSafe.HistoryDevice.{activates_of, device_activates, link_activates, nowhere, silent_activates}
 use Rattle.fw_steps.proofs.PacketsAreSafe.HistoryNoted.{noted_in}
 
--- a packet that lives comes on its link
+-- a packet that lives is delivered on its link
 soon_enough : (now : ℕ) (p : Sent) → packet_fault now (Some p) ≡ None → now ≤ p.date + 8
 soon_enough now p e = elim (cases_lt (p.date + 8) now) [
   | inl dead ↦ let no : Some faults.Dead ≡ None = rw (lt-ltb (p.date + 8) now dead) at e in absurd (cc)
@@ -35,7 +35,7 @@ deliver_is : (now : ℕ) (packages : List PackageText) (l : LinkOf) (to : Side) 
     → link_after now packages l (LinkStep.Deliver number to works) ≡ link_step_of_packet now packages l to works p.bytes
 deliver_is now packages l to works number p at soon = ap (delivers_on now packages l to works) at ∙ (rw (le-ltb (p.date + 8) now soon) refl)
 
--- The agent: a packet that is nothing to its half is nothing to the link.
+-- The agent: a packet without effect on its half has none on the link.
 silent_notes : (now : ℕ) (packages : List PackageText) (l : LinkOf) (bytes : List ℕ) → half_on_packet (session_core packages) true l.agent bytes ≡ HalfOutcome.Went l.agent []
     → noted_in (link_step_of_agent now packages l (half_on_packet (session_core packages) true l.agent bytes)) ≡ []
 silent_notes now packages l bytes e = ap (λ heard. noted_in (link_step_of_agent now packages l heard)) e
@@ -68,7 +68,7 @@ agent_notes w bytes device d k there own between = elim (eqb_tells w.agent.deaf 
       (deaf_hears_nothing (session_core w.packages) true d.agent bytes (λ z. deaf.1 (sym k.asking ∙ z)) (λ z. deaf.1 (sym k.answering ∙ z)))))
 ]
 
--- A device that has a link activates what its half does.
+-- A device that has a link activates the images of its half.
 device_by : (works : Bool) (faults : ℕ) (w : WorldOf) (bytes : List ℕ) (node : ℕ) (s : Option SiteOf) (l : LinkOf) → site_for w.sites node ≡ s
     → IsSomeAnd s (λ x. (x.node.half ≡ l.device) × (x.packets ≡ l.packets))
     → (at_device works faults w bytes (place_of w.sites node) (site_for w.sites node)).history ≡ w.history ++ map (noted_of node) (activates_of works bytes l.device)
@@ -80,7 +80,7 @@ pub linked_activates : (works : Bool) (faults : ℕ) (w : WorldOf) (bytes : List
 linked_activates works faults w bytes node l is =
     device_by works faults w bytes node (site_for w.sites node) l refl (link_site _ (half_for w.agent node) (site_for w.sites node) l is)
 
--- The link to which a packet comes notes what it adds.
+-- The link to which a packet is delivered notes its entries.
 comes_noting : (works : Bool) (faults : ℕ) (w : WorldOf) (device number node : ℕ) (d : LinkOf) (p : Sent) (s : LinkStep) → AreLinked w → link_at w device ≡ Some d
     → item_numbered d.packets number ≡ Some p → w.now ≤ p.date + 8 → comes_as works number (node == w.agent.endpoint.eid) (node == device) ≡ Some s
     → (world_after_packet works faults w node p.bytes).history ≡ w.history ++ map (noted_of device) (noted_in (link_after w.now w.packages d s))
@@ -116,7 +116,7 @@ delivers_noting works faults w device number node d None s k there at may is = a
 delivers_noting works faults w device number node d (Some p) s k there at may is =
     comes_noting works faults w device number node d p s k there at (soon_enough w.now p may) is
 
--- A packet that comes to none of its nodes adds nothing.
+-- A packet that is delivered to none of its nodes adds nothing.
 unsent_to : (source dest own x y : ℕ) → own ≢ x → own ≢ y → ((source ≡ x) × (dest ≡ y)) ⊎ ((source ≡ y) × (dest ≡ x)) → dest ≢ own
 unsent_to source dest own x y first second (inl e) = λ z. second (sym z ∙ e.1)
 unsent_to source dest own x y first second (inr e) = λ z. first (sym z ∙ e.1)

@@ -1,4 +1,5 @@
--- What a device activates of a packet that comes to it, what it applies by a verdict, and what its link notes of that.
+-- The images that a device activates at a packet and applies at a verdict, and its link's entries
+-- for them.
 use Rattle.std.proofs.Common.{◌≡◌, ◌∙◌, ◌++◌, ℕ, Bool, List, [], map, Option, Some, None, refl, ap}
 use Rattle.pldm_exch.specs.Caller.{is_quiet}
 use Rattle.fd_core.specs.Steps.{VerdictEffect, applied_by, device_verdict, images_of_verdict}
@@ -12,7 +13,7 @@ use Rattle.fw_steps.specs.Worlds.{SiteOf, WorldOf, activated_at, activated_when,
 use Rattle.fw_steps.proofs.LinksAreLanes.Posting.{site_found}
 use Rattle.fw_steps.proofs.PacketsAreSafe.HistoryNoted.{noted_each, noted_in}
 
--- The link notes what is activated.
+-- The link notes the activated images.
 heard_noted : (now : ℕ) (works : Bool) (l : LinkOf) (heard : HalfOutcome TimedDevice)
     → map EntryOf.Activated (activated_when l.device.core.device (is_quiet l.device.asker.caller) works heard) ≡ noted_in (link_step_of_device now works l heard)
 heard_noted now works l (HalfOutcome.Went half sent) = refl
@@ -20,11 +21,11 @@ heard_noted now works l (HalfOutcome.Took half sent command answer) = refl
 heard_noted now works l (HalfOutcome.Asks half m head body) = refl
 heard_noted now works l (HalfOutcome.Strayed half m) = refl
 
--- what a half activates
+-- the images that a half activates
 abbrev pub activates_of : (works : Bool) → List ℕ → HalfOf TimedDevice → List EntryOf
 activates_of works bytes h = map EntryOf.Activated (activated_when h.core.device (is_quiet h.asker.caller) works (half_on_packet device_core works h bytes))
 
--- A half that hears nothing activates nothing.
+-- A half that handles nothing activates nothing.
 pub silent_activates : (works : Bool) (bytes : List ℕ) (h g : HalfOf TimedDevice) → half_on_packet device_core works h bytes ≡ HalfOutcome.Went g [] → activates_of works bytes h ≡ []
 silent_activates works bytes h g e = ap (λ heard. map EntryOf.Activated (activated_when h.core.device (is_quiet h.asker.caller) works heard)) e
 

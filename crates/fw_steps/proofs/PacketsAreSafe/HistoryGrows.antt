@@ -1,4 +1,4 @@
--- The history of a world grows by what the link that takes the step notes.
+-- The history of a world grows by the entries of the link that takes the step.
 use Rattle.std.proofs.Common.{◌≡◌, ◌∙◌, ◌==◌, ◌&&◌, ◌++◌, ℕ, Bool, true, false, if◌then◌else◌, is_some, List, [], ◌∷◌, append-nil, map, Option, Some, None, IfSome, IsSomeAnd, inl, inr, refl, sym, ap, subst}
 use Rattle.std.proofs.lemmas.Bool.{eq-eqb}
 use Rattle.std.proofs.lemmas.Bool.Decides.{eqb_tells}
@@ -25,14 +25,15 @@ use Rattle.fw_steps.proofs.PacketsAreSafe.HistoryDelivered.{delivers_noting, del
 use Rattle.fw_steps.proofs.PacketsAreSafe.HistoryDevice.{device_applies}
 use Rattle.fw_steps.proofs.PacketsAreSafe.HistoryNoted.{IsUnnoted, all_unnoted, noted_in, nothing_more, taken_notes, unnoted_step}
 
--- What a step of the world adds to its history: where the link of a device takes a step, what that notes of the device, and
--- where none does, nothing.
+-- The entries that a step of the world adds to its history: those of a device if the device's link
+-- takes a step, and none if no link does.
 pub record Notes (works : Bool) (faults : ℕ) (w : WorldOf) (s : Step) : Type 0 where
   pub taken : (eid : ℕ) (l : LinkOf) (step : LinkStep) (t : LinkStepped) → link_at w eid ≡ Some l → link_step works w.agent.endpoint.eid s eid ≡ Some step
       → link_after w.now w.packages l step ≡ Some t → (world_after works faults w s).history ≡ w.history ++ map (noted_of eid) t.noted
   pub untaken : ((eid : ℕ) (l : LinkOf) → link_at w eid ≡ Some l → link_step works w.agent.endpoint.eid s eid ≡ None) → (world_after works faults w s).history ≡ w.history
 
--- Every step but the coming of a packet and a verdict leaves the history, and no link notes anything of it.
+-- Every step but a delivery and a verdict leaves the history unchanged, and no link notes an entry
+-- of it.
 abbrev pub IsQuiet : Step → Type 0
 IsQuiet (steps.Deliver device number node) = ⊥
 IsQuiet (steps.Verdict device verdict) = ⊥
@@ -91,7 +92,8 @@ quiet_notes works faults w s k = record {
   untaken = λ none. quiet_history works faults w s k;
 }
 
--- Where all links take such a step, the history grows by what all of them note, which is nothing.
+-- If all links take such a step, the history grows by the entries of all of them, of which there
+-- are none.
 pub all_note : (works : Bool) (faults : ℕ) (w : WorldOf) (s : Step) (step : LinkOf → LinkStep) (eids : List ℕ) (ls : List LinkOf) (ts : List LinkStepped) → IsQuiet s → ((l : LinkOf) → IsUnnoted (step l))
     → AllAfter w.packages w.now step ls ts → (world_after works faults w s).history ≡ w.history ++ notes_of eids ts
 all_note works faults w s step eids ls ts k quiet after =
@@ -191,6 +193,6 @@ history_grows works faults w (steps.Verdict device verdict) k may = record {
 }
 history_grows works faults w s k may = quiet_notes works faults w s tt
 
--- the same where the links are known one by one
+-- the same if the links are known one by one
 pub known_history_grows : (works : Bool) (faults : ℕ) (w : WorldOf) (s : Step) → KnownLinks w → may_step w s ≡ None → Notes works faults w s
 known_history_grows works faults w s k may = history_grows works faults w s (linked_world w k) may

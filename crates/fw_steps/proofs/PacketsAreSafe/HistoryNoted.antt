@@ -1,4 +1,4 @@
--- What a step of a link notes, and how it stands in the history of a world.
+-- The entries of a link's step, and their place in the history of a world.
 use Rattle.std.proofs.Common.{◌≡◌, ◌∙◌, ◌++◌, ℕ, Bool, true, false, if◌then◌else◌, List, [], ◌∷◌, map, Option, Some, None, append-nil, refl, sym, ap}
 use Rattle.ua_core.specs.Session.{SessionOf}
 use Rattle.fw_message.specs.History.{EntryOf}
@@ -10,7 +10,7 @@ use Rattle.fw_steps.specs.Links.{LinkOf, LinkStep, LinkStepped, activates_on, li
 use Rattle.fw_message.specs.declared.side.Side.TheVariants as sides
 use Rattle.fw_steps.proofs.LinksAreMessages.Each.{AllAfter, notes_of}
 
--- what a step that may not be taken, or that was taken, notes
+-- the entries of a step that may or may not be taken
 abbrev pub noted_in : Option LinkStepped → List EntryOf
 noted_in None = []
 noted_in (Some t) = t.noted
@@ -18,7 +18,7 @@ noted_in (Some t) = t.noted
 pub taken_notes : (o : Option LinkStepped) (t : LinkStepped) → o ≡ Some t → noted_in o ≡ t.noted
 taken_notes o t e = ap noted_in e
 
--- what was noted of a device, one by one
+-- the entries of a device, one by one
 pub noted_each : {A : Type 0} (device : ℕ) (entry : A → EntryOf) (xs : List A) → map (λ x. noted_of device (entry x)) xs ≡ map (noted_of device) (map entry xs)
 noted_each device entry [] = refl
 noted_each device entry (x ∷ xs) = ap (λ ns. noted_of device (entry x) ∷ ns) (noted_each device entry xs)
@@ -27,7 +27,7 @@ noted_each device entry (x ∷ xs) = ap (λ ns. noted_of device (entry x) ∷ ns
 pub nothing_more : (history : List NotedOf) (device : ℕ) (es : List EntryOf) → es ≡ [] → history ≡ history ++ map (noted_of device) es
 nothing_more history device es e = rw e (sym (append-nil history))
 
--- The steps that note nothing.
+-- The steps without entries.
 unnoted_if : (may : Bool) (l : LinkOf) → noted_in (if may then Some (link_step_without_entries l) else None) ≡ []
 unnoted_if true l = refl
 unnoted_if false l = refl
@@ -51,7 +51,7 @@ unnoted_step now packages l (LinkStep.Judge verdict works) k = absurd k
 unnoted_step now packages l (LinkStep.Restart sides.Agent) k = refl
 unnoted_step now packages l (LinkStep.Restart sides.Device) k = refl
 
--- Where all links take such a step, nothing is noted.
+-- If all links take such a step, nothing is noted.
 pub all_unnoted : (now : ℕ) (packages : List PackageText) (s : LinkOf → LinkStep) (eids : List ℕ) (ls : List LinkOf) (ts : List LinkStepped) → ((l : LinkOf) → IsUnnoted (s l)) → AllAfter packages now s ls ts
     → notes_of eids ts ≡ []
 all_unnoted now packages s [] ls ts k after = refl

@@ -1,4 +1,4 @@
--- How long the agent is deaf after a step, and each of its halves with it.
+-- The ticks for which the agent is deaf after a step, and each of its halves with it.
 use Rattle.std.proofs.Common.{◌≡◌, ◌∙◌, ◌==◌, ◌-◌, ◌^◌, ◌&&◌, ℕ, nat_lt, Bool, true, false, if◌then◌else◌, nat_le, List, [], ◌∷◌, Option, Some, None, refl, sym, ap}
 use Rattle.mctp_reasm.specs.Pieces.{MessageOf}
 use Rattle.exch_lane.specs.Clocks.{may_beat}
@@ -83,14 +83,14 @@ hears_asker core works h bytes = rows_asker core works h (asker_row h.unit h.own
 
 -- A LINK'S STEP
 
--- for how long the agent is deaf after it
+-- the ticks for which the agent is deaf after it
 abbrev pub deaf_then : LinkStep → ℕ → ℕ
 deaf_then (LinkStep.Tick true device) deaf = deaf_after (nat_le deaf 1) deaf
 deaf_then (LinkStep.Tick false device) deaf = deaf
 deaf_then (LinkStep.Restart sides.Agent) deaf = 40
 deaf_then s deaf = deaf
 
--- what a number of a link becomes
+-- a number of a link, after equal steps
 pub became : (f : LinkOf → ℕ) (u t : LinkStepped) (d : ℕ) → Some u ≡ Some t → f u.after ≡ d → f t.after ≡ d
 became f u t d e is =
     let same : u ≡ t = cc in
@@ -158,7 +158,7 @@ deaf_on_link now packages l (LinkStep.Restart sides.Device) t e = became deaf_of
 
 -- A STEP OF THE WORLD
 
--- what the agent's count becomes where a link takes this step, or none
+-- the agent's count after a step of the link, or after none
 abbrev pub DeafAs : Option LinkStep → (before after : ℕ) → Type 0
 DeafAs None before after = after ≡ before
 DeafAs (Some s) before after = after ≡ deaf_then s before
@@ -238,7 +238,7 @@ agent_stays works faults w (steps.Verdict device verdict) = ap (λ n. n.endpoint
 agent_stays works faults w (steps.Restart node) = restart_eid (node == w.agent.endpoint.eid) w _ _ refl refl
 agent_stays works faults w (steps.Sel bytes) = (log_same w bytes.items).eid
 
--- what isn't of the agent's count
+-- a delivery that isn't for the agent leaves its count
 deaf_comes : (works : Bool) (number : ℕ) (mine agent device : Bool) (before after : ℕ) → after ≡ before → DeafAs (where_mine mine (comes_as works number agent device)) before after
 deaf_comes works number true true device before after e = e
 deaf_comes works number true false true before after e = e

@@ -1,4 +1,4 @@
--- What is known of the links' steps that a step of the world is.
+-- Facts about the links' steps in a step of the world.
 use Rattle.std.proofs.Common.{◌≡◌, ◌≤◌, ◌+◌, ℕ, Bool, if◌then◌else◌, is_some, nat_lt, List, Option, Some, None, IsSomeAnd, inl, inr, refl, ap}
 use Rattle.std.proofs.lemmas.Bool.{cases_lt, lt-ltb}
 use Rattle.exch_lane.specs.Lanes.{Sent, item_numbered}
@@ -8,7 +8,7 @@ use Rattle.fw_steps.specs.LinksAreLanes.{MayHappen}
 use Rattle.fw_steps.specs.Links.{LinkOf, LinkStep, LinkStepped, delivers_on, link_step_of_packet, link_after}
 use Rattle.fw_steps.proofs.LinksAreLanes.Projected.{LinkStepsTo}
 
--- a packet that came was alive
+-- a packet that was delivered was alive
 alive : (now : ℕ) (p : Sent) (o : Option LinkStepped) (t : LinkStepped) → (if nat_lt (p.date + 8) now then None else o) ≡ Some t → now ≤ p.date + 8
 alive now p o t e = elim (cases_lt (p.date + 8) now) [
   | inl dead ↦ let no : None ≡ Some t = rw (lt-ltb (p.date + 8) now dead) at e in absurd (cc)
@@ -19,7 +19,7 @@ came : (now : ℕ) (packages : List PackageText) (l : LinkOf) (to : Side) (works
 came now packages l to works None t e = absurd (cc)
 came now packages l to works (Some p) t e = alive now p (link_step_of_packet now packages l to works p.bytes) t e
 
--- What a link does may happen.
+-- A step that a link takes may happen.
 pub may_happen : (now : ℕ) (packages : List PackageText) (l : LinkOf) (s : LinkStep) (t : LinkStepped) → link_after now packages l s ≡ Some t → MayHappen now packages l s
 may_happen now packages l (LinkStep.Deliver number to works) t e = came now packages l to works (item_numbered l.packets number) t e
 may_happen now packages l (LinkStep.Tick agent device) t e = ap is_some e
@@ -29,7 +29,7 @@ may_happen now packages l LinkStep.Activate t e = ap is_some e
 may_happen now packages l (LinkStep.Judge verdict works) t e = ap is_some e
 may_happen now packages l (LinkStep.Restart side) t e = ap is_some e
 
--- where a link went
+-- a link after its step
 pub record GoneTo (now : ℕ) (packages : List PackageText) (l : LinkOf) (s : LinkStep) (after : Option LinkOf) : Type 0 where
   pub stepped : LinkStepped
   pub goes : link_after now packages l s ≡ Some stepped

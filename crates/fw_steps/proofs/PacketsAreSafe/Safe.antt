@@ -1,4 +1,4 @@
--- Wherever steps lead a world that began as it is made, it is safe.
+-- Every world that steps reach from an opening world is safe.
 use Rattle.std.proofs.Common.{◌≡◌, ◌∙◌, ◌==◌, ℕ, true, if◌then◌else◌, is_some, List, [], ◌∷◌, map, slice_get, Option, Some, None, IfSome, IsSomeAnd, refl, sym, ap, subst}
 use Rattle.std.specs.Option.{option_map}
 use Rattle.exch_lane.specs.Laws.{LaneIsACell}
@@ -39,7 +39,7 @@ stand_along law lanes messages opening w v (s ∷ ss) k run = stand_along law la
 
 -- A DEVICE'S PAIR
 
--- a link's pair, whatever was asked
+-- a link's pair, for any cells
 abbrev pub pair_of : LinkOf → PairOf
 pair_of l = pair_at l None None
 
@@ -101,7 +101,7 @@ is_safe opening w is begins k safe = λ eid.
     (subst (SafeAt opening w eid (option_map pair_of (link_at opening eid))) (sym (pair_linked _ (half_for w.agent eid) (site_for w.sites eid)))
     (safe_by opening w eid (link_at opening eid) is begins k safe refl))
 
--- Every world to which steps lead from one as it is made is safe.
+-- Every world that steps reach from an opening world is safe.
 pub worlds_safe : LaneIsACell → LinksAreLanes → LinksAreMessages → MessagesAreSafe → PacketsAreSafe
 worlds_safe law lanes messages safe = λ opening w steps is run.
     let begins = opening_stands law opening is in

@@ -1,4 +1,4 @@
--- A world as it is made stands for one over whole messages as that one begins.
+-- An opening world matches an opening world over whole messages.
 use Rattle.std.proofs.Common.{◌≡◌, ◌≢◌, ◌∙◌, ℕ, zero, suc, List, [], ◌∷◌, map, slice_get, Some, refl, sym, ap, subst}
 use Rattle.std.specs.List.{All, AllByRecursion}
 use Rattle.std.proofs.lemmas.List.Elements.{All-cons, All-nil}
@@ -99,7 +99,7 @@ new_links : (u : «Unit») (agent : ℕ) (nodes : List DeviceNodeOf) → IsEid a
 new_links u agent [] eid k far = tt
 new_links u agent (n ∷ ns) eid k far = (new_link u agent n eid k.0 far.0, new_links u agent ns eid k.1 far.1)
 
--- a link as it is made has its nodes' identifiers, and hears
+-- a new link has its nodes' identifiers, and hears
 record IsOwnNew (agent eid : ℕ) (l : LinkOf) : Type 0 where
   agent_is : l.agent.own ≡ agent
   device_is : l.device.own ≡ eid
@@ -120,7 +120,7 @@ opening_nodes u agent (n ∷ ns) k =
     All-cons IsOpeningNode (opening_node (link_for u agent n)) (map opening_node (links_for u agent ns))
     (opening_by u agent n (new_device_node n.endpoint agent k.0.device) k.0.is (ap (λ (m : DeviceNodeOf). m.half.core.device.unit) k.0.is ∙ k.0.unit) k.0.idle k.0.unapplied) (opening_nodes u agent ns k.1)
 
--- all can be said of what is made of them
+-- the values of the nodes of new devices fit the fields of messages
 new_speak : (packages : List PackageText) (u : «Unit») (agent : ℕ) (nodes : List DeviceNodeOf) → AllByRecursion (λ (n : DeviceNodeOf). HasDeviceWidths n.half.core.device) nodes → AllByRecursion (λ (n : NodeOf). HasPairWidths packages n.pair) (map opening_node (links_for u agent nodes))
 new_speak packages u agent [] k = tt
 new_speak packages u agent (n ∷ ns) k = (
@@ -156,11 +156,11 @@ new_stands law agent nodes packages k speak devices =
       speaks = record { packages = speak; pairs = new_speak packages (unit_of nodes) agent.eid nodes devices };
     }
 
--- A world as it is made stands.
+-- An opening world matches its world of messages.
 pub opening_stands : LaneIsACell → (w : WorldOf) → IsOpeningWorld w → Stand w w
 opening_stands law w k = subst (λ x. Stand x x) (sym k.is) (new_stands law k.agent k.nodes w.packages k.are k.packages k.devices)
 
--- And the world of messages with it is one as it begins.
+-- And that world of messages is an opening world.
 pub opening_messages : (w : WorldOf) → IsOpeningWorld w → IsOpeningMessages (messages_of w)
 opening_messages w k = subst (λ x. IsOpeningMessages (messages_of x)) (sym k.is) (record { nodes = opening_nodes (unit_of k.nodes) k.agent.eid k.nodes k.are.new; history = refl })
 

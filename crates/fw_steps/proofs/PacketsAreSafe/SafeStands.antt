@@ -1,4 +1,4 @@
--- A world that stands for one over whole messages, and stays one whatever step it takes.
+-- A world that matches one over whole messages, and still does after each step.
 use Rattle.std.proofs.Common.{◌≡◌, ◌≢◌, ◌∙◌, ◌++◌, ◌∷◌, [], ℕ, zero, suc, Bool, true, false, is_some, List, map, append-nil, slice_get, slice_set, Option, Some, None, IfSome, refl, sym, ap, subst}
 use Rattle.std.specs.Option.{option_map}
 use Rattle.fw_package.specs.Package.{PackageText}
@@ -26,7 +26,7 @@ use Rattle.fw_steps.proofs.LinksAreLanes.Projection.{link_at}
 use Rattle.fw_steps.proofs.PacketsAreSafe.KnownDeaf.{DeafAs, deaf_on_link, deaf_then}
 use Rattle.fw_steps.proofs.PacketsAreSafe.KnownSteps.{gone_to, may_happen}
 
--- the world of messages with which a world of packets begins
+-- the world of messages that matches an opening world of packets
 abbrev pub messages_of : WorldOf → MessageWorld
 messages_of w = record { agent = w.agent.endpoint.eid; packages = w.packages; nodes = map opening_node (links_of w); history = [] }
 
@@ -39,8 +39,8 @@ pub record IsOwnLink (w : WorldOf) (eid : ℕ) (l : LinkOf) : Type 0 where
 abbrev pub AreOwn : WorldOf → Type 0
 AreOwn w = (i eid : ℕ) (l : LinkOf) → slice_get (eids_of w) i ≡ Some eid → slice_get (links_of w) i ≡ Some l → IsOwnLink w eid l
 
--- The devices are different and those that were there at first, the agent has a half for each; and steps over whole messages
--- lead to a world that stands for the links, with the same history.
+-- The devices are different and those of the opening, and the agent has a half for each; and steps
+-- over whole messages reach a world that matches the links, with the same history.
 pub record Stand (opening w : WorldOf) : Type 0 where
   pub halves : peers_of w ≡ eids_of w
   pub apart : AreDifferent (w.agent.endpoint.eid ∷ eids_of w)
@@ -55,7 +55,8 @@ pub record Stand (opening w : WorldOf) : Type 0 where
   pub reaches : Reaches (messages_of opening) messages
   pub speaks : HaveMessageWidths (messages_of opening)
 
--- What is known of a world after a step. What is added to the history is what the link that goes a step notes.
+-- Facts about a world after a step. The entries added to the history are those of the link that
+-- takes a step.
 pub record Follows (works : Bool) (s : Step) (w v : WorldOf) : Type 0 where
   pub packages : v.packages ≡ w.packages
   pub peers : peers_of v ≡ peers_of w
@@ -68,7 +69,7 @@ pub record Follows (works : Bool) (s : Step) (w v : WorldOf) : Type 0 where
       → v.history ≡ w.history ++ map (noted_of eid) t.noted
   pub untaken : ((eid : ℕ) (l : LinkOf) → link_at w eid ≡ Some l → link_step works w.agent.endpoint.eid s eid ≡ None) → v.history ≡ w.history
 
--- WHAT STANDS IN A PLACE
+-- THE ELEMENT AT A PLACE
 
 pub record PairThere (packages : List PackageText) (now : ℕ) (ns : List NodeOf) (i : ℕ) (l : LinkOf) : Type 0 where
   pub node : NodeOf
@@ -141,7 +142,7 @@ own_after lanes works s w v k own f = λ i eid m e is.
     let at : slice_get (eids_of w) i ≡ Some eid = ap (λ ks. slice_get ks i) (sym f.eids) ∙ e in
     own_of lanes works s w v i eid m (slice_get (links_of w) i) k own f at refl (link_there w i eid k at) is
 
--- where there was no link there is none
+-- no link appears
 absent_by : (w v : WorldOf) (eid : ℕ) (o : Option LinkOf) → KnownLinks w → eids_of v ≡ eids_of w → link_at w eid ≡ None → link_at v eid ≡ o → o ≡ None
 absent_by w v eid None k same none e = refl
 absent_by w v eid (Some l) k same none e =
@@ -183,7 +184,7 @@ same_links works s w v k f none =
 apart_after : (a b : ℕ) (xs ys : List ℕ) → b ≡ a → ys ≡ xs → AreDifferent (a ∷ xs) → AreDifferent (b ∷ ys)
 apart_after a b xs ys e f k = rw (e, f) k
 
--- the world of messages went along
+-- the world of messages took its steps
 pub stand_moved : LinksAreLanes → (opening w v : WorldOf) (works : Bool) (s : Step) (now : ℕ) (ls : List LinkOf) (notes : List NotedOf) (k : Stand opening w) → Follows works s w v
     → MovesOn now ls notes k.messages → links_of v ≡ ls → v.now ≡ now → v.history ≡ w.history ++ notes → Stand opening v
 stand_moved lanes opening w v works s now ls notes k f m links time noted = record {
@@ -201,7 +202,7 @@ stand_moved lanes opening w v works s now ls notes k f m links time noted = reco
   speaks = k.speaks;
 }
 
--- nothing went a step
+-- no link takes a step
 stays_put : (now : ℕ) (ls : List LinkOf) (m : MessageWorld) → WorldStands now ls m → MovesOn now ls [] m
 stays_put now ls m stands = record { steps = []; named = tt; after = m; along = refl; packages = refl; agent = refl; history = sym (append-nil m.history); same = refl; stands = stands }
 
@@ -211,7 +212,7 @@ stand_none lanes opening w v works s k f time none =
     stand_moved lanes opening w v works s w.now (links_of w) [] k f (stays_put w.now (links_of w) k.messages k.stands)
     (same_links works s w v (known_links opening w k) f none) time (f.untaken none ∙ sym (append-nil w.history))
 
--- one link goes a step
+-- one link takes a step
 pub stand_one : LinksAreLanes → LinksAreMessages → (opening w v : WorldOf) (works : Bool) (s : Step) (own : ℕ) (l : LinkOf) (step : LinkStep) → Stand opening w → Follows works s w v → v.now ≡ w.now
     → link_at w own ≡ Some l → link_step works w.agent.endpoint.eid s own ≡ Some step → time_after w.now step ≡ w.now → IsAlone step
     → ((eid : ℕ) → eid ≢ own → link_step works w.agent.endpoint.eid s eid ≡ None) → Stand opening v

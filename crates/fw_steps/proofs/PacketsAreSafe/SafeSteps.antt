@@ -1,4 +1,4 @@
--- A world that stands for one over whole messages stays one whatever step it takes.
+-- A world that matches one over whole messages still does after any step.
 use Rattle.std.proofs.Common.{◌≡◌, ◌&&◌, ◌≢◌, ◌∙◌, ◌+◌, ◌-◌, ◌^◌, ◌==◌, ℕ, Bool, true, false, if◌then◌else◌, nat_lt, List, [], ◌∷◌, Option, Some, None, inl, inr, refl, sym, ap, subst, arith}
 use Rattle.std.proofs.lemmas.Bool.{eq-eqb, ne_eqb}
 use Rattle.std.proofs.lemmas.Bool.Decides.{eqb_tells}
@@ -112,7 +112,7 @@ since_goes works faults w (steps.Verdict device verdict) e = (judged_moment work
 since_goes works faults w (steps.Restart node) e = (restart_moment works faults w node).since
 since_goes works faults w (steps.Sel bytes) e = (log_moment w bytes.items).since
 
--- WHAT FOLLOWS A STEP
+-- FACTS AFTER A STEP
 
 pub world_follows : LaneIsACell → (opening w v : WorldOf) (s : Step) → Stand opening w → (h : StepsTo w s v) → Follows h.works s w (world_after h.works h.faults w s)
 world_follows law opening w v s k h =
@@ -130,7 +130,7 @@ world_follows law opening w v s k h =
       untaken = λ none. notes.untaken none;
     }
 
--- WHICH LINKS GO A STEP
+-- THE LINKS THAT TAKE A STEP
 
 -- one device's
 mine_only : (own : ℕ) (o : Option LinkStep) (eid : ℕ) → eid ≢ own → where_mine (own == eid) o ≡ None
@@ -152,7 +152,7 @@ stand_mine : LinksAreLanes → LinksAreMessages → (opening w v : WorldOf) (wor
 stand_mine lanes messages opening w v works s own step k f time is soon alone =
     stand_own lanes messages opening w v works s own step (link_at w own) k f time refl (is own ∙ mine_itself own (Some step)) soon alone (λ eid far. is eid ∙ mine_only own (Some step) eid far)
 
--- A packet comes.
+-- A packet is delivered.
 comes_none : (works : Bool) (number : ℕ) (mine : Bool) → where_mine mine (comes_as works number false false) ≡ None
 comes_none works number true = refl
 comes_none works number false = refl
@@ -180,7 +180,7 @@ stand_comes lanes messages opening w v works device number node k f time = elim 
   ]
 ]
 
--- A node starts anew.
+-- A node restarts.
 restarted_only : (node eid : ℕ) → eid ≢ node → restart_as false (node == eid) ≡ None
 restarted_only node eid far = ap (λ b. restart_as false b) (ne_eqb node eid (λ z. far (sym z)))
 
@@ -199,7 +199,7 @@ stand_restarts lanes messages opening w v works node k f time noted = elim (eqb_
       (λ eid far. ap (λ b. restart_as b (node == eid)) other.0 ∙ restarted_only node eid far)
 ]
 
--- Time goes on. The two nodes of a link count the tick, or miss it, by their identifiers.
+-- Time passes. The two nodes of a link count the tick, or miss it, by their identifiers.
 abbrev tick_of : List ℕ → LinkOf → LinkStep
 tick_of missed l = LinkStep.Tick (counts missed l.agent.own) (counts missed l.device.own)
 
@@ -241,7 +241,7 @@ stand_by lanes messages opening w works faults (steps.Restart node) k may f =
 stand_by lanes messages opening w works faults (steps.Sel bytes) k may f =
     stand_none lanes opening w (world_after works faults w (steps.Sel bytes)) works (steps.Sel bytes) k f (log_moment w bytes.items).now (λ eid l there. refl)
 
--- Wherever a step leads, a world that stands stays one that stands.
+-- After any step, a world that matches one over whole messages still does.
 pub stand_on : LaneIsACell → LinksAreLanes → LinksAreMessages → (opening w v : WorldOf) (s : Step) → Stand opening w → StepsTo w s v → Stand opening v
 stand_on law lanes messages opening w v s k h =
     subst (Stand opening) (sym h.after) (stand_by lanes messages opening w h.works h.faults s k h.may (world_follows law opening w v s k h))

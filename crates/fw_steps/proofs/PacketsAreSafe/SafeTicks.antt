@@ -1,4 +1,4 @@
--- A world that stands for one over whole messages stays one where all its links take a step.
+-- A world that matches one over whole messages still does after a step of all its links.
 use Rattle.std.proofs.Common.{◌≡◌, ◌∙◌, ◌++◌, ◌∷◌, [], ℕ, suc, Bool, List, map, append-nil, slice_get, Option, Some, None, IfSome, refl, sym, ap, subst}
 use Rattle.std.specs.Option.{option_map}
 use Rattle.fw_package.specs.Package.{PackageText}
@@ -21,7 +21,7 @@ use Rattle.fw_steps.proofs.LinksAreLanes.Projection.{link_at}
 use Rattle.fw_steps.proofs.PacketsAreSafe.KnownSteps.{gone_to, may_happen}
 use Rattle.fw_steps.proofs.PacketsAreSafe.SafeStands.{Follows, Stand, known_links, same_devices, stand_moved, stays_absent}
 
--- all links after a step that notes nothing
+-- all links after a step without entries
 abbrev all_gone : (LinkOf → LinkOf) → List LinkOf → List LinkStepped
 all_gone f ls = map (λ l. link_step_without_entries (f l)) ls
 
@@ -43,14 +43,14 @@ may_each : (now : ℕ) (packages : List PackageText) (s : LinkOf → LinkStep) (
 may_each now packages s [] k = tt
 may_each now packages s (l ∷ ls) k = ((k 0 l refl).0, (k 0 l refl).1, may_each now packages s ls (λ i x e. k (suc i) x e))
 
--- the step of each link, and where it leads
+-- the step of each link, and the link after it
 abbrev pub IsStepAt : (works : Bool) → Step → WorldOf → (LinkOf → LinkStep) → Type 0
 IsStepAt works s w step = (eid : ℕ) (l : LinkOf) → link_at w eid ≡ Some l → link_step works w.agent.endpoint.eid s eid ≡ Some (step l)
 
 abbrev pub LeadsAll : WorldOf → (LinkOf → LinkStep) → (LinkOf → LinkOf) → Type 0
 LeadsAll w step f = (eid : ℕ) (l : LinkOf) → link_at w eid ≡ Some l → link_after w.now w.packages l (step l) ≡ Some (link_step_without_entries (f l))
 
--- the link in a place is that of a device
+-- the link at a place is that of a device
 found_by : (w : WorldOf) (i : ℕ) (l : LinkOf) (o : Option ℕ) (P : Type 0) → KnownLinks w → slice_get (eids_of w) i ≡ o → slice_get (links_of w) i ≡ Some l → ((eid : ℕ) → link_at w eid ≡ Some l → P) → P
 found_by w i l None P k e is go = absurd (let no : None ≡ Some l = sym (past_links w i e) ∙ is in cc)
 found_by w i l (Some eid) P k e is go = go eid (sym (link_by_place w i eid k.halves k.apart.1 e) ∙ is)
@@ -68,7 +68,7 @@ may_in_place works s w v step i l k f mine e =
     let g = gone_to w.now w.packages l (step l) (link_at v eid) (subst (λ o. LinkStepsTo w.now w.packages l o (link_at v eid)) (mine eid l is) (f.goes eid l is)) in
     (may_happen w.now w.packages l (step l) g.stepped g.goes, subst (λ o. IfSome o (LinkStepRoundTrips w.packages l)) (mine eid l is) (f.said eid l is)))
 
--- each goes there
+-- each link takes its step
 goes_by : (works : Bool) (s : Step) (w v : WorldOf) (step : LinkOf → LinkStep) (f : LinkOf → LinkOf) (eid : ℕ) (o : Option LinkOf) → KnownLinks w → Follows works s w v → IsStepAt works s w step
     → LeadsAll w step f → link_at w eid ≡ o → link_at v eid ≡ option_map f o
 goes_by works s w v step f eid None k h mine is e = stays_absent w v eid k h.eids e
@@ -77,7 +77,7 @@ goes_by works s w v step f eid (Some l) k h mine is e =
     let same : g.stepped ≡ link_step_without_entries (f l) = (let both : Some g.stepped ≡ Some (link_step_without_entries (f l)) = sym g.goes ∙ is eid l e in cc) in
     g.is ∙ ap (λ t. Some t.after) same
 
--- the world of messages goes along, wherever the links go
+-- the world of messages takes a step with the links
 abbrev AllGo : (opening w : WorldOf) → Stand opening w → (then : ℕ) → (LinkOf → LinkStep) → Type 0
 AllGo opening w k then step =
     (ts : List LinkStepped) → AllMayHappen w.now k.messages.packages step (links_of w) → AllAfter k.messages.packages w.now step (links_of w) ts
@@ -105,7 +105,7 @@ pub stand_all : LinksAreLanes → LinksAreMessages → (then : ℕ) (opening w v
 stand_all lanes messages then opening w v works s step f alone times k h time mine is noted =
     stand_going lanes then opening w v works s step f k (λ ts may after. all_move lanes messages w.now then k.messages (links_of w) step ts alone times k.stands may after) h time mine is noted
 
--- The agent starts anew.
+-- The agent restarts.
 pub stand_anew : LinksAreLanes → LinksAreMessages → (opening w v : WorldOf) (works : Bool) (s : Step) (f : LinkOf → LinkOf) → Stand opening w → Follows works s w v
     → v.now ≡ w.now → ((eid : ℕ) → link_step works w.agent.endpoint.eid s eid ≡ Some (LinkStep.Restart sides.Agent))
     → ((l : LinkOf) → link_after w.now w.packages l (LinkStep.Restart sides.Agent) ≡ Some (link_step_without_entries (f l))) → v.history ≡ w.history → Stand opening v

@@ -34,7 +34,7 @@ tied_from ps first m n es more g h = record {
   recorded = h.tied.records ∙ recorded_on es more ∙ ap (λ rs. rs ++ recorded_in more) (sym g.tied.records);
 }
 
--- the same of what a world has for an identifier
+-- the same for the pair of an identifier
 tied_new : (ps : List PackageText) (first m : PairOf) (o : Option PairOf) (es more all : List EntryOf) → all ≡ es ++ more
     → IsSafeAndTied ps (pair_run first []) (pair_run m es) → IsSomeAnd o (λ n. IsSafeAndTied ps (pair_run first []) (pair_run n all)) → IsSomeAnd o (λ n. IsTiedFrom m n all more)
 tied_new ps first m None es more all e g h = h
@@ -52,7 +52,7 @@ tied_at ps (Some first) (Some m) p es more all e there g h = tied_new ps first m
 
 -- THE WORLD
 
--- a device that there wasn't at first isn't there
+-- a device that isn't in the opening world isn't in this one
 absent_link : (o : Option LinkOf) → option_map pair_of o ≡ None → o ≡ None
 absent_link None e = refl
 absent_link (Some l) e = absurd (cc)

@@ -24,7 +24,7 @@ use Rattle.fw_steps.proofs.PacketsAreTheirs.{packets_steps}
 use Rattle.fw_steps.proofs.PlaysAreRuns.Sendings.{contained_for}
 use Rattle.fw_steps.proofs.PlaysAreRuns.Sites.{site_in}
 
--- ONE STEP MORE
+-- ONE MORE STEP
 
 pub agent_more : (packages : List PackageText) (p : AgentProcess) (hs : List PlayStep) (h : PlayStep) → agent_process_after_steps packages p (hs ++ h ∷ []) ≡ agent_process_after_step packages (agent_process_after_steps packages p hs) h
 agent_more packages p [] h = refl
@@ -61,7 +61,7 @@ pub record Agrees (opening : WorldOf) (before : List PlayStep) (w : WorldOf) : T
 -- A STEP
 
 -- This step of the world gives each node its calls of this step of the play, at the same time, and
--- notes what they note.
+-- has the same entries.
 pub record IsStepOf (w : WorldOf) (works : Bool) (faults : ℕ) (h : PlayStep) (s : Step) : Type 0 where
   pub may : may_step w s ≡ None
   pub bank : CallsBank (step_calls_bank w s) (faults_before w s) works faults

@@ -1,4 +1,4 @@
--- Which steps may follow in a play, in the words of a world that agrees with it (`may_at`).
+-- The steps that may follow in a play, for a world that agrees with it (`may_at`).
 use Rattle.std.proofs.Common.{◌≡◌, Bool, ◌∙◌, ◌+◌, ◌-◌, ◌^◌, ◌==◌, ◌<◌, ◌≤◌, ℕ, true, List, [], ◌∷◌, map, Option, Some, None, refl, sym, ap, subst}
 use Rattle.std.specs.List.{AllByRecursion, Contains, list_all}
 use Rattle.std.proofs.lemmas.Bool.{lt-ltb}
@@ -20,7 +20,7 @@ use Rattle.fw_steps.proofs.PlaysAreRuns.Sendings.{number_contained, living}
 use Rattle.fw_steps.proofs.PlaysAreRuns.Sites.{some_site, site_in}
 use Rattle.fw_steps.proofs.PlaysAreRuns.Agreeing.{Agrees, ComesFrom}
 
--- What a step carries is there in the world.
+-- The packet that a step delivers is there in the world.
 abbrev CarriedAt : WorldOf → PlayStep → Type 0
 CarriedAt w PlayStep.UnitPasses = w.now < 2 ^ 32 - 1
 CarriedAt w (PlayStep.AgentReceives device stamp bytes) = ComesFrom w device stamp bytes
@@ -35,7 +35,8 @@ pub record MayAt (w : WorldOf) (h : PlayStep) : Type 0 where
   pub agent : AllByRecursion (AgentMayCall w.packages w.agent) (agent_calls_of w.now h)
   pub devices : (eid : ℕ) (y : SiteOf) → site_for w.sites eid ≡ Some y → AllByRecursion (DeviceMayCall y.node) (device_calls_of eid h)
 
--- What a device sent, and what the agent sent to it, is among the packets of the device.
+-- The packets that a device sent, and those that the agent sent to it, are among the packets of the
+-- device.
 carried_from : (opening w : WorldOf) (before : List PlayStep) (device stamp : ℕ) (bytes : List ℕ) (x : SiteOf) → Agrees opening before w → site_for opening.sites device ≡ Some x
     → Contains (device_process_after device x.node before).sent (sent_at stamp bytes) → w.now ≤ stamp + 8 → ComesFrom w device stamp bytes
 carried_from opening w before device stamp bytes x a e is soon =

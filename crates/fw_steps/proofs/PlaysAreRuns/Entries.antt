@@ -1,4 +1,5 @@
--- A step adds to the history of a device what the agent and the device note in their own calls.
+-- A step adds to the history of a device the entries that the agent and the device note in their
+-- own calls.
 use Rattle.std.proofs.Common.{◌≡◌, ◌∙◌, ◌==◌, ◌++◌, ℕ, Bool, true, false, if◌then◌else◌, List, [], ◌∷◌, map, Option, Some, None, inl, inr, refl, sym, ap, append-nil}
 use Rattle.std.proofs.lemmas.Bool.Decides.{eqb_tells}
 use Rattle.fd_core.specs.declared.states.Verdict.{Verdict}
@@ -20,7 +21,7 @@ pub agent_receipt_notes : (w : WorldOf) (eid : ℕ) (bytes : List ℕ) → histo
 agent_receipt_notes w eid bytes =
     history_more eid w.history _ ∙ ap (λ (es : List EntryOf). history_of eid w.history ++ es) (sym (append-nil _))
 
--- What a device notes is in its own history, and in no other's.
+-- A device's entries are in its own history, and in no other.
 noted_if : (history : List NotedOf) (device eid : ℕ) (es : List EntryOf) (f : ℕ → List DeviceCall → List EntryOf) (c : DeviceCall) → (device ≡ eid → es ≡ f eid (c ∷ [])) → f eid [] ≡ []
     → history_of eid (history ++ map (noted_of device) es) ≡ history_of eid history ++ f eid (if device == eid then c ∷ [] else [])
 noted_if history device eid es f c mine none = elim (eqb_tells device eid) [

@@ -1,5 +1,5 @@
--- A play is a run: each of its steps is one of a world, from the opening world on
--- (`plays_are_runs`). So the headline holds of its processes (`plays_are_safe`).
+-- A play is a run: each of its steps is a step of a world, from the opening world on
+-- (`plays_are_runs`). So the headline holds for its processes (`plays_are_safe`).
 use Rattle.std.proofs.Common.{◌≡◌, ◌∙◌, ◌++◌, ℕ, List, [], ◌∷◌, Option, Some, None, IfSome, IsSomeAnd, refl, sym, ap, subst, arith, append_assoc, append-nil}
 use Rattle.fw_package.specs.Package.{PackageText}
 use Rattle.fw_message.specs.History.{EntryOf}
@@ -107,7 +107,7 @@ plays_are_runs opening play opens may =
           record { agent = sym (r.agent ∙ ap (λ (u : ℕ). agent_play_calls u play) (ap (λ (x : WorldOf). x.now) opens.is)); device = sym (r.device eid y.one y.is) };
     }
 
--- So the headline holds of the processes.
+-- So the headline holds for the processes.
 pub plays_are_safe : PacketsAreSafe → PlaysAreSafe
 plays_are_safe safe opening play opens may =
     let r = plays_are_runs opening play opens may in (

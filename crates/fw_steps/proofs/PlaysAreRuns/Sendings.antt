@@ -47,6 +47,6 @@ get_contained p (q ∷ ps) (suc k) lt e = get_contained p ps k (omega (arith, lt
 pub number_contained : (p : Sent) (ps : List Sent) → Contains ps p → HasNumber p ps
 number_contained p ps c = record { number = suc c.0; at = numbered_at ps c.0 ∙ get_contained p ps c.0 c.1 c.2 }
 
--- A packet that lives may come.
+-- A packet that lives may be delivered.
 pub living : (now : ℕ) (p : Sent) → now ≤ p.date + 8 → packet_fault now (Some p) ≡ None
 living now p soon = let b : nat_lt (lives_until p) now ≡ false = le-ltb (lives_until p) now soon in rw b refl

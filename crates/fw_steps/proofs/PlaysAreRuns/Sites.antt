@@ -10,7 +10,7 @@ use Rattle.fw_steps.proofs.LinksAreLanes.Listed.{every}
 use Rattle.fw_steps.proofs.LinksAreLanes.Posting.{site_eid, site_is_first}
 use Rattle.fw_steps.proofs.PlaysAreRuns.Options.{Found, found}
 
--- Whether there is a device depends on the identifiers alone.
+-- Whether there is a device depends only on the identifiers.
 abbrev known_in : List ℕ → ℕ → Bool
 known_in [] eid = false
 known_in (k ∷ ks) eid = if k == eid then true else known_in ks eid

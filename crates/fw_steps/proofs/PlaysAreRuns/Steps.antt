@@ -37,7 +37,7 @@ counts_too v (Phase.Apply u w progress.InProgress) verdicts.ApplyOk false = refl
 counts_too v (Phase.Apply u w progress.InProgress) verdicts.ApplyFail false = refl
 counts_too v p verdict false = refl
 
--- a step that notes nothing, and calls no bank
+-- a step without entries, which calls no bank
 quiet_step : (w : WorldOf) (h : PlayStep) (s : Step) → IsQuiet s → may_step w s ≡ None → now_then w.now s ≡ unit_after_step w.now h → step_date w.now s ≡ unit_after_step w.now h
     → agent_step_calls w s ≡ agent_calls_of w.now h → ((eid : ℕ) → device_step_calls eid true (faults_before w s) w s ≡ device_calls_of eid h)
     → ((eid : ℕ) (y : SiteOf) → pair_step_entries eid w.packages w.agent w.now y.node h ≡ []) → HasStep w h

@@ -1,4 +1,4 @@
--- A device of which each answer can be read again stays one, whatever happens to it.
+-- A device whose values fit the fields of messages still does after each step.
 use Rattle.std.proofs.Common.{◌≡◌, ◌<◌, ◌≤◌, ◌^◌, ◌-◌, ◌==◌, ℕ, Bool, true, false, if◌then◌else◌, nat_lt, List, [], ◌∷◌, length, take, Option, Some, None, IfSome, refl, arith}
 use Rattle.std.specs.List.{AllByRecursion}
 use Rattle.std.proofs.lemmas.List.{length-append, length-take}
@@ -42,7 +42,7 @@ rows_sealed (row ∷ rows) key image h k = (row_sealed (same_key row.key key) ro
 
 -- A DEVICE
 
--- made of the same, with these rows and in this phase
+-- a device with the same descriptors and components, with these rows and in this phase
 with_rows : (v w : DeviceState) → w.descriptors ≡ v.descriptors → w.components ≡ v.components → AllByRecursion HasRowWidths w.rows → HasPhaseWidths w.phase (length w.stage) → HasDeviceWidths v → HasDeviceWidths w
 with_rows v w ds cs rows phase h = record {
   told = record {
@@ -73,7 +73,7 @@ entered : (v : DeviceState) (e : TableEntryOf) (row : TableRow) → HasDeviceWid
 entered v e (TableRow.RefuseEntry code) h = h
 entered v e (TableRow.AddEntry u code) h = listed_or v (with_entry u e.key code) _ refl h
 
--- what is kept of a version can be told
+-- the label that is kept of a version fits
 label_tells : (version : VersionOf) → version.stamp < 256 ^ 4 → HasLabelWidths (label_of version)
 label_tells version h = record { stamp = h; text = rw (length-take 12 version.text.bytes) (omega arith) }
 

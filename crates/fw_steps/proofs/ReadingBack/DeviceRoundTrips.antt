@@ -1,4 +1,4 @@
--- What a device answers can be read again, and what it wishes can be written.
+-- A device's answers can be decoded, and its pending commands encoded.
 use Rattle.std.proofs.Common.{◌≡◌, ◌≢◌, ◌<◌, ◌≤◌, ◌^◌, ◌*◌, ◌==◌, ◌||◌, ◌-◌, not, min, max, ℕ, Bool, true, false, if◌then◌else◌, nat_lt, List, [], ◌∷◌, length, Option, Some, None, IfSome, arith}
 use Rattle.std.specs.List.{AllByRecursion}
 use Rattle.std.proofs.lemmas.List.{length-append, length-map}
@@ -28,7 +28,7 @@ use Rattle.fd_core.proofs.Answering.{answers_its_command}
 
 -- PARAMETERS
 
--- a version that can be told
+-- a version that fits its fields
 record VersionFits (v : VersionOf) : Type 0 where
   stamp : v.stamp < 256 ^ 4
   text : length v.text.bytes ≤ 12
@@ -107,7 +107,7 @@ parameters_say v h =
 refuses : (code : ℕ) → code ≢ 0 → AnswerFits (AnswerOf.Refused code)
 refuses code more = record { widths = tt; writable = more; fits = omega arith }
 
--- of two answers one
+-- one of two answers
 either : {R : Type 0} (P : R → Type 0) (b : Bool) (x y : R) → P x → P y → P (if b then x else y)
 either P true x y hx hy = hx
 either P false x y hx hy = hy
@@ -174,15 +174,15 @@ says v (CommandOf.ActivateFirmware s) quiet works h = switches v v.components v.
 says v CommandOf.CancelUpdate quiet works h = cancels v v.phase
 says v c quiet works h = refuses unsupported_command (λ z. absurd (omega (arith, z)))
 
--- Each of its answers can be read again, and fits a message of either transmission unit.
+-- Each of its answers can be decoded, and fits a message of either transmission unit.
 pub device_heard : WritesAnswers → (v : DeviceState) (c : CommandOf) (quiet works : Bool) → HasDeviceWidths v → AnswerRoundTrips U64 c (device_answer v c quiet works)
 device_heard law v c quiet works h =
     let k = says v c quiet works h in
     record { reads = law (command_code c) (device_answer v c quiet works) (answers_its_command v c quiet works) k.widths k.writable; fits = k.fits }
 
--- WISHES
+-- PENDING COMMANDS
 
--- it asks for no more than goes at once
+-- it asks for at most one transfer's bytes
 asked_few : (unit : «Unit») (n : ℕ) → max MIN_TRANSFER (min (transfer_size unit) n) < 256 ^ 4
 asked_few U64 n = omega arith
 asked_few U128 n = omega arith
@@ -199,6 +199,6 @@ wishes unit (Phase.Verify u w p) have h = reported CommandOf.VerifyComplete (rep
 wishes unit (Phase.Apply u w p) have h = reported apply_report (report_of p application_failed) (λ n. record { writable = omega arith; widths = omega arith })
 wishes unit p have h = tt
 
--- What it wishes can be written.
+-- Its pending command can be encoded.
 pub device_spoken : (v : DeviceState) → HasDeviceWidths v → IfSome (device_wish v) CommandRoundTrips
 device_spoken v h = wishes v.unit v.phase (length v.stage) h.phase

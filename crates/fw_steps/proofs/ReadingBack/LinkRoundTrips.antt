@@ -1,4 +1,4 @@
--- On a link between a session and a device in which all can be said, all is said.
+-- On a link between a session and a device whose values fit, all messages round-trip.
 use Rattle.std.proofs.Common.{◌==◌, ◌+◌, not, ℕ, Bool, true, false, if◌then◌else◌, nat_lt, List, [], ◌∷◌, Option, Some, None, IfSome, Result, Ok, Err}
 use Rattle.mctp_wire.specs.declared.unit.Unit.{«Unit»}
 use Rattle.mctp_wire.specs.declared.unit.Unit.TheVariants.{U64}
@@ -30,9 +30,9 @@ use Rattle.fw_steps.proofs.ReadingBack.DeviceRoundTrips.{device_heard, device_sp
 use Rattle.fw_steps.proofs.ReadingBack.PairKeepsWidths.{package_fits, silent_in, timeout_in}
 use Rattle.fw_steps.proofs.ReadingBack.SessionRoundTrips.{session_heard, session_spoken}
 
--- WHAT IS ANSWERED
+-- ANSWERS
 
--- each answer of this core can be read again
+-- each answer of this core round-trips
 abbrev AnswersWell : {C : Type 0} → «Unit» → CoreOf C → C → Type 0
 AnswersWell u core x = (c : CommandOf) (quiet works : Bool) → AnswerRoundTrips u c (core.take x c quiet works).answer
 
@@ -57,9 +57,9 @@ told_by u core works h (AskerRow.Learns replies caller heard) taken k = tt
 told : {C : Type 0} (u : «Unit») (core : CoreOf C) (works : Bool) (h : HalfOf C) (bytes : List ℕ) → AnswersWell u core h.core → TakenAnswerRoundTrips u (half_on_packet core works h bytes)
 told u core works h bytes k = told_by u core works h (asker_row h.unit h.own h.peer h.asker bytes) (taker_row h.unit h.own h.peer h.taker bytes) k
 
--- WHAT IS WISHED
+-- PENDING COMMANDS
 
--- what a tick makes of a core
+-- a core after a tick
 begun_core : {C : Type 0} (P : C → Type 0) (may : Bool) (h : HalfOf C) (c : CommandOf) (sent : List MessageOf) → P h.core → P (begins_if may h c sent).half.core
 begun_core P true h c sent k = k
 begun_core P false h c sent k = k
@@ -122,7 +122,7 @@ come : (o : Option Sent) (P : Sent → Type 0) → ((p : Sent) → P p) → IfSo
 come None P k = tt
 come (Some p) P k = k p
 
--- what each half answers to these bytes, and what it wishes after a tick
+-- each half's answer to these bytes, and its pending command after a tick
 pub agent_answers : (packages : List PackageText) (h : HalfOf TimedOf) (bytes : List ℕ) → TakenAnswerRoundTrips h.core.session.unit (half_on_packet (session_core packages) true h bytes)
 agent_answers packages h bytes =
     told h.core.session.unit (session_core packages) true h bytes (λ c quiet works. session_heard (package_at packages h.core.session.number) h.core.session c)

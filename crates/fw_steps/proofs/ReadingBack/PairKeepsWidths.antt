@@ -1,4 +1,4 @@
--- A pair in which all can be said stays one, whatever step it takes.
+-- A pair whose values fit the fields of messages still does after any step.
 use Rattle.std.proofs.Common.{◌≡◌, ◌&&◌, not, ℕ, Bool, true, false, if◌then◌else◌, zero, suc, List, [], ◌∷◌, slice_index_or, Option, Some, None, IfSome, Ok, Result, refl}
 use Rattle.std.specs.Option.{option_map}
 use Rattle.fw_package.specs.Package.{PackageText}
@@ -209,7 +209,7 @@ step_speaks serves learns packages m (StepOf.TimeOut sides.Device) ps h =
 step_speaks serves learns packages m (StepOf.Restart sides.Agent) ps h = record { device = h.device; session = tt; down = closed_speaks m.down h.down }
 step_speaks serves learns packages m (StepOf.Restart sides.Device) ps h = record { device = restart_speaks m.device h.device; session = h.session; down = h.down }
 
--- what is no longer wished is closed
+-- a command that is no longer pending is closed
 unwished_speaks : (packages : List PackageText) (m : PairOf) → HasPairWidths packages m → HasPairWidths packages (unwished_closed packages m)
 unfolding unwished_closed
 unwished_speaks packages m h = record { device = h.device; session = h.session; down = unless_speaks (down_wish packages m.session) m.down h.down }

@@ -1,4 +1,4 @@
--- Along a run what is said on each link reads back (`messages_round_trip`).
+-- Along a run the messages on each link round-trip (`messages_round_trip`).
 use Rattle.std.proofs.Common.{◌≡◌, ◌∙◌, ℕ, true, is_some, Option, Some, None, IsSomeAnd, refl, sym, ap}
 use Rattle.exch_lane.specs.Laws.{LaneIsACell}
 use Rattle.ua_core.specs.Session.{TimedOf}

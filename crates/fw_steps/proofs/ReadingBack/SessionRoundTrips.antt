@@ -1,4 +1,4 @@
--- What a session wishes can be said.
+-- A session's pending command can be encoded.
 use Rattle.std.proofs.Common.{◌≡◌, ◌<◌, ◌≤◌, ◌^◌, ℕ, Bool, true, false, if◌then◌else◌, nat_lt, ◌||◌, zero, suc, List, [], ◌∷◌, length, map, slice_index_or, IfSome, Ok, Err, Result, refl, subst, arith}
 use Rattle.std.specs.List.{AllByRecursion}
 use Rattle.std.proofs.lemmas.List.{length-map, length-take}
@@ -46,8 +46,7 @@ size_either : (large : Bool) (size : ℕ) → nat_lt 0xFFFFFFFF size ≡ large �
 size_either true size e = omega arith
 size_either false size e = omega (arith, ltb-false 0xFFFFFFFF size e)
 
--- a plan is of eight components at most
--- a plan is of eight components at most
+-- a plan that is planned has at most eight components
 planned_few : (twin many large long : Bool) (ns ms : List ℕ) → nat_lt 8 (length ns) ≡ many
     → ◌≡◌ {A = Result (List ℕ) PlanFault} (if twin then Err faults.DuplicateComponent else if many then Err faults.TooManyComponents else if large then Err faults.ImageTooLarge else if long then Err faults.TextTooLong else Ok ns) (Ok ms)
     → length ms ≤ 8
@@ -103,6 +102,6 @@ stage_spoken unit p g h k = tt
 pub session_spoken : (p : PackageText) (s : SessionOf) → HasPackageWidths p → IsStageInPlan p s.stage → IfSome (agent_wish p s) CommandRoundTrips
 session_spoken p s h k = stage_spoken s.unit p s.stage h k
 
--- and its answers are heard again, whatever it stands for
+-- and its answers round-trip, in any stage
 pub session_heard : (p : PackageText) (s : SessionOf) (c : CommandOf) → AnswerRoundTrips s.unit c (agent_answer p s c)
 session_heard p s c = record { reads = answers_read p s c; fits = answers_fit p s c }

@@ -1,4 +1,4 @@
--- A world of messages in which all can be said stays one, whatever steps it takes.
+-- A world of messages whose values fit still does after any steps.
 use Rattle.std.proofs.Common.{◌==◌, ℕ, Bool, true, false, if◌then◌else◌, List, [], ◌∷◌, map, Option, Some, None, IfSome}
 use Rattle.std.specs.List.{AllByRecursion}
 use Rattle.std.specs.Option.{option_map}

@@ -1,4 +1,5 @@
--- On each link of a world that stands for one over whole messages all is said, whatever comes next.
+-- On each link of a world that matches one over whole messages, all messages round-trip after any
+-- step.
 use Rattle.std.proofs.Common.{◌≡◌, ◌∙◌, ℕ, zero, suc, List, [], ◌∷◌, slice_get, Option, Some, None, IfSome, refl, subst}
 use Rattle.std.specs.List.{AllByRecursion}
 use Rattle.fw_package.specs.Package.{PackageText}
@@ -17,7 +18,7 @@ use Rattle.fw_steps.proofs.ReadingBack.LinkRoundTrips.{agent_answers, agent_asks
 use Rattle.fw_steps.proofs.ReadingBack.WorldKeepsWidths.{along_speaks}
 use Rattle.fwup_wire.proofs.WrittenAnswers.{writes_answers}
 
--- what is reached speaks
+-- the values of the reached world of messages fit
 pub messages_say : (opening w : WorldOf) → (k : Stand opening w) → HaveMessageWidths k.messages
 messages_say opening w k =
     subst (λ o. IfSome o HaveMessageWidths) k.reaches.along (along_speaks serves_in_plan learns_in_plan k.reaches.steps (Some (messages_of opening)) k.speaks)
@@ -27,13 +28,13 @@ pair_at_place packages [] i n all e = absurd (cc)
 pair_at_place packages (x ∷ ns) zero n all e = let same : x ≡ n = cc in subst (λ (y : NodeOf). HasPairWidths packages y.pair) same all.0
 pair_at_place packages (x ∷ ns) (suc i) n all e = pair_at_place packages ns i n all.1 e
 
--- what has to hold of a link, so that all is said on it
+-- the conditions under which all messages on a link round-trip
 record LinkSpeaks (packages : List PackageText) (l : LinkOf) : Type 0 where
   lent : HavePackageWidths packages
   device : HasDeviceWidths l.device.core.device
   session : SessionIsInPlan packages l.agent.core.session
 
--- a link speaks as its pair does
+-- a link meets them if its pair does
 speaks_as : (packages : List PackageText) (now : ℕ) (ns : List NodeOf) (i : ℕ) (l : LinkOf) → HavePackageWidths packages → AllByRecursion (λ (x : NodeOf). HasPairWidths packages x.pair) ns → PairThere packages now ns i l → LinkSpeaks packages l
 speaks_as packages now ns i l ps all there =
     let pair = pair_at_place packages ns i there.node all there.at in
@@ -53,11 +54,11 @@ said_if : (packages : List PackageText) (l : LinkOf) (o : Option LinkStep) → (
 said_if packages l None k = tt
 said_if packages l (Some s) k = k s
 
--- whatever a step of the world is for it
+-- for any step of the link in a step of the world
 pub links_say : (opening w : WorldOf) (eid : ℕ) (l : LinkOf) (o : Option LinkStep) → Stand opening w → link_at w eid ≡ Some l → IfSome o (LinkStepRoundTrips w.packages l)
 links_say opening w eid l o k is = said_if w.packages l o (λ s. world_says opening w eid l s k is)
 
--- So what both halves say on a link reads back, whatever packet comes.
+-- So the messages of both halves on a link round-trip, at any packet.
 pub link_round_trips : (opening w : WorldOf) (eid : ℕ) (l : LinkOf) → Stand opening w → link_at w eid ≡ Some l → RoundTrips w.packages l.agent l.device
 link_round_trips opening w eid l k is =
     let speaks = link_speaks opening w eid l k is in

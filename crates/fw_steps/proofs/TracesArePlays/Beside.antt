@@ -1,6 +1,6 @@
 -- A play beside a sorted trace: each process of the play is as in the trace, or one tick further.
--- It stays so when a unit passes in the play (`passing`), and when a process ticks in the trace
--- that is a tick behind (`agent_ticked`, `device_ticked`).
+-- It stays so when a unit passes in the play (`passing`), and when a process that is a tick late
+-- ticks in the trace (`agent_ticked`, `device_ticked`).
 use Rattle.std.proofs.Common.{◌≡◌, ◌⊎◌, ◌∙◌, ◌+◌, ◌-◌, ◌*◌, ◌^◌, ◌==◌, ◌++◌, ◌<◌, ◌≤◌, ℕ, Bool, true, false, if◌then◌else◌, List, [], ◌∷◌, Option, Some, None, IfSome, inl, inr, refl, sym, ap, subst, arith}
 use Rattle.std.specs.List.{AllByRecursion, Contains}
 use Rattle.std.specs.Option.{option_map}
@@ -53,7 +53,7 @@ pub now_device : (k : ℕ) (p t : DeviceProcess) → NearDevice k p t → k ≤ 
 now_device k p t (inl h) low = h
 now_device k p t (inr h) low = let e = h.1 in absurd (omega (arith, e, low))
 
--- A process that is a tick behind the unit is as in the play after a tick.
+-- A process that is a tick late is as in the play after a tick.
 late_agent : (packages : List PackageText) (k : ℕ) (p t : AgentProcess) → NearAgent packages k p t → t.unit + 1 ≡ k → p ≡ agent_process_after_act packages t AgentAct.Ticks
 late_agent packages k p t (inl h) late = let e = h.1 in absurd (omega (arith, e, late))
 late_agent packages k p t (inr h) late = h.0
@@ -111,7 +111,7 @@ passing opening before ps k n xs b sorted may ends lt =
       };
     }
 
--- A PROCESS THAT IS BEHIND TICKS
+-- A LATE PROCESS TICKS
 
 pub agent_ticked : (opening : WorldOf) (before : List PlayStep) (ps : ProcessesOf) (k : ℕ) → Beside opening before ps k → ps.agent.unit + 1 ≡ k
     → Beside opening before (processes_after_act opening.packages ps (Act.OfAgent AgentAct.Ticks)) k

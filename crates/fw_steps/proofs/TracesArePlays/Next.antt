@@ -1,4 +1,4 @@
--- In a sorted trace, a process that is behind the others ticks next.
+-- In a sorted trace, a process that is in an earlier unit than the others ticks next.
 use Rattle.std.proofs.Common.{◌≡◌, ◌∙◌, ◌+◌, ◌-◌, ◌*◌, ◌^◌, ◌==◌, ◌<◌, ◌≤◌, ℕ, if◌then◌else◌, List, [], ◌∷◌, Option, Some, None, IfSome, inl, inr, ap, arith}
 use Rattle.std.specs.Option.{option_map}
 use Rattle.std.proofs.lemmas.Bool.Decides.{eqb_tells}

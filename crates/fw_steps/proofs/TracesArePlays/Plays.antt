@@ -1,4 +1,4 @@
--- A sorted trace is a play, and so every trace is one (`traces_are_plays`).
+-- A sorted trace is a play, and so every trace is a play (`traces_are_plays`).
 use Rattle.std.proofs.Common.{◌≡◌, ◌∙◌, ◌+◌, ◌*◌, ◌++◌, ◌<◌, ◌≤◌, ℕ, List, [], ◌∷◌, Option, Some, None, inl, inr, refl, sym, ap, subst, arith, append_assoc, append-nil}
 use Rattle.std.specs.Option.{option_map}
 use Rattle.fw_steps.specs.Alone.{DeviceCall}

@@ -1,5 +1,5 @@
--- Two neighbouring acts whose keys are in the wrong order may change places (`swap`), since nothing
--- that is sent in a unit is received before it.
+-- Two neighbouring acts whose keys are in the wrong order may change places (`swap`), since no
+-- packet that is sent in a unit is received before it.
 use Rattle.std.proofs.Common.{◌≡◌, ◌∙◌, ◌+◌, ◌*◌, ◌==◌, ◌++◌, ◌<◌, ◌≤◌, ℕ, Bool, true, false, if◌then◌else◌, List, [], ◌∷◌, Option, Some, None, IsSomeAnd, inl, inr, refl, sym, ap, subst, arith}
 use Rattle.std.specs.List.{Contains}
 use Rattle.std.specs.Option.{option_map}
@@ -16,13 +16,13 @@ use Rattle.fw_steps.proofs.Leading.{differs}
 use Rattle.fw_steps.proofs.PlaysAreRuns.Sendings.{contains_cases}
 use Rattle.fw_steps.proofs.TracesArePlays.Keys.{agent_key, device_key, key_in, key_of, agent_least, agent_most, device_least, device_most, other_key, other_device_key}
 
--- WHAT WAS SENT
+-- PACKETS THAT WERE SENT
 
 dated : (p : Sent) (unit : ℕ) (packets : List (List ℕ)) → Contains (sent_now unit packets) p → unit ≡ p.date
 dated p unit [] c = let lt = c.1 in absurd (omega (arith, lt))
 dated p unit (q ∷ qs) c = elim (contains_cases (sent_at unit q) p (sent_now unit qs) c) [ inl e ↦ ap (λ (x : Sent). x.date) e | inr rest ↦ dated p unit qs rest ]
 
--- What was sent in an earlier unit was sent before.
+-- A packet that was sent in an earlier unit was sent before.
 pub kept : (p : Sent) (old : List Sent) (unit : ℕ) (packets : List (List ℕ)) → p.date < unit → Contains (old ++ sent_now unit packets) p → Contains old p
 kept p old unit packets lt c = elim (Contains-append_cases old (sent_now unit packets) p c) [
   | inl before ↦ before
@@ -31,7 +31,7 @@ kept p old unit packets lt c = elim (Contains-append_cases old (sent_now unit pa
 
 -- TWO ACTS CHANGE PLACES
 
--- A device receives what the agent sent in an earlier unit, and what it sent before still.
+-- A device receives the packets that the agent sent in an earlier unit, also after the swap.
 fewer_device : (old : List Sent) (after : ℕ) (packets : List (List ℕ)) (device : ℕ) (unit : ℕ) (d : DeviceAct) (k : ℕ) → device_key unit d < k → k ≤ 2 * after + 1
     → DeviceMayAct (old ++ sent_now after packets) device unit d → DeviceMayAct old device unit d
 fewer_device old after packets device unit DeviceAct.Ticks k lt most h = tt
@@ -60,7 +60,7 @@ more_in : (o : Option DeviceProcess) (old new : List Sent) (device : ℕ) (d : D
 more_in None old new device d h = absurd h
 more_in (Some q) old new device d h = (more_device old new device q.unit d h.0, h.1)
 
--- The same of the agent, and what a device sent.
+-- The same for the agent, and the packets that a device sent.
 abbrev HasSent : Sent → Option DeviceProcess → Type 0
 HasSent p o = IsSomeAnd o (λ q. Contains q.sent p)
 

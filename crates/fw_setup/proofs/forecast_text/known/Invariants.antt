@@ -3,7 +3,7 @@ use Rattle.fw_package.specs.Package.{descriptor_of}
 use Rattle.ua_core.specs.Lent.{package_descriptor}
 use Rattle.fw_setup.proofs.forecast_text.known.Given as goal
 
--- those so far, and those that are left
+-- the descriptors so far, and those that are left
 abbrev pub invariant-loop-descriptor : goal.invariant-loop-descriptor
 invariant-loop-descriptor l =
     (goal.iterator-loop-descriptor).can_next l.descriptor-iterator × (goal.iterator-loop-descriptor).is_finite l.descriptor-iterator

@@ -3,7 +3,7 @@ use Rattle.fw_package.specs.Package.{descriptor_of}
 use Rattle.fw_setup.specs.Forecasts.{lack_lines}
 use Rattle.fw_setup.proofs.forecast_text.push_lacks.Given as goal
 
--- what is appended, and what is left to append
+-- the lines so far, and those that are left
 abbrev pub invariant-loop-number : goal.invariant-loop-number
 invariant-loop-number l = record {
   counted : l.number + length l.records ≡ length l.fn.records;

@@ -3,7 +3,7 @@ use Rattle.fw_package.specs.Package.{descriptor_of}
 use Rattle.fw_setup.specs.Forecasts.{first_lacked}
 use Rattle.fw_setup.proofs.foretold.first_lacked.Given as goal
 
--- the answer of those that are left is the answer of all
+-- the answer for the descriptors that are left is the answer for all
 abbrev pub invariant-loop-descriptor : goal.invariant-loop-descriptor
 invariant-loop-descriptor l =
     (goal.iterator-loop-descriptor).can_next l.descriptor-iterator × (goal.iterator-loop-descriptor).is_finite l.descriptor-iterator

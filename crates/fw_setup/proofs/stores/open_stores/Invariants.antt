@@ -5,7 +5,7 @@ use Rattle.fw_setup.specs.Stocks.{stores_in}
 use Rattle.fw_setup.proofs.Stocking.{AreSeenSoFar}
 use Rattle.fw_setup.proofs.stores.open_stores.Given as goal
 
--- the devices so far have what their stores keep, which are theirs
+-- the devices so far have the images that their stores keep, and the stores are theirs
 abbrev pub invariant-loop-device : goal.invariant-loop-device
 invariant-loop-device g l = record {
   kept : AreSeenSoFar (stores_in (g.S.Stores.is_known l.stores) (g.S.Stores.files l.stores) l.root) l.fn.devices l.devices l.device-index;

@@ -2,7 +2,7 @@ use Rattle.std.proofs.Common.{◌≡◌, drop, length, take}
 use Rattle.fw_steps.specs.Sites.{HaveRoom, HasFullSite, sites_of}
 use Rattle.fw_steps.proofs.sites.make_room.Given as goal
 
--- the nodes so far have room; the others are as they were
+-- the nodes so far have room; the others are unchanged
 abbrev pub invariant-loop-site : goal.invariant-loop-site
 invariant-loop-site g l =
     record {

@@ -3,7 +3,8 @@ use Rattle.fw_steps.specs.Sites.{HaveRoom, sites_of}
 use Rattle.fw_steps.specs.Worlds.{posts}
 use Rattle.fw_steps.proofs.sites.post_all.Given as goal
 
--- what is still to be put leads where all of it would have led, and there is room for it
+-- posting the packets that are left gives the result of posting all of them, and there is room for
+-- them
 abbrev pub invariant-loop-packet : goal.invariant-loop-packet
 invariant-loop-packet g l =
     record {

@@ -2,7 +2,7 @@ use Rattle.std.proofs.Common.{◌≡◌, ◌≤◌, ◌++◌, length}
 use Rattle.fw_steps.specs.Worlds.{sent_now}
 use Rattle.fw_steps.proofs.packets.Packets.drain.Given as goal
 
--- what is there and what is still to come are what was there and what was to come; there is room for it
+-- the packets there and the packets left in the outbox are those of before; there is room for them
 abbrev pub invariant-loop-packet : goal.invariant-loop-packet
 invariant-loop-packet l =
     record {

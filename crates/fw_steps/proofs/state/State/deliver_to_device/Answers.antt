@@ -1,4 +1,4 @@
--- A device hears a packet: its place has what it becomes, or nothing has changed.
+-- A device handles a packet: its place has the changed device, or nothing has changed.
 use Rattle.std.proofs.Common.{◌∙◌, ap, refl, sym}
 use Rattle.std.proofs.lemmas.List.{with_items_is}
 use Rattle.fw_steps.specs.Sites.{sites_of}

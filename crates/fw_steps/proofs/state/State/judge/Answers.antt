@@ -1,4 +1,4 @@
--- A verdict on what the device at a place has written.
+-- A verdict on the image that the device at a place has written.
 use Rattle.std.proofs.Common.{◌∙◌, refl, sym}
 use Rattle.std.proofs.lemmas.List.{with_items_is}
 use Rattle.fw_steps.proofs.Leading.{verdict_leads}
