@@ -1,4 +1,4 @@
-//! What becomes of packets on a rough link.
+//! The fates of packets on a rough link.
 
 ghost use Rattle.std.specs.Prelude.{◌≡◌, ◌<◌, ◌%◌, false, true};
 ghost use Rattle.fw_edge.specs.Fates.{fate_of, generator_after, word_after, word_of};
@@ -6,21 +6,21 @@ ghost use Rattle.fw_edge.specs.Fates.{fate_of, generator_after, word_after, word
 use rand_core::utils::NextWord;
 use rand_pcg::Pcg32;
 
-/// How rough a link is, and by which chances.
+/// The probabilities and limits of a rough link.
 #[derive(Clone, Copy, Debug, PartialEq, Eq)]
 pub struct Roughness {
-    /// How many of a hundred packets are lost, on the average: 0 to 100.
+    /// The percentage of packets that are lost, on average: 0 to 100.
     pub loss: u8,
-    /// How many of a hundred that aren't lost come twice.
+    /// The percentage of the other packets that are duplicated.
     pub duplicate: u8,
-    /// How many turns a packet is late at most.
+    /// The largest delay of a packet, in turns.
     pub delay: u8,
-    /// What the chances begin with: the same seed gives the same again.
+    /// The seed of the random numbers: the same seed gives the same fates.
     pub seed: u64,
 }
 
 impl Roughness {
-    /// No roughness: each packet comes once, and at once.
+    /// Returns no roughness: each packet arrives once, without delay.
     pub fn none() -> Roughness
         ensures loss { result.loss ≡ 0 }
         ensures duplicate { result.duplicate ≡ 0 }
@@ -36,18 +36,19 @@ impl Roughness {
     }
 }
 
-/// What becomes of a packet: how often it comes, and each time how many turns late.
+/// The fate of a packet: the number of its copies, and the delay of each in turns.
 #[derive(Clone, Copy, Debug, PartialEq, Eq)]
 pub enum Fate {
-    /// It never comes.
+    /// No copy arrives.
     Lost,
-    /// It comes once.
+    /// One copy arrives.
     Once(u32),
-    /// It comes twice.
+    /// Two copies arrive.
     Twice(u32, u32),
 }
 
-/// The next number of a generator, below a bound. Below 1 nothing is divided: a link that holds nothing back asks so twice a packet.
+/// The next number of a generator, below `bound`. A bound of 1 skips the division: a link without
+/// delays uses it twice for each packet.
 #[tactic(auto, unfolding(crate::specs::Fates::word_of, crate::specs::Fates::word_after))]
 fn below(generator: &mut Pcg32, bound: u32) -> u32
     requires { 0 < bound }
@@ -62,7 +63,7 @@ fn below(generator: &mut Pcg32, bound: u32) -> u32
     word % bound
 }
 
-/// What becomes of the next packet. It takes four numbers of the generator, whatever that is.
+/// The fate of the next packet. It takes four numbers of the generator, whatever the fate.
 pub(crate) fn next_fate(roughness: Roughness, generator: &mut Pcg32) -> Fate
     ensures fate { result ≡ fate_of roughness generator.old }
     ensures left { generator.new ≡ generator_after generator.old }
