@@ -1,4 +1,4 @@
--- A packet that is heard may be delivered.
+-- A received packet that is found may be delivered.
 use Rattle.std.proofs.Common.{◌≡◌, ◌≤◌, ◌+◌, ◌-◌, ◌==◌, ◌&&◌, ◌||◌, ◌∙◌, ◌⊎◌, ℕ, List, [], true, false, if◌then◌else◌, nat_lt, Bool, Option, Some, None, inl, inr, refl, slice_get, ap, arith}
 use Rattle.std.specs.Prelude.{IsSomeAnd, is_some}
 use Rattle.std.proofs.lemmas.Bool.{eq-eqb}
@@ -10,7 +10,7 @@ use Rattle.fw_steps.specs.Worlds.{SiteOf, WorldOf, packets_at, packets_of, site_
 use Rattle.fw_steps.specs.declared.step.Step.TheVariants as steps
 use Rattle.fw_edge.specs.Hearing.{IsHeard, IsLiving, LivesWith}
 
--- a packet is of a device that is there
+-- a packet belongs to an existing device
 no_packet : (now : ℕ) (bytes : List ℕ) (b : Bool) (place : ℕ) → IsSomeAnd (if b then slice_get {X = Sent} [] place else None) (LivesWith now bytes) → ⊥
 no_packet now bytes true place h = h
 no_packet now bytes false place h = h

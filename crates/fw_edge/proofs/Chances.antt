@@ -1,4 +1,4 @@
--- What becomes of a packet, by whether it is lost and whether it comes twice.
+-- The fate of a packet, by whether it is lost and whether it is duplicated.
 use Rattle.std.proofs.Common.{◌≡◌, ◌<◌, ◌≤◌, ◌+◌, ◌%◌, ℕ, Bool, true, false, refl, sym, arith, nat_lt, if◌then◌else◌}
 use Rattle.std.proofs.lemmas.Bool.{ltb-false, ltb-true}
 use Rattle.fw_edge.specs.Fates.{fate_by, fate_of, word_after, word_of}

@@ -1,4 +1,4 @@
--- Steps that are due, as the world before them has it.
+-- Steps that are due, as of the world before them.
 use Rattle.std.proofs.Common.{◌≡◌, ◌≢◌, ◌≤◌, ◌<◌, ◌+◌, ◌++◌, ◌∙◌, ℕ, zero, suc, List, [], ◌∷◌, true, if◌then◌else◌, Option, Some, None, is_some, length, slice_get, take, append_assoc, append-nil, refl, sym, ap, subst, arith}
 use Rattle.std.specs.Prelude.{option_map, option_to_list}
 use Rattle.std.proofs.lemmas.Bool.{ne_eqb}
@@ -24,11 +24,11 @@ use Rattle.fw_edge.specs.declared.driving.EdgeFault.{EdgeFault}
 use Rattle.fw_edge.proofs.Going.{drives_same, run_append}
 use Rattle.fw_edge.proofs.Rising.{map_length}
 
--- A step that is due for one device leaves what is due for another.
+-- A step that is due for one device doesn't change what is due for another.
 pub record ForOne (due : WorldOf → ℕ → Option Step) : Type 0 where
   pub apart : (w v : WorldOf) (own other : ℕ) (s : Step) → due w own ≡ Some s → StepsTo w s v → own ≢ other → due v other ≡ due w other
 
--- a verdict does
+-- this holds for a verdict
 judged_keeps : (w v : WorldOf) (own other : ℕ) (verdict : Verdict) → StepsTo w (steps.Verdict own verdict) v → own ≢ other → site_for v.sites other ≡ site_for w.sites other
 judged_keeps w v own other verdict l differ =
     ap (λ x. site_for x.sites other) l.after
@@ -46,7 +46,7 @@ verdict_apart w v own other s (Some verdict) is l differ =
 pub verdicts_for_one : ForOne verdict_for
 verdicts_for_one = record { apart = λ w v own other s is l differ. verdict_apart w v own other s (awaited_in (site_for w.sites own)) is l differ }
 
--- an activation does
+-- this holds for an activation
 activated_keeps : (w : WorldOf) (own other : ℕ) (session : Option SessionOf) → own ≢ other → half_for (activates_on w own session).agent other ≡ half_for w.agent other
 activated_keeps w own other None differ = refl
 activated_keeps w own other (Some s) differ =
@@ -67,7 +67,7 @@ activation_apart w v own other s (Some x) is l differ =
 pub activations_for_one : ForOne activation_for
 activations_for_one = record { apart = λ w v own other s is l differ. activation_apart w v own other s (ready_for w.agent own) is l differ }
 
--- What is due at a place, by the identifier there.
+-- The step that is due at a place, by the identifier there.
 abbrev due_by : (WorldOf → ℕ → Option Step) → WorldOf → Option ℕ → Option Step
 due_by due w None = None
 due_by due w (Some e) = due w e
@@ -90,7 +90,7 @@ taken_all w u v before mid after ss None h k =
 taken_all w u v before mid after ss (Some s) h k =
     (run_append w u v ss (s ∷ []) h.0 (v, k.0, refl), k.1 ∙ ap (λ xs. xs ++ s ∷ []) h.1 ∙ append_assoc before ss (s ∷ []))
 
--- it leaves what is due behind it
+-- it doesn't change what is due after it
 behind_by : (due : WorldOf → ℕ → Option Step) (w v : WorldOf) (before after : List Step) (own : ℕ) (s : Option Step) (o : Option ℕ) → ForOne due → due w own ≡ s
     → TakesIf w before s v after → ((e : ℕ) → o ≡ Some e → own ≢ e) → due_by due v o ≡ due_by due w o
 behind_by due w v before after own s None one is h differ = refl
@@ -113,7 +113,7 @@ behind due w v before after i j one apart lt h =
     ∙ behind_place due w v before after i j (slice_get (eids_of w.sites) i) one apart lt refl (subst (λ s. TakesIf w before s v after) (at_place due w i) h)
     ∙ sym (at_place due w j)
 
--- What is due at the first so many places is taken, and what is due behind them is what it was.
+-- The due steps of the first `n` places are taken, and those of the later places are unchanged.
 pub record Due (due : WorldOf → ℕ → Option Step) (n : ℕ) (w : WorldOf) (before : List Step) (v : WorldOf) (after : List Step) : Type 0 where
   pub taken : TakesAll w before (all_due due w (take n (eids_of w.sites))) v after
   pub eids : eids_of v.sites ≡ eids_of w.sites
@@ -147,14 +147,14 @@ due_next due n w u v before mid after one apart earlier h = record {
         ap (λ s. all_due due w (take n (eids_of w.sites)) ++ option_to_list s) (at_place due w n) ∙ sym (one_more due w (eids_of w.sites) n)
         ∙ ap (λ k. all_due due w (take k (eids_of w.sites))) next
 
--- all that is due, as the world before has it
+-- all due steps, as of the world before
 pub due_all : (due : WorldOf → ℕ → Option Step) (n : ℕ) (w v : WorldOf) (before after : List Step) → length w.sites ≤ n → Due due n w before v after
     → TakesAll w before (all_due due w (eids_of w.sites)) v after
 due_all due n w v before after le h =
     subst (λ es. TakesAll w before (all_due due w es) v after)
     (take_all n (eids_of w.sites) (let same = map_length (λ x. x.node.endpoint.eid) w.sites in omega arith)) h.taken
 
--- What is due for one device stands behind what is due for those before it.
+-- The due step of one device comes after the due steps of the devices before it.
 record Split (due : WorldOf → ℕ → Option Step) (w : WorldOf) (es : List ℕ) (n : ℕ) : Type 0 where
   pub refused : Step
   pub rest : List Step

@@ -1,14 +1,14 @@
--- Links of which one failed, or none.
+-- Links of which one or none failed.
 use Rattle.std.proofs.Common.{◌≡◌, ◌<◌, ◌+◌, ◌∙◌, ℕ, zero, suc, List, [], ◌∷◌, drop, get_or, inl, inr, length, map, slice_set, ap, subst, arith}
 use Rattle.std.proofs.Math.Seq.{map-set_same}
 use Rattle.fw_edge.specs.Ledgers.{ReportsFaultOfLinks, ReportsLinkFault, StopsAt}
 use Rattle.fw_edge.specs.declared.driving.EdgeFault.{EdgeFault}
 
--- one is replaced by another that counts the same
+-- one link is replaced by another with the same count
 pub same_from : {A B : Type 0} (f : A → B) (os : List B) (xs : List A) (i : ℕ) (d y : A) → map f xs ≡ os → f y ≡ f (get_or xs i d) → map f (slice_set xs i y) ≡ os
 same_from f os xs i d y e same = map-set_same f xs i y d same ∙ e
 
--- those behind a place are as they were, also once the one there was called
+-- the links after a place are unchanged, also after a call of the link at the place
 behind_set : {A : Type 0} (i : ℕ) (xs os : List A) (y : A) → i < length xs → i < length os → drop i xs ≡ drop i os → drop (suc i) (slice_set xs i y) ≡ drop (suc i) os
 behind_set i [] os y lt within e = absurd (omega arith)
 behind_set i (x ∷ xs) [] y lt within e = absurd (omega arith)
@@ -18,7 +18,7 @@ behind_set (suc i) (x ∷ xs) (o ∷ os) y lt within e = behind_set i xs os y (o
 pub behind_next : {A : Type 0} (i : ℕ) (xs os : List A) (y : A) → i < length xs → i < length os → drop i xs ≡ drop i os → drop (i + 1) (slice_set xs i y) ≡ drop (i + 1) os
 behind_next i xs os y lt within e = let next : suc i ≡ i + 1 = omega arith in subst (λ n. drop n (slice_set xs i y) ≡ drop n os) next (behind_set i xs os y lt within e)
 
--- where those before a place count as they did, and the call of the one there ended so
+-- the counts before the place are unchanged, and the call of the link there ended with this fault
 pub stops_put : {A : Type 0} (e : EdgeFault) (f : A → ℕ) (i : ℕ) (xs os : List A) (d y : A) → i < length xs → i < length os → map f xs ≡ map f os → drop i xs ≡ drop i os
     → ReportsLinkFault e (f (get_or xs i d)) (f y) → StopsAt e f os (slice_set xs i y)
 stops_put e f i [] os d y lt within kept behind told = absurd (omega arith)
@@ -32,7 +32,7 @@ stops_put e f (suc i) (x ∷ xs) (o ∷ os) d y lt within kept behind told =
     let rest : map f xs ≡ map f os = cc in
     inr (first, stops_put e f i xs os d y (omega arith) (omega arith) rest behind told)
 
--- it is told of all of them
+-- the counts of all links are unchanged
 both_same : (m n : ℕ) (ms ns : List ℕ) → n ≡ m → ns ≡ ms → n ∷ ns ≡ m ∷ ms
 both_same m n ms ns e h = cc
 

@@ -1,4 +1,4 @@
--- Frames that are read piece by piece.
+-- Frames that are read in pieces.
 use Rattle.std.proofs.Common.{◌≡◌, ◌≤◌, ◌<◌, ℕ, List, [], ◌∷◌, ◌++◌, length, arith, Option}
 use Rattle.std.specs.Io.KnownBytes.{Consumes, IsAtEnd}
 use Rattle.std.proofs.KnownBytes.{Consumes-trans}
@@ -6,7 +6,7 @@ use Rattle.byteorder.specs.Endian.{little_number}
 use Rattle.mctp_wire.specs.declared.unit.Unit.{«Unit»}
 use Rattle.fw_edge.specs.Frames.{IsCut, PartOf, ReadCut, ReadPart, most_of}
 
--- a length, and less than it says
+-- a length, and fewer bytes after it
 pub cut_after : (u : «Unit») (head rest : List ℕ) → length head ≡ 2 → length rest < little_number 2 head → little_number 2 head ≤ most_of u → IsCut u (head ++ rest)
 cut_after u [] rest two less most = absurd (omega (arith, two))
 cut_after u (low ∷ []) rest two less most = absurd (omega (arith, two))

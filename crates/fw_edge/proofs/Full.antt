@@ -1,4 +1,4 @@
--- A tick that nobody misses may be taken, wherever the clock isn't at its end.
+-- A tick that no node misses is allowed unless the clock is at its last tick.
 use Rattle.std.proofs.Common.{◌≡◌, ◌<◌, ◌-◌, ◌^◌, true, List, [], ◌∷◌, None, refl}
 use Rattle.std.proofs.lemmas.Bool.{lt-ltb}
 use Rattle.std.specs.List.{list_all}

@@ -18,7 +18,7 @@ use Rattle.fw_edge.specs.Drives.{Drives}
 use Rattle.fw_edge.specs.Ledgers.{NoCountFalls, packet_counts}
 use Rattle.fw_edge.proofs.Rising.{map_length}
 
--- no count falls where nothing happens, and where it doesn't twice
+-- no count decreases if nothing happens, nor in two steps of which neither decreases it
 pub fell_none : (os : List ℕ) → NoCountFalls os os
 fell_none [] = tt
 fell_none (o ∷ os) = (omega arith, fell_none os)
@@ -37,13 +37,13 @@ fell_length [] (n ∷ ns) h = absurd h
 fell_length (o ∷ os) [] h = absurd h
 fell_length (o ∷ os) (n ∷ ns) h = let rest = fell_length os ns h.1 in omega arith
 
--- a pair is replaced by itself with more packets
+-- a pair is replaced by the pair with more packets
 put_gains : (xs : List SiteOf) (i : ℕ) (x y : SiteOf) → slice_get xs i ≡ Some x → length x.packets ≤ length y.packets → NoCountFalls (packet_counts xs) (packet_counts (slice_set xs i y))
 put_gains [] i x y there le = tt
 put_gains (s ∷ xs) zero x y there le = let same : s ≡ x = cc in (subst (λ z. length z.packets ≤ length y.packets) (sym same) le, fell_none (packet_counts xs))
 put_gains (s ∷ xs) (suc i) x y there le = (omega arith, put_gains xs i x y there le)
 
--- or with as many
+-- or with the same number of packets
 put_keeps : (xs : List SiteOf) (i : ℕ) (x y : SiteOf) → slice_get xs i ≡ Some x → y.packets ≡ x.packets → packet_counts (slice_set xs i y) ≡ packet_counts xs
 put_keeps [] i x y there e = refl
 put_keeps (s ∷ xs) zero x y there e = let same : s ≡ x = cc in ap (λ ps. length ps ∷ packet_counts xs) (subst (λ z. y.packets ≡ z.packets) (sym same) e)
@@ -55,7 +55,7 @@ gains_same xs ys e = subst (NoCountFalls (packet_counts xs)) (sym e) (fell_none 
 more_sent : (ps qs : List Sent) → length ps ≤ length (ps ++ qs)
 more_sent ps qs = rw (length-append ps qs) (omega arith)
 
--- what the agent sends
+-- a packet that the agent sends
 posted_gains : (now : ℕ) (xs : List SiteOf) (packet : List ℕ) (place : Option ℕ) (x : Option SiteOf) → site_at xs place ≡ x → NoCountFalls (packet_counts xs) (packet_counts (post_at now xs packet place x))
 posted_gains now xs packet (Some i) (Some x) is = put_gains xs i x (record x { packets = x.packets ++ sent_at now packet ∷ [] }) is (more_sent x.packets (sent_at now packet ∷ []))
 posted_gains now xs packet (Some i) None is = fell_none (packet_counts xs)
@@ -82,7 +82,7 @@ tick_gains missed w =
     fell_on (packet_counts w.sites) (packet_counts (posts (w.now + 1) w.sites sent)) (packet_counts (world_after_tick missed w).sites)
     (posts_gain (w.now + 1) w.sites sent) (ticks_gain missed (w.now + 1) (posts (w.now + 1) w.sites sent))
 
--- a packet comes
+-- a delivered packet
 device_gains : (works : Bool) (faults : ℕ) (w : WorldOf) (bytes : List ℕ) (place : Option ℕ) (x : Option SiteOf) → site_at w.sites place ≡ x
     → NoCountFalls (packet_counts w.sites) (packet_counts (at_device works faults w bytes place x).sites)
 device_gains works faults w bytes (Some i) (Some x) is =
@@ -119,7 +119,7 @@ activation_keeps works faults w device = by_session (ready_for w.agent device)
     by_session None = refl
     by_session (Some s) = refl
 
--- a node starts anew
+-- a node restarts
 restarted_keeps : (xs : List SiteOf) (place : Option ℕ) (x : Option SiteOf) → site_at xs place ≡ x → packet_counts (site_restarts xs place x) ≡ packet_counts xs
 restarted_keeps xs (Some i) (Some x) is = put_keeps xs i x (record x { node = device_restarts x.node }) is refl
 restarted_keeps xs (Some i) None is = refl
@@ -129,7 +129,7 @@ restart_keeps : (w : WorldOf) (agent : Bool) (u v : WorldOf) → u.sites ≡ w.s
 restart_keeps w true u v e k = ap packet_counts e
 restart_keeps w false u v e k = k
 
--- the event log is asked
+-- an event log request
 log_keeps : (w : WorldOf) (bytes : List ℕ) → (world_after_log_request w bytes).sites ≡ w.sites
 log_keeps w [] = refl
 log_keeps w (command ∷ bytes) = refl
@@ -160,7 +160,7 @@ run_gains w v (s ∷ ss) h =
 pub drives_gain : (w : WorldOf) (before : List Step) (v : WorldOf) (after : List Step) → Drives w before v after → NoCountFalls (packet_counts w.sites) (packet_counts v.sites)
 drives_gain w before v after h = run_gains w v h.steps h.run
 
--- and the pairs stay as many as they are
+-- and the number of pairs is unchanged
 pub as_many_sites : (w : WorldOf) (before : List Step) (v : WorldOf) (after : List Step) → Drives w before v after → length v.sites ≡ length w.sites
 as_many_sites w before v after h =
     sym (map_length (λ x. length x.packets) v.sites) ∙ fell_length (packet_counts w.sites) (packet_counts v.sites) (drives_gain w before v after h)

@@ -1,4 +1,4 @@
--- Steps that follow steps.
+-- Steps after steps.
 use Rattle.std.proofs.Common.{◌≡◌, ◌+◌, ◌++◌, ◌∙◌, ℕ, List, [], ◌∷◌, true, append_assoc, append-nil, refl, sym, ap, subst, arith}
 use Rattle.std.proofs.lemmas.List.Folds.{list_all-append}
 use Rattle.std.proofs.lemmas.List.Sums.{sum_by-append}
@@ -12,7 +12,7 @@ pub run_append : (w v u : WorldOf) (ss ts : List Step) → Run w ss v → Run v 
 run_append w v u [] ts e k = subst (λ x. Run x ts u) e k
 run_append w v u (s ∷ ss) ts h k = (h.0, h.1, run_append h.0 v u ss ts h.2 k)
 
--- and steps that a run takes followed by such steps are such steps
+-- steps that a run takes by itself, followed by such steps, are such steps
 pub driven_append : (ss ts : List Step) → AreDriven ss → AreDriven ts → AreDriven (ss ++ ts)
 driven_append ss ts h k = rw (list_all-append is_driven ss ts, h) k
 
@@ -54,7 +54,7 @@ goes_on w v u before mid after t d t1 d1 h k = record {
   delivers_rise = let a = h.delivers_rise in let b = k.delivers_rise in omega arith;
 }
 
--- and then others, as far as they were taken
+-- and then other steps, as far as they were taken
 pub goes_off : (w v u : WorldOf) (before mid after : List Step) (t d : ℕ) → DrivesCounted w before v mid t d → Drives v mid u after → Drives w before u after
 goes_off w v u before mid after t d h k = drives_on w v u before mid after h.drives k
 

@@ -1,4 +1,4 @@
--- Packets that are looked through from the last one on.
+-- Packets that are searched from the last one on.
 use Rattle.std.proofs.Common.{◌≡◌, ◌≤◌, ◌<◌, ◌+◌, ◌-◌, ℕ, zero, suc, List, [], ◌∷◌, if◌then◌else◌, inl, inr, length, slice_get, Some, None, sym, ap, subst, arith}
 use Rattle.std.specs.Prelude.{IsSomeAnd}
 use Rattle.std.proofs.lemmas.Bool.{lt-ltb}
@@ -7,12 +7,12 @@ use Rattle.exch_lane.specs.Lanes.{Sent, item_numbered}
 use Rattle.fw_steps.specs.Dead.{AreDead}
 use Rattle.fw_edge.specs.Hearing.{IsLastLiving, IsLiving, LivesWith}
 
--- no packet behind a number lives
+-- no packet after a number is alive
 pub record LivesNoneBehind (now : ℕ) (packets : List Sent) (bytes : List ℕ) (number : ℕ) : Type 0 where
   pub within : number ≤ length packets
   pub none : (other : ℕ) → IsLiving now packets bytes other → other ≤ number
 
--- a number from 1 on
+-- a number from 1
 numbered_pos : {A : Type 0} (xs : List A) (n : ℕ) → 0 < n → item_numbered xs n ≡ slice_get xs (n - 1)
 numbered_pos xs n lt = ap (λ b. if b then slice_get xs (n - 1) else None) (lt-ltb 0 n lt)
 
@@ -36,7 +36,7 @@ none_behind_all now packets bytes number is = record {
   none = λ other h. let most : other ≤ length packets = at_most now bytes packets other h in omega arith;
 }
 
--- the last of those that are left doesn't live
+-- the last of the remaining packets isn't alive
 pub none_behind_less : (now : ℕ) (packets : List Sent) (bytes : List ℕ) (number : ℕ) → 0 < number → (IsSomeAnd (slice_get packets (number - 1)) (LivesWith now bytes) → ⊥)
     → LivesNoneBehind now packets bytes number → LivesNoneBehind now packets bytes (number - 1)
 none_behind_less now packets bytes number some dead h = record {
@@ -53,12 +53,12 @@ none_behind_less now packets bytes number some dead h = record {
       | inr differ ↦ (let le : other ≤ number = h.none other l in let ne = differ.1 in omega arith)
     ]
 
--- it does
+-- the last of the remaining packets is alive
 pub last_lives : (now : ℕ) (packets : List Sent) (bytes : List ℕ) (number : ℕ) → 0 < number → IsSomeAnd (slice_get packets (number - 1)) (LivesWith now bytes)
     → LivesNoneBehind now packets bytes number → IsLastLiving now packets bytes (Some number)
 last_lives now packets bytes number some lives h = (subst (λ o. IsSomeAnd o (LivesWith now bytes)) (sym (numbered_pos packets number some)) lives, h.none)
 
--- a dead one doesn't
+-- a dead packet isn't alive
 dead_at : (now : ℕ) (bytes : List ℕ) (packets : List Sent) (count place : ℕ) → place < count → AreDead now count packets → IsSomeAnd (slice_get packets place) (LivesWith now bytes) → ⊥
 dead_at now bytes packets zero place lt are lives = absurd (omega arith)
 dead_at now bytes [] (suc n) place lt are lives = are
@@ -73,7 +73,7 @@ dead_there now bytes packets count zero le are lives = lives
 dead_there now bytes packets count (suc n) le are lives =
     dead_at now bytes packets count (suc n - 1) (omega arith) are (living_at now bytes packets (suc n) (omega arith) lives)
 
--- those that are left are dead
+-- the remaining packets are dead
 pub none_lives : (now : ℕ) (packets : List Sent) (bytes : List ℕ) (number dead : ℕ) → number ≤ dead → AreDead now dead packets → LivesNoneBehind now packets bytes number
     → IsLastLiving now packets bytes None
 none_lives now packets bytes number dead none are h = λ other lives.

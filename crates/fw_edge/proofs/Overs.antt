@@ -7,7 +7,7 @@ use Rattle.fw_steps.specs.Worlds.{SiteOf, WorldOf}
 use Rattle.fw_steps.specs.declared.step.Step.{Step}
 use Rattle.fw_edge.specs.Drives.{all_over, are_over, is_over}
 
--- at a place, and behind it
+-- at a place, and after it
 over_next : (n : AgentOf) (xs : List SiteOf) (i : ℕ) (node : DeviceNodeOf) → option_map (λ x. x.node) (slice_get xs i) ≡ Some node
     → are_over n (drop i xs) ≡ (is_over (half_for n node.endpoint.eid) && are_over n (drop (suc i) xs))
 over_next n [] i node e = absurd (cc)
@@ -18,17 +18,18 @@ pub over_at : (n : AgentOf) (xs : List SiteOf) (i : ℕ) (node : DeviceNodeOf) �
     → are_over n (drop i xs) ≡ (is_over (half_for n node.endpoint.eid) && are_over n (drop (i + 1) xs))
 over_at n xs i node e = let next : suc i ≡ i + 1 = omega arith in over_next n xs i node e ∙ ap (λ k. is_over (half_for n node.endpoint.eid) && are_over n (drop k xs)) next
 
--- one isn't over
+-- one session isn't over
 pub is_not_over : (n : AgentOf) (xs : List SiteOf) (i : ℕ) (node : DeviceNodeOf) (all : Bool) → option_map (λ x. x.node) (slice_get xs i) ≡ Some node
     → is_over (half_for n node.endpoint.eid) ≡ false → all ≡ are_over n (drop i xs) → false ≡ all
 is_not_over n xs i node all at is_not e = sym (e ∙ over_at n xs i node at ∙ ap (λ b. b && are_over n (drop (i + 1) xs)) is_not)
 
--- one is, and the question is what the others are
+-- one session is over, so the result is that of the others
 pub over_later : (n : AgentOf) (xs : List SiteOf) (i : ℕ) (node : DeviceNodeOf) (all : Bool) → option_map (λ x. x.node) (slice_get xs i) ≡ Some node
     → is_over (half_for n node.endpoint.eid) ≡ true → all ≡ are_over n (drop i xs) → all ≡ are_over n (drop (i + 1) xs)
 over_later n xs i node all at is e = e ∙ over_at n xs i node at ∙ ap (λ b. b && are_over n (drop (i + 1) xs)) is
 
--- nothing is taken from a world in which each session is over: where one is not, the world is another
+-- a run takes no step from a world in which each session is over: if some session isn't over, the
+-- world is another
 pub still_on : (w v u : WorldOf) (before mid after : List Step) (b : Bool) → (all_over w ≡ true → (v ≡ w) × (mid ≡ before)) → b ≡ all_over v → b ≡ false
     → all_over w ≡ true → (u ≡ w) × (after ≡ before)
 still_on w v u before mid after b h is unlike over =

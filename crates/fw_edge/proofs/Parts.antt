@@ -29,7 +29,7 @@ stopped_refused t taken gave e w ss written olds news h = record {
   failed = told_at e (λ l. (t l).failures) olds news h.failed;
 }
 
--- an end gives no answer, behind the writing
+-- an end gives no answer, after the writing
 pub stopped_reading : {A : Type 0} (t : A → Tally) (taken gave : A → LinkBytes) (e : EdgeFault) (w v : WorldOf) (before after : List Step) (written : List ℕ) (olds mids news : List A)
     → map (λ l. (t l).failures) mids ≡ map (λ l. (t l).failures) olds → RoundErr t e w before mids v after news
     → PartErr t taken gave (RoundStops e (eids_of w.sites)) e w before written olds v after news
@@ -41,7 +41,7 @@ stopped_reading t taken gave e w v before after written olds mids news kept h = 
   failed = subst (λ os. ReportsFaultOfLinks e os (map (λ l. (t l).failures) news)) kept (told_at e (λ l. (t l).failures) mids news h.failed);
 }
 
--- a part stops behind another
+-- a part stops after another
 pub stopped_later : {A : Type 0} (t : A → Tally) (taken gave : A → LinkBytes) (later stops : WorldOf → List Step → LinksOf → WorldOf → List Step → Type 0) (e : EdgeFault) (w u v : WorldOf)
     (before mid after : List Step) (ws us : List ℕ) (olds mids news : List A) (delivers : ℕ) → DrivesCounted w before u mid 0 delivers
     → map (λ l. (t l).failures) mids ≡ map (λ l. (t l).failures) olds → PartErr t taken gave later e u mid us mids v after news
@@ -66,7 +66,7 @@ exchanged_none t ws links given none same = record {
   sent = sent_none ws (map (λ l. (t l).sent) links) (rw (map_length (λ l. (t l).sent) links) same);
 }
 
--- more is
+-- more is exchanged
 pub exchanged_on : {A : Type 0} (t : A → Tally) (k j n m all : ℕ) (ws us vs : List ℕ) (olds mids news : List A) → all ≡ n + m → LinksExchangeOk t k n ws us olds mids
     → LinksExchangeOk t j m us vs mids news → LinksExchangeOk t (k + j) all ws vs olds news
 exchanged_on t k j n m all ws us vs olds mids news sum h g = record {
@@ -76,7 +76,7 @@ exchanged_on t k j n m all ws us vs olds mids news sum h g = record {
   sent = sent_on ws us vs (map (λ l. (t l).sent) olds) (map (λ l. (t l).sent) mids) (map (λ l. (t l).sent) news) h.sent g.sent;
 }
 
--- links were asked so often too
+-- links were also asked fewer times
 pub exchanged_less : {A : Type 0} (t : A → Tally) (k j n : ℕ) (ws us : List ℕ) (olds news : List A) → k ≤ j → LinksExchangeOk t j n ws us olds news → LinksExchangeOk t k n ws us olds news
 exchanged_less t k j n ws us olds news le h = record {
   kept = h.kept;
@@ -104,18 +104,18 @@ exchanged_wrote t k n ws us vs olds mids news h g = record {
   sent = sent_on ws us vs (map (λ l. (t l).sent) olds) (map (λ l. (t l).sent) mids) (map (λ l. (t l).sent) news) h.sent g.sent;
 }
 
--- memory is no link's fault, and not the clock's
+-- lack of memory is neither a link's fault nor the clock's
 pub told_kept : (e : EdgeFault) (os ns : List ℕ) → e ≡ faults.Memory → ns ≡ os → ReportsFaultOfLinks e os ns
 told_kept e os ns is same = (λ other. absurd (cc), λ other. same)
 
 pub stops_on : (e : EdgeFault) (w v : WorldOf) (before after : List Step) → e ≡ faults.Memory → w.now ≢ 2 ^ 32 - 1 → StopsTurn e w before v after
 stops_on e w v before after is on = (λ other. absurd (cc), λ other. on)
 
--- behind turns in which no link failed
+-- after turns in which no link failed
 pub told_behind : (e : EdgeFault) (os ms ns : List ℕ) → ms ≡ os → ReportsFaultOfLinks e ms ns → ReportsFaultOfLinks e os ns
 told_behind e os ms ns same h = subst (λ xs. ReportsFaultOfLinks e xs ns) same h
 
--- the clock stands at its end where that is told
+-- the clock is at its last tick if that is the fault
 pub clock_at : (e : EdgeFault) (w v : WorldOf) (before after : List Step) → StopsTurn e w before v after → e ≡ faults.Step → v.now ≡ 2 ^ 32 - 1
 clock_at e w v before after h is = let stands = h.0 is in subst (λ x. x.now ≡ 2 ^ 32 - 1) (sym stands.1) stands.0
 
@@ -128,7 +128,7 @@ driven_none t w ss ws links all same = record {
   sent = sent_none (packet_counts w.sites) (map (λ l. (t l).sent) links) (rw (map_length (λ l. (t l).sent) links, sym all) same);
 }
 
--- a turn more
+-- one more turn
 pub driven_on : {A : Type 0} (t : A → Tally) (turns : ℕ) (w u v : WorldOf) (before mid after : List Step) (ws us : List ℕ) (olds mids news : List A) (known more foreign : ℕ)
     → ws ≡ packet_counts u.sites → us ≡ packet_counts v.sites → delivers_in after ≡ delivers_in mid + known → LinksDriveOk t turns w before olds u mid mids foreign
     → LinksExchangeOk t 2 (known + more) ws us mids news → LinksDriveOk t (turns + 1) w before olds v after news (foreign + more)

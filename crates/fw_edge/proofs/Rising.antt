@@ -3,7 +3,7 @@ use Rattle.std.proofs.Common.{◌≡◌, ◌≤◌, ◌<◌, ◌+◌, ◌-◌, �
 use Rattle.std.proofs.lemmas.List.{map-set}
 use Rattle.fw_edge.specs.Ledgers.{EachCountGrows, AreBelow, AreGiven, CountsGrowTogether, total}
 
--- by nothing
+-- by 0
 pub rose_none : (os : List ℕ) → EachCountGrows 0 os os
 rose_none [] = tt
 rose_none (o ∷ os) = (λ lt. omega arith, rose_none os)
@@ -35,14 +35,14 @@ together_on k j os ms ns h g = λ b. let second = g b in let first = h second.0 
     both : total ns ≡ total ms + j → total ms ≡ total os + k → total ns ≡ total os + (k + j)
     both a c = omega arith
 
--- The counts before a place rose, and the others are as they were.
+-- The counts before a place rose, and the others are unchanged.
 abbrev pub RoseBefore : ℕ → ℕ → List ℕ → List ℕ → Type 0
 RoseBefore most zero os ns = ns ≡ os
 RoseBefore most (suc i) [] [] = Unit {0}
 RoseBefore most (suc i) (o ∷ os) (n ∷ ns) = (n < 2 ^ 64 - 1 → o + most ≤ n) × RoseBefore most i os ns
 RoseBefore most (suc i) os ns = ⊥
 
--- the one at the place rises too
+-- the count at the place rises too
 rose_put : (k i : ℕ) (os ns : List ℕ) (y d : ℕ) → i < length ns → (y < 2 ^ 64 - 1 → get_or ns i d + k ≤ y) → RoseBefore k i os ns → RoseBefore k (suc i) os (slice_set ns i y)
 rose_put k zero os [] y d lt more h = absurd (omega arith)
 rose_put k zero os (n ∷ ns) y d lt more h = subst (λ xs. RoseBefore k 1 xs (y ∷ ns)) h (more, refl)
@@ -50,7 +50,7 @@ rose_put k (suc i) os [] y d lt more h = absurd (omega arith)
 rose_put k (suc i) [] (n ∷ ns) y d lt more h = absurd h
 rose_put k (suc i) (o ∷ os) (n ∷ ns) y d lt more h = (h.0, rose_put k i os ns y d (omega arith) more h.1)
 
--- all did
+-- all counts rose
 pub rose_all : (k i : ℕ) (os ns : List ℕ) → length os ≤ i → RoseBefore k i os ns → EachCountGrows k os ns
 rose_all k zero [] ns le h = subst (EachCountGrows k []) (sym h) tt
 rose_all k zero (o ∷ os) ns le h = absurd (omega arith)
@@ -59,7 +59,7 @@ rose_all k (suc i) [] (n ∷ ns) le h = absurd h
 rose_all k (suc i) (o ∷ os) [] le h = absurd h
 rose_all k (suc i) (o ∷ os) (n ∷ ns) le h = (h.0, rose_all k i os ns (omega arith) h.1)
 
--- one rises: so all do together
+-- one count rises, so the sum does
 together_put : (h i : ℕ) (ns : List ℕ) (y d : ℕ) → i < length ns → (y < 2 ^ 64 - 1 → y ≡ get_or ns i d + h) → CountsGrowTogether h ns (slice_set ns i y)
 together_put h i [] y d lt more = absurd (omega arith)
 together_put h zero (n ∷ ns) y d lt more = λ b. let is : y ≡ n + h = more b.0 in ((lower is b.0, b.1), sum_of is)

@@ -1,4 +1,4 @@
--- Packets that are held back, and go out.
+-- Packets that are held back, and then passed on.
 use Rattle.std.proofs.Common.{◌≡◌, ◌<◌, ◌≤◌, ◌+◌, ◌-◌, ◌^◌, ◌++◌, ◌∙◌, ℕ, Bool, true, false, List, [], ◌∷◌, append-nil, get_or, inl, inr, length, map, refl, sym, ap, subst, take, arith}
 use Rattle.std.proofs.lemmas.Bool.{le-ltb, lt-ltb}
 use Rattle.std.proofs.lemmas.List.{length-append, map-append, take_more}
@@ -11,12 +11,12 @@ use Rattle.fw_edge.specs.Roughening.{GoOut, DelayedPacketOf, held_of, helds_of, 
 use Rattle.fw_edge.specs.declared.rough.DelayedPacket.{DelayedPacket}
 use Rattle.fw_edge.specs.declared.tally.Tally.{Tally}
 
--- one more goes out
+-- one more is passed on
 pub out_more : (hs : List DelayedPacketOf) (h : DelayedPacketOf) (old mid new : LinkBytes) → GoOut hs old mid → GrowsAt h.side (frames_of (h.bytes ∷ [])) mid new → GoOut (hs ++ h ∷ []) old new
 out_more [] h old mid new is grows = (new, subst (λ o. GrowsAt h.side (frames_of (h.bytes ∷ [])) o new) is grows, refl)
 out_more (g ∷ gs) h old mid new out grows = (out.0, out.1, out_more gs h out.0 mid new out.2 grows)
 
--- those of these packets
+-- the packets with a property
 filter_step : (p : DelayedPacketOf → Bool) (h : DelayedPacket) (hs : List DelayedPacket) (b : Bool) → p (held_of h) ≡ b → map held_of (filter (λ g. p (held_of g)) hs) ≡ filter p (map held_of hs)
     → map held_of (filter (λ g. p (held_of g)) (h ∷ hs)) ≡ filter p (map held_of (h ∷ hs))
 filter_step p h hs true is rest = rw is (ap (λ gs. held_of h ∷ gs) rest)
@@ -26,7 +26,7 @@ pub filter_helds : (p : DelayedPacketOf → Bool) (hs : List DelayedPacket) → 
 filter_helds p [] = refl
 filter_helds p (h ∷ hs) = filter_step p h hs (p (held_of h)) refl (filter_helds p hs)
 
--- the first so many packets, and one more
+-- the first `i` packets, and one more
 next_of : (i : ℕ) (hs : List DelayedPacket) (h : DelayedPacket) → i < length hs → h ≡ get_or hs i h → helds_of (take (i + 1) hs) ≡ helds_of (take i hs) ++ held_of h ∷ []
 next_of i hs h lt is =
     ap (map held_of) (take_more hs i h lt ∙ ap (λ g. take i hs ++ g ∷ []) (sym is)) ∙ map-append held_of (take i hs) (h ∷ [])
@@ -37,7 +37,7 @@ due_next turn gs h is = filter-append (is_due turn) gs (h ∷ []) ∙ ap (λ hs.
 late_next : (turn : ℕ) (gs : List DelayedPacketOf) (h : DelayedPacketOf) → is_late turn h ≡ true → filter (is_due turn) (gs ++ h ∷ []) ≡ filter (is_due turn) gs
 late_next turn gs h is = filter-append (is_due turn) gs (h ∷ []) ∙ ap (λ hs. filter (is_due turn) gs ++ hs) (rw is refl) ∙ append-nil (filter (is_due turn) gs)
 
--- it is due, and goes out; or it is late still
+-- it is due and is passed on; or it is still held back
 pub goes_next : (turn i : ℕ) (hs : List DelayedPacket) (h : DelayedPacket) (old mid new : LinkBytes) → i < length hs → h ≡ get_or hs i h → h.due ≤ turn
     → GoOut (filter (is_due turn) (helds_of (take i hs))) old mid → GrowsAt h.side (frames_of (h.packet.items ∷ [])) mid new
     → GoOut (filter (is_due turn) (helds_of (take (i + 1) hs))) old new
@@ -53,7 +53,7 @@ stays_next turn i hs h old new lt is far out =
     (sym (ap (filter (is_due turn)) (next_of i hs h lt is) ∙ late_next turn (helds_of (take i hs)) (held_of h) (lt-ltb turn h.due far)))
     out
 
--- so many went out, and one more does, or none
+-- some were passed on, and one more is, or isn't
 due_count : (turn i : ℕ) (hs : List DelayedPacket) (h : DelayedPacket) → i < length hs → h ≡ get_or hs i h → h.due ≤ turn
     → length (filter (is_due turn) (helds_of (take (i + 1) hs))) ≡ length (filter (is_due turn) (helds_of (take i hs))) + 1
 due_count turn i hs h lt is due =

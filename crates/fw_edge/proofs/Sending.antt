@@ -1,4 +1,4 @@
--- What links take of the packets of their pairs.
+-- The packets that links take of their pairs.
 use Rattle.std.proofs.Common.{◌≡◌, ◌≤◌, ◌<◌, ◌+◌, ◌-◌, ◌^◌, ◌∙◌, ℕ, zero, suc, List, [], ◌∷◌, get_or, length, map, slice_get, slice_set, refl, sym, ap, subst, subst₂, arith}
 use Rattle.std.proofs.lemmas.List.{map-set}
 use Rattle.fw_steps.specs.Worlds.{SiteOf, packets_at}
@@ -51,14 +51,15 @@ sent_next f bs ms os xs i c d y same lt le is h =
     sent_on bs ms (slice_set ms i c) os (map f xs) (map f (slice_set xs i y)) h
     (subst (AllSent ms (slice_set ms i c) (map f xs)) (sym (map-set f xs i y)) (sent_put ms (map f xs) i c (f y) (omega arith) (omega arith) le (λ below. (let rose = is below in omega arith))))
 
--- All packets of the pairs before a place are written, and of the others no more than were sent.
+-- All packets of the pairs before a place are written, and of the others at most those that were
+-- sent.
 abbrev pub WrittenBefore : ℕ → List ℕ → List ℕ → Type 0
 WrittenBefore zero ws cs = NoCountFalls ws cs
 WrittenBefore (suc i) [] [] = Unit {0}
 WrittenBefore (suc i) (w ∷ ws) (c ∷ cs) = (w ≡ c) × WrittenBefore i ws cs
 WrittenBefore (suc i) ws cs = ⊥
 
--- of the one at the place too
+-- all packets of the pair at the place are written too
 written_put : (i : ℕ) (ws cs : List ℕ) (c : ℕ) → i < length ws → c ≡ get_or cs i 0 → WrittenBefore i ws cs → WrittenBefore (suc i) (slice_set ws i c) cs
 written_put zero [] cs c lt is h = absurd (omega arith)
 written_put zero (w ∷ ws) [] c lt is h = absurd h
@@ -78,7 +79,7 @@ written_within (suc i) [] cs lt h = absurd (omega arith)
 written_within (suc i) (w ∷ ws) [] lt h = absurd h
 written_within (suc i) (w ∷ ws) (n ∷ cs) lt h = written_within i ws cs (omega arith) h.1
 
--- of all
+-- all packets of all pairs are written
 pub written_all : (i : ℕ) (ws cs : List ℕ) → length ws ≤ i → WrittenBefore i ws cs → ws ≡ cs
 written_all zero [] [] le h = refl
 written_all zero [] (n ∷ cs) le h = absurd h

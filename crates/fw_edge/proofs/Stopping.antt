@@ -1,4 +1,4 @@
--- Parts of a turn that stop, and what was taken before.
+-- Parts of a turn that stop, and the steps taken before.
 use Rattle.std.proofs.Common.{◌≡◌, ◌≢◌, ◌<◌, ◌+◌, ◌++◌, ◌-◌, ◌^◌, ◌∙◌, ℕ, zero, suc, Bool, List, [], ◌∷◌, Some, drop, inl, inr, length, map, slice_get, take, append_assoc, refl, sym, ap, subst, arith}
 use Rattle.std.proofs.lemmas.List.{length-append, map-append}
 use Rattle.fw_message.specs.declared.side.Side.{Side}
@@ -20,7 +20,7 @@ use Rattle.fw_edge.proofs.Naming.{drives_eids, eid_there}
 use Rattle.fw_edge.proofs.Rising.{map_length}
 use Rattle.fw_edge.proofs.Turning.{hears_append}
 
--- a packet isn't taken behind so many
+-- a packet is refused after `k` were taken
 pub refuses_then : (k : ℕ) (o m n : Tally) → TakesPackets k o m → FailsCall m n → RefusesPacket k o n
 refuses_then k o m n h f = record {
   failures = subst (λ x. CountsOne x n.failures) h.failures f.failures;
@@ -33,7 +33,7 @@ refuses_then k o m n h f = record {
 abbrev asks_none : (e : EdgeFault) (w : WorldOf) (ss : List Step) (device : ℕ) (side : Side) → e ≡ faults.Frame → AsksSome e ((device, side) ∷ []) w ss w ss
 asks_none e w ss device side is = record { asks = []; failed = (device, side); rest = []; are = refl; hears = (refl, refl); known = λ other. absurd (other is) }
 
--- or some were, of more
+-- or some ends were asked, of a longer list
 abbrev pub asks_wider : (e : EdgeFault) (ends more : List (ℕ × Side)) (w v : WorldOf) (before after : List Step) → AsksSome e ends w before v after → AsksSome e (ends ++ more) w before v after
 asks_wider e ends more w v before after h = record {
   asks = h.asks;
@@ -44,7 +44,7 @@ asks_wider e ends more w v before after h = record {
   known = h.known;
 }
 
--- behind others
+-- after other ends
 abbrev pub asks_on : (e : EdgeFault) (asks : List Ask) (ends more : List (ℕ × Side)) (w u v : WorldOf) (before mid after : List Step) → map (λ a. (a.device, a.side)) asks ≡ ends → HandlesFrames w before asks u mid
     → AsksSome e more u mid v after → AsksSome e (ends ++ more) w before v after
 asks_on e asks ends more w u v before mid after are hears k = record {
@@ -112,7 +112,7 @@ rises_by : (o n : ℕ) → CountsOne o n → n < 2 ^ 64 - 1 → n ≡ o + 1
 rises_by o n (inl e) lt = e
 rises_by o n (inr h) lt = absurd (let a = h.0 in let b = h.1 in omega arith)
 
--- or a frame that isn't handed over
+-- or a frame that can't be delivered
 pub link_refused : {A : Type 0} (t : A → Tally) (e : EdgeFault) (device : ℕ) (side : Side) (w v : WorldOf) (before after : List Step) (gave : Bool) (old new : A) → StepErr e w before v after
     → (bytes : List ℕ) → IsKnown w device bytes → AsksForFrame gave (t old) (t new) → LinkReadErr t e ((device, side) ∷ []) w before old v after new
 link_refused t e device side w v before after gave old new r bytes known a = record {
@@ -188,6 +188,6 @@ link_second t taken gave e device w u v before mid after old between new known f
         let last : (t new).asked ≡ (t between).asked + k.answered = k.asked_rise lt in
         sum (t old).asked (t between).asked k.answered (t new).asked last (h.reads.asked_rise (below (t between).asked k.answered (t new).asked last lt))
 
--- the devices of a round that stops are those of the first
+-- the devices of a round that stops are those of the first world
 pub same_stops : (e : EdgeFault) (w u v : WorldOf) (before mid after : List Step) (old : LinksOf) → Drives w before u mid → RoundStops e (eids_of u.sites) u mid old v after → RoundStops e (eids_of w.sites) u mid old v after
 same_stops e w u v before mid after old d h = subst (λ es. RoundStops e es u mid old v after) (drives_eids w before u mid d) h

@@ -37,7 +37,7 @@ took_more device old mid new ps i p side is at h g =
 pub took_all : (device : ℕ) (old new : LinkBytes) (ps : List Sent) (i : ℕ) → length ps ≤ i → LinkTakesAll device old (map bytes_in (take i ps)) new → LinkTakesAll device old (map bytes_in ps) new
 took_all device old new ps i le h = subst (λ xs. LinkTakesAll device old (map bytes_in xs) new) (take_all i ps le) h
 
--- those of a pair that aren't written
+-- the packets of a pair that aren't written
 pub took_there : (x : Option SiteOf) (node : DeviceNodeOf) (ps : List Sent) (device written : ℕ) (old new : LinkBytes) → option_map (λ y. y.node) x ≡ Some node → option_map (λ y. y.packets) x ≡ Some ps
     → device ≡ node.endpoint.eid → LinkTakesAll device old (map bytes_in (drop written ps)) new → LinkTakesPair x written old new
 took_there None node ps device written old new is has eid h = absurd (cc)
@@ -47,14 +47,15 @@ took_there (Some x) node ps device written old new is has eid h =
     subst (λ d. LinkTakesAll d old (map bytes_in (drop written x.packets)) new) (eid ∙ sym (ap (λ n. n.endpoint.eid) same))
     (subst (λ qs. LinkTakesAll device old (map bytes_in (drop written qs)) new) (sym packets) h)
 
--- all are
+-- all packets are written
 pub took_written : (x : Option SiteOf) (ps : List Sent) (written : ℕ) (ends : LinkBytes) → option_map (λ y. y.packets) x ≡ Some ps → length ps ≤ written → LinkTakesPair x written ends ends
 took_written None ps written ends has all = refl
 took_written (Some x) ps written ends has all =
     let packets : x.packets ≡ ps = cc in
     subst (λ qs. LinkTakesAll x.node.endpoint.eid ends (map bytes_in qs) ends) (sym (ap (drop written) packets ∙ drop_all written ps all)) refl
 
--- The first so many links took what wasn't written, and those behind them, and their counts, are as they were.
+-- The first links took the unwritten packets, and the links after them, and their counts, are
+-- unchanged.
 abbrev pub TookBefore : ℕ → List SiteOf → (ws vs : List ℕ) → List LinkBytes → List LinkBytes → Type 0
 TookBefore zero xs ws vs olds news = (vs ≡ ws) × (news ≡ olds)
 TookBefore (suc n) (x ∷ xs) (w ∷ ws) (v ∷ vs) (old ∷ olds) (new ∷ news) = LinkTakesPair (Some x) w old new × TookBefore n xs ws vs olds news

@@ -33,7 +33,7 @@ came_frame w v before after old new device side bytes count h g e = record {
   count_is = e ∙ refl;
 }
 
--- more is asked
+-- one more end is asked
 pub hears_append : (w u v : WorldOf) (before mid after : List Step) (xs ys : List Ask) → HandlesFrames w before xs u mid → HandlesFrames u mid ys v after → HandlesFrames w before (xs ++ ys) v after
 hears_append w u v before mid after [] ys h k = subst (λ x. HandlesFrames x before ys v after) h.0 (subst (λ ss. HandlesFrames u ss ys v after) h.1 k)
 hears_append w u v before mid after (a ∷ xs) ys h k = (h.0, h.1, h.2, hears_append h.0 u v h.1 mid after xs ys h.3 k)
@@ -60,7 +60,7 @@ came_on w u v before steps after old mid new es fs n m count h k e = record {
 pub came_none : (es : List ℕ) (w : WorldOf) (ss : List Step) (ls : LinksOf) (count : ℕ) → count ≡ 0 → ReadsAllEnds 0 es w ss ls w ss ls count
 came_none es w ss ls count e = record { asks = []; ends_are = refl; hears = (refl, refl); gave = refl; took_none = refl; count_is = e }
 
--- a link more
+-- one more link
 round_next : (es : List ℕ) (i : ℕ) (e : ℕ) → slice_get es i ≡ Some e → round_ends (take i es) ++ both_ends e ≡ round_ends (take (suc i) es)
 round_next [] i e there = absurd (cc)
 round_next (x ∷ es) zero e there = let same : x ≡ e = cc in ap (λ n. both_ends n) (sym same)
@@ -129,14 +129,14 @@ pub came_with : (devices : ℕ) (es : List ℕ) (w v : WorldOf) (before after : 
 came_with devices es w v before after ws written took gave new_took new_gave count h =
     record { asks = h.asks; ends_are = h.ends_are; hears = h.hears; gave = h.gave; took_none = h.took_none; count_is = h.count_is }
 
--- a round more
+-- one more round
 pub rounds_next : (es : List ℕ) (n : ℕ) (w u v : WorldOf) (before mid after : List Step) (old links new : LinksOf) (read more count : ℕ) → RoundsOn es n w before old u mid links read
     → RoundOf es u mid links v after new more → 1 ≤ more → count ≡ read + more → count < 1024 → RoundsOn es (n + 1) w before old v after new count
 rounds_next es n w u v before mid after old links new read more count h k some all few =
     let next : suc n ≡ n + 1 = omega arith in
     subst (λ m. RoundsOn es m w before old v after new count) next (u, mid, links, read, more, h, k, some, all, few)
 
--- as many frames at least
+-- at least as many frames as rounds
 pub rounds_read : (es : List ℕ) (n : ℕ) (w v : WorldOf) (before after : List Step) (old new : LinksOf) (count : ℕ) → RoundsOn es n w before old v after new count → n ≤ count
 rounds_read es zero w v before after old new count h = omega arith
 rounds_read es (suc n) w v before after old new count h =
@@ -145,12 +145,12 @@ rounds_read es (suc n) w v before after old new count h =
     let all : count ≡ h.3 + h.4 = h.8 in
     omega arith
 
--- the devices of a round are those of the first
+-- the devices of a round are those of the first world
 pub same_round : (w u v : WorldOf) (before mid after : List Step) (old new : LinksOf) (count : ℕ) → Drives w before u mid → RoundOf (eids_of u.sites) u mid old v after new count
     → RoundOf (eids_of w.sites) u mid old v after new count
 same_round w u v before mid after old new count d h = subst (λ es. RoundOf es u mid old v after new count) (drives_eids w before u mid d) h
 
--- a turn more
+-- one more turn
 pub drove_none : (w : WorldOf) (ss : List Step) (ls : LinksOf) → DrivesTurns 0 w ss ls w ss ls 0
 drove_none w ss ls = record { count = 0; turned = (refl, refl, refl, refl); frames = refl }
 

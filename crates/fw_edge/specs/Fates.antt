@@ -1,4 +1,5 @@
--- What becomes of packets on a rough link: the numbers of a generator say it, so a seed says it of all.
+-- The fate of a packet on a rough link: the numbers of a generator determine it, so a seed
+-- determines the fates of all packets.
 use Rattle.std.specs.Prelude.{ℕ, ◌≡◌, ◌+◌, ◌%◌, if◌then◌else◌, nat_lt}
 use Rattle.fw_edge.specs.declared.fates.Fate.{Fate}
 use Rattle.fw_edge.specs.declared.fates.Fate.TheVariants as fates
@@ -6,19 +7,19 @@ use Rattle.fwupd_base.specs.declared.roughness.Roughness.{Roughness}
 use Rattle.rand_pcg.specs.Lcg.{Lcg}
 use Rattle.rand_pcg.specs.Pcg.{pcg32}
 
--- the next number of a generator, and the generator behind it
+-- the next number of a generator, and the generator after it
 unfoldable pub word_of : Lcg → ℕ
 word_of g = (pcg32 g).0
 
 unfoldable pub word_after : Lcg → Lcg
 word_after g = (pcg32 g).1
 
--- behind four
+-- the generator after four numbers
 abbrev pub generator_after : Lcg → Lcg
 generator_after g = word_after (word_after (word_after (word_after g)))
 
--- The first number, of a hundred, says whether the packet is lost, the second whether it comes twice; the third how late it comes,
--- and the fourth how late it comes again.
+-- The first number decides, as a percentage, whether the packet is lost, the second whether it is
+-- duplicated. The third is the delay of the first copy, and the fourth that of the second.
 abbrev pub fate_by : Roughness → (lost doubled first second : ℕ) → Fate
 fate_by r lost doubled first second =
     if nat_lt (lost % 100) r.loss then fates.Lost

@@ -6,7 +6,7 @@ use Rattle.fw_message.specs.declared.side.Side.{Side}
 use Rattle.fw_message.specs.declared.side.Side.TheVariants as sides
 use Rattle.fw_edge.specs.declared.tally.Tally.{Tally}
 
--- a count rises by one, or stays at its last value
+-- a count is incremented, or stays at its last value
 abbrev pub CountsOne : ℕ → ℕ → Type 0
 CountsOne old new = (new ≡ old + 1) ⊎ ((old ≡ 2 ^ 64 - 1) × (new ≡ old))
 
@@ -35,28 +35,29 @@ pub record FailsCall (old new : Tally) : Type 0 where
   pub given : new.given ≡ old.given
   pub failures : CountsOne old.failures new.failures
 
--- the end of a device's link at which a packet goes out: that of its sender, whom its third byte names (DSP0236)
+-- the end of a device's link at which a packet is sent: that of its source, which is its third byte
+-- (DSP0236)
 abbrev pub end_of : List ℕ → (device : ℕ) → Side
 end_of (version ∷ dest ∷ source ∷ rest) device = if source == device then sides.Device else sides.Agent
 end_of bytes device = sides.Agent
 
--- the bytes at each end of a link, where they are known
+-- the bytes at each end of a link, if they are known
 abbrev pub LinkBytes : Type 0
 LinkBytes = Side → Option (List ℕ)
 
 abbrev pub none_known : LinkBytes
 none_known side = None
 
--- at one end bytes are put behind the others, and the other end stays
+-- bytes are appended at one end, and the other end is unchanged
 abbrev pub GrowsAt : Side → List ℕ → LinkBytes → LinkBytes → Type 0
 GrowsAt side bytes old new = Appends (old side) (new side) bytes × ((other : Side) → other ≢ side → new other ≡ old other)
 
--- the packet that came, if one did
+-- the received packet, if there is one
 abbrev pub packet_if : Bool → (packet : List ℕ) → List (List ℕ)
 packet_if true packet = packet ∷ []
 packet_if false packet = []
 
--- what the links of a run took and gave, and how many packets of each pair are written to them
+-- the bytes that the links of a run took and gave, and the number of written packets of each pair
 pub record LinksOf : Type 0 where
   pub written : List ℕ
   pub took : List LinkBytes
@@ -65,10 +66,11 @@ pub record LinksOf : Type 0 where
 abbrev pub links_at : List ℕ → List LinkBytes → List LinkBytes → LinksOf
 links_at written took gave = record { written = written; took = took; gave = gave }
 
--- At an end of a stream the frame of a packet was written: one more is on the way to the other end.
+-- The frame of a packet was written at an end of a stream: one more frame is on the way to the
+-- other end.
 abbrev pub WritesFrameAt : (before now : Option (List ℕ)) → (way_before way_now : ℕ) → List ℕ → Type 0
 WritesFrameAt before now way_before way_now packet = Appends before now (frames_of (packet ∷ [])) × CountsOne way_before way_now
 
--- At an end of a stream the frame of a packet was read: one less is on the way there.
+-- The frame of a packet was read at an end of a stream: one frame less is on the way there.
 abbrev pub ReadsFrameAt : (before now : Option (List ℕ)) → (way_before way_now : ℕ) → List ℕ → Type 0
 ReadsFrameAt before now way_before way_now packet = Consumes before now (frames_of (packet ∷ [])) × (way_before ≡ way_now + 1)

@@ -1,5 +1,5 @@
--- How the parts of a run end: what holds of links, steps and world where all went well, and what a fault leaves. Links are seen by what
--- they count, took and gave.
+-- The results of the parts of a run: the links, steps and world after a success, and after a fault.
+-- Of a link only its counts and its taken and given bytes are used.
 use Rattle.std.specs.Prelude.{ℕ, ◌≡◌, ◌≢◌, ◌≤◌, ◌<◌, ◌+◌, ◌-◌, ◌*◌, ◌^◌, ◌⊎◌, true, List, [], length, map}
 use Rattle.fw_message.specs.declared.side.Side.{Side}
 use Rattle.fw_steps.specs.Replays.{needs_memory}
@@ -13,20 +13,21 @@ use Rattle.fw_edge.specs.declared.driving.EdgeFault.{EdgeFault}
 use Rattle.fw_edge.specs.declared.driving.EdgeFault.TheVariants as faults
 use Rattle.fw_edge.specs.declared.tally.Tally.{Tally}
 
--- A link took so many packets, and gave nothing.
+-- A link took `packets` packets, and gave nothing.
 pub record LinkWriteOk {A : Type 0} (tally : A → Tally) (gave : A → LinkBytes) (packets : ℕ) (old new : A) : Type 0 where
   pub counts : TakesPackets packets (tally old) (tally new)
   pub gave_none : gave new ≡ gave old
 
--- It took fewer, and didn't take the next: that is the fault, and it counts it, and nothing after it.
+-- A link took fewer packets, and refused the next. The fault is that refusal, which the link
+-- counts; nothing follows it.
 pub record LinkWriteErr {A : Type 0} (tally : A → Tally) (told : EdgeFault) (packets : ℕ) (old new : A) : Type 0 where
   pub is : told ≡ faults.Frame
   pub taken : ℕ
   pub fewer : taken < packets
   pub counts : RefusesPacket taken (tally old) (tally new)
 
--- Ends of a link were asked for a frame each, in this order. Of the frames that came so many are living packets of its pair, each of which
--- was delivered, and so many are foreign; the link took nothing.
+-- Ends of a link were asked for a frame each, in this order. `known` of the received frames are
+-- living packets of its pair, and were delivered; `foreign` are others. The link took nothing.
 pub record LinkReadOk {A : Type 0} (tally : A → Tally) (taken gave : A → LinkBytes) (ends : List (ℕ × Side)) (asked : ℕ) (w : WorldOf) (before : List Step) (old : A) (v : WorldOf) (after : List Step) (new : A) (known foreign : ℕ) : Type 0 where
   pub goes : DrivesCounted w before v after 0 known
   pub few : known + foreign ≤ asked
@@ -34,9 +35,9 @@ pub record LinkReadOk {A : Type 0} (tally : A → Tally) (taken gave : A → Lin
   pub took_none : taken new ≡ taken old
   pub reads : GivesFrames asked (known + foreign) (tally old) (tally new)
 
--- A fault ended that, at one of the ends: those before it were asked, and no others. That end gave no answer, where the fault is the link's,
--- and else a frame that isn't handed over. The steps that were taken are listed; the fault isn't the clock's, and the link's only where it
--- failed, once.
+-- A fault ended this at one of the ends. The ends before it were asked, and none after it. If the
+-- fault is the link's, that end gave no answer; else its frame wasn't delivered. The steps taken
+-- are listed. The fault isn't the clock's, and it is the link's exactly if the link failed, once.
 pub record LinkReadErr {A : Type 0} (tally : A → Tally) (told : EdgeFault) (ends : List (ℕ × Side)) (w : WorldOf) (before : List Step) (old : A) (v : WorldOf) (after : List Step) (new : A) : Type 0 where
   pub drives : Drives w before v after
   pub no_tick : ticks_in after ≡ ticks_in before
@@ -51,43 +52,47 @@ pub record LinkReadErr {A : Type 0} (tally : A → Tally) (told : EdgeFault) (en
   pub unanswered : told ≡ faults.Frame → answered ≡ length some.asks
   pub unhanded : told ≢ faults.Frame → answered ≡ length some.asks + 1
 
--- No link failed, was asked for a frame, or gave one; and each took the packets by which the count of its pair rose.
+-- No link failed, was asked for a frame, or gave one. Each took the packets by which its pair's
+-- count rose.
 pub record LinksWriteOk {A : Type 0} (tally : A → Tally) (before after : List ℕ) (olds news : List A) : Type 0 where
   pub kept : map (λ l. (tally l).failures) news ≡ map (λ l. (tally l).failures) olds
   pub asked : map (λ l. (tally l).asked) news ≡ map (λ l. (tally l).asked) olds
   pub given : map (λ l. (tally l).given) news ≡ map (λ l. (tally l).given) olds
   pub sent : AllSent before after (map (λ l. (tally l).sent) olds) (map (λ l. (tally l).sent) news)
 
--- One didn't take one: that is the fault, and it counts it. Those behind it are as they were.
+-- One link refused a packet. That is the fault, and the link counts it. The links after it are
+-- unchanged.
 pub record LinksWriteErr {A : Type 0} (tally : A → Tally) (told : EdgeFault) (olds news : List A) : Type 0 where
   pub is : told ≡ faults.Frame
   pub failed : StopsAt told (λ l. (tally l).failures) olds news
 
--- No link failed or took a packet; each was asked so often at least, and all gave so many frames together.
+-- No link failed or took a packet. Each was asked at least `least` times, and all gave `frames`
+-- frames together.
 pub record LinksReadOk {A : Type 0} (tally : A → Tally) (least frames : ℕ) (olds news : List A) : Type 0 where
   pub kept : map (λ l. (tally l).failures) news ≡ map (λ l. (tally l).failures) olds
   pub asked : EachCountGrows least (map (λ l. (tally l).asked) olds) (map (λ l. (tally l).asked) news)
   pub given : CountsGrowTogether frames (map (λ l. (tally l).given) olds) (map (λ l. (tally l).given) news)
   pub sent : map (λ l. (tally l).sent) news ≡ map (λ l. (tally l).sent) olds
 
--- No link failed; each was asked so often at least, all gave so many frames together, and each took the packets by which the count of its
--- pair rose.
+-- No link failed. Each was asked at least `least` times, all gave `frames` frames together, and
+-- each took the packets by which its pair's count rose.
 pub record LinksExchangeOk {A : Type 0} (tally : A → Tally) (least frames : ℕ) (before after : List ℕ) (olds news : List A) : Type 0 where
   pub kept : map (λ l. (tally l).failures) news ≡ map (λ l. (tally l).failures) olds
   pub asked : EachCountGrows least (map (λ l. (tally l).asked) olds) (map (λ l. (tally l).asked) news)
   pub given : CountsGrowTogether frames (map (λ l. (tally l).given) olds) (map (λ l. (tally l).given) news)
   pub sent : AllSent before after (map (λ l. (tally l).sent) olds) (map (λ l. (tally l).sent) news)
 
--- Each end of each link was asked for a frame. Of those that came so many are living packets, each of which was delivered, and so many are
--- foreign.
+-- Each end of each link was asked for a frame. `known` of the received frames are living packets,
+-- and were delivered; `foreign` are others.
 pub record RoundOk {A : Type 0} (tally : A → Tally) (taken gave : A → LinkBytes) (w : WorldOf) (before : List Step) (olds : List A) (v : WorldOf) (after : List Step) (news : List A) (known foreign : ℕ) : Type 0 where
   pub came : ReadsAllEnds (length (eids_of w.sites)) (eids_of w.sites) w before (links_at [] (map taken olds) (map gave olds)) v after (links_at [] (map taken news) (map gave news)) (known + foreign)
   pub goes : DrivesCounted w before v after 0 known
   pub few : known + foreign ≤ 32
   pub counts : LinksReadOk tally 2 (known + foreign) olds news
 
--- A fault ended that, at one of the ends: those before it were asked, and no others, and the links behind its own are as they were. The steps
--- that were taken are listed; the fault isn't the clock's, and a link's only where one failed, once.
+-- A fault ended this at one of the ends. The ends before it were asked, and none after it; the
+-- links after its link are unchanged. The steps taken are listed. The fault isn't the clock's, and
+-- it is a link's exactly if one failed, once.
 pub record RoundErr {A : Type 0} (tally : A → Tally) (told : EdgeFault) (w : WorldOf) (before : List Step) (olds : List A) (v : WorldOf) (after : List Step) (news : List A) : Type 0 where
   pub drives : Drives w before v after
   pub no_tick : ticks_in after ≡ ticks_in before
@@ -95,16 +100,16 @@ pub record RoundErr {A : Type 0} (tally : A → Tally) (told : EdgeFault) (w : W
   pub failed : StopsAt told (λ l. (tally l).failures) olds news
   pub some : AsksSome told (round_ends (eids_of w.sites)) w before v after
 
--- A part of a turn did what it is to do, over links to which so many packets of each pair were written before, and so many are now. Of the
--- frames that came so many are living packets, each of which was delivered, and so many are foreign.
+-- A part of a turn succeeded. The written packets of each pair are counted before and after it.
+-- `known` of the received frames are living packets, and were delivered; `foreign` are others.
 pub record PartOk {A : Type 0} (tally : A → Tally) (taken gave : A → LinkBytes) (does : WorldOf → List Step → LinksOf → WorldOf → List Step → LinksOf → (count : ℕ) → Type 0) (ticks most : ℕ) (w : WorldOf) (before : List Step) (written_before : List ℕ) (olds : List A) (v : WorldOf) (after : List Step) (written : List ℕ) (news : List A) (known foreign : ℕ) : Type 0 where
   pub does_so : does w before (links_at written_before (map taken olds) (map gave olds)) v after (links_at written (map taken news) (map gave news)) (known + foreign)
   pub goes : DrivesCounted w before v after ticks known
   pub few : known + foreign ≤ most
   pub counts : LinksExchangeOk tally 2 (known + foreign) written_before written olds news
 
--- A fault ended it, in this way. The steps that were taken are listed, none of them a tick; the fault isn't the clock's, and a link's only
--- where one failed, once.
+-- A fault ended a part of a turn, as `stops` says. The steps taken are listed, none of them a tick.
+-- The fault isn't the clock's, and it is a link's exactly if one failed, once.
 pub record PartErr {A : Type 0} (tally : A → Tally) (taken gave : A → LinkBytes) (stops : WorldOf → List Step → LinksOf → WorldOf → List Step → Type 0) (told : EdgeFault) (w : WorldOf) (before : List Step) (written : List ℕ) (olds : List A) (v : WorldOf) (after : List Step) (news : List A) : Type 0 where
   pub drives : Drives w before v after
   pub no_tick : ticks_in after ≡ ticks_in before
@@ -112,8 +117,9 @@ pub record PartErr {A : Type 0} (tally : A → Tally) (taken gave : A → LinkBy
   pub fault : told ≢ faults.Step
   pub failed : ReportsFaultOfLinks told (map (λ l. (tally l).failures) olds) (map (λ l. (tally l).failures) news)
 
--- A fault ended a turn, in one of its parts. The steps that were taken are listed, one of them a tick at most; the fault is the clock's where
--- that stands at its end, and a link's only where one failed, once.
+-- A fault ended a turn in one of its parts. The steps taken are listed, at most one of them a tick.
+-- The fault is the clock's if the clock is at its last tick, and a link's exactly if one failed,
+-- once.
 pub record TurnErr {A : Type 0} (tally : A → Tally) (taken gave : A → LinkBytes) (told : EdgeFault) (w : WorldOf) (before : List Step) (written : List ℕ) (olds : List A) (v : WorldOf) (after : List Step) (news : List A) : Type 0 where
   pub drives : Drives w before v after
   pub few : ticks_in after ≤ ticks_in before + 1
@@ -121,15 +127,16 @@ pub record TurnErr {A : Type 0} (tally : A → Tally) (taken gave : A → LinkBy
   pub failed : ReportsFaultOfLinks told (map (λ l. (tally l).failures) olds) (map (λ l. (tally l).failures) news)
   pub stops : StopsTurn told w before v after
 
--- In so many turns no link failed, and each was asked twice a turn at least. All gave what was delivered and what was foreign, and each took
--- the packets that its pair gained.
+-- In `turns` turns no link failed, and each was asked at least twice a turn. The frames given are
+-- those delivered and the foreign ones. Each link took the packets that its pair gained.
 pub record LinksDriveOk {A : Type 0} (tally : A → Tally) (turns : ℕ) (w : WorldOf) (before : List Step) (olds : List A) (v : WorldOf) (after : List Step) (news : List A) (foreign : ℕ) : Type 0 where
   pub kept : map (λ l. (tally l).failures) news ≡ map (λ l. (tally l).failures) olds
   pub asked : EachCountGrows (2 * turns) (map (λ l. (tally l).asked) olds) (map (λ l. (tally l).asked) news)
   pub given : AreGiven (delivers_in before) (delivers_in after) foreign (map (λ l. (tally l).given) olds) (map (λ l. (tally l).given) news)
   pub sent : AllSent (packet_counts w.sites) (packet_counts v.sites) (map (λ l. (tally l).sent) olds) (map (λ l. (tally l).sent) news)
 
--- A run took so many turns of those that were asked for, a tick each: all, or fewer with each session Done or Failed.
+-- A run took `turns` of the `asked_for` turns, with a tick each: all of them, or fewer with each
+-- session Done or Failed.
 pub record DriveOk {A : Type 0} (tally : A → Tally) (taken gave : A → LinkBytes) (asked_for : ℕ) (w : WorldOf) (before : List Step) (written_before : List ℕ) (olds : List A) (v : WorldOf) (after : List Step) (written : List ℕ) (news : List A) (turns foreign : ℕ) : Type 0 where
   pub drove : DrivesTurns turns w before (links_at written_before (map taken olds) (map gave olds)) v after (links_at written (map taken news) (map gave news)) foreign
   pub ticks : ticks_in after ≡ ticks_in before + turns
@@ -137,8 +144,8 @@ pub record DriveOk {A : Type 0} (tally : A → Tally) (taken gave : A → LinkBy
   pub ended : turns < asked_for → all_over v ≡ true
   pub counts : LinksDriveOk tally turns w before olds v after news foreign
 
--- A fault ended it, in the turn behind so many, fewer than were asked for: a link's where one failed, once, and the clock's where that stands
--- at its end.
+-- A fault ended a run in a turn before the last one asked for: a link's if one failed, once, and
+-- the clock's if the clock is at its last tick.
 pub record DriveErr {A : Type 0} (tally : A → Tally) (taken gave : A → LinkBytes) (asked_for : ℕ) (told : EdgeFault) (w : WorldOf) (before : List Step) (written_before : List ℕ) (olds : List A) (v : WorldOf) (after : List Step) (news : List A) : Type 0 where
   pub failed : ReportsFaultOfLinks told (map (λ l. (tally l).failures) olds) (map (λ l. (tally l).failures) news)
   pub step : told ≡ faults.Step → v.now ≡ 2 ^ 32 - 1
@@ -146,7 +153,7 @@ pub record DriveErr {A : Type 0} (tally : A → Tally) (taken gave : A → LinkB
   pub within : stopped.turns < asked_for
   pub ticks : ticks_in after ≤ ticks_in before + (stopped.turns + 1)
 
--- Steps were taken that are no ticks and no deliveries, and nothing was sent.
+-- Steps other than ticks and deliveries were taken, and nothing was sent.
 pub record SentNone (w : WorldOf) (before : List Step) (v : WorldOf) (after : List Step) : Type 0 where
   pub goes : DrivesCounted w before v after 0 0
   pub sent : packet_counts v.sites ≡ packet_counts w.sites
@@ -157,13 +164,15 @@ pub record StepErr (told : EdgeFault) (w : WorldOf) (before : List Step) (v : Wo
   pub same : v ≡ w
   pub unlisted : after ≡ before
 
--- Memory was refused to one of these steps, none of which is a tick. Those before it were taken, and are listed.
+-- Memory was refused for one of the steps, none of which is a tick. The steps before it were taken
+-- and listed.
 pub record StepsErr (told : EdgeFault) (ss : List Step) (w : WorldOf) (before : List Step) (v : WorldOf) (after : List Step) : Type 0 where
   pub drives : Drives w before v after
   pub no_tick : ticks_in after ≡ ticks_in before
   pub fault : told ≡ faults.Memory
   pub some : TakesSome w before ss v after
 
--- Memory may be lacking for a step: a list of so many steps had no room for one more; or it has, and the step itself needs some.
+-- A step may fail for lack of memory: the list had no room for one more step, or it had, and the
+-- step itself may need memory.
 abbrev pub LacksMemory : Step → (listed room_before room_now : ℕ) → Type 0
 LacksMemory step listed room_before room_now = (room_before < listed + 1) ⊎ ((listed + 1 ≤ room_now) × (needs_memory step ≡ true))

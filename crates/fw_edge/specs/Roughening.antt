@@ -1,4 +1,4 @@
--- What a rough link does: it passes packets on to the link below it, at once or late, once, twice or never.
+-- A rough link passes packets on to the lower link, at once or delayed, once, twice or never.
 use Rattle.std.specs.Prelude.{ℕ, ◌≡◌, ◌≢◌, ◌≤◌, ◌+◌, ◌-◌, ◌^◌, ◌⊎◌, ◌==◌, ◌++◌, ◌∷◌, [], Bool, false, not, ◌&&◌, nat_lt, List, length, map, min}
 use Rattle.std.specs.List.{AllByRecursion, filter}
 use Rattle.fw_edge.specs.Fates.{fate_of}
@@ -12,7 +12,8 @@ use Rattle.fw_message.specs.declared.side.Side.{Side}
 use Rattle.fw_message.specs.declared.side.Side.TheVariants as sides
 use Rattle.rand_pcg.specs.Lcg.{Lcg}
 
--- A packet that is held back: the end at which it was sent, the turn behind which it goes out, and its bytes.
+-- A delayed packet: the end at which it was sent, the turn after which it is passed on, and its
+-- bytes.
 pub record DelayedPacketOf : Type 0 where
   pub side : Side
   pub due : ℕ
@@ -24,26 +25,28 @@ held_of h = record { side = h.side; due = h.due; bytes = h.packet.items }
 abbrev pub helds_of : List DelayedPacket → List DelayedPacketOf
 helds_of hs = map held_of hs
 
--- how many turns late each copy of a packet comes
+-- the delay of each copy of a packet, in turns
 abbrev pub waits_of : Fate → List ℕ
 waits_of fates.Lost = []
 waits_of (fates.Once wait) = wait ∷ []
 waits_of (fates.Twice first second) = first ∷ second ∷ []
 
--- of the copies of a packet those that aren't late
+-- the copies of a packet that aren't delayed
 abbrev pub at_once : List ℕ → (bytes : List ℕ) → List (List ℕ)
 at_once waits bytes = map (λ w. bytes) (filter (λ w. w == 0) waits)
 
--- and those that are held back, from this turn on
+-- the copies of a packet that are held back, from this turn on
 abbrev pub late_copies : (turn : ℕ) → List ℕ → Side → (bytes : List ℕ) → List DelayedPacketOf
 late_copies turn waits side bytes = map (λ w. record { side = side; due = min (turn + w) (2 ^ 64 - 1); bytes = bytes }) (filter (λ w. nat_lt 0 w) waits)
 
--- A packet that was sent at an end goes on to the link below so often at once, and the other copies are held back.
+-- A packet that was sent at an end is passed on to the lower link once for each copy without delay,
+-- and the other copies are held back.
 pub record PassesOn (turn : ℕ) (waits : List ℕ) (side : Side) (bytes : List ℕ) (took took_now : LinkBytes) (held held_now : List DelayedPacketOf) : Type 0 where
   pub now : GrowsAt side (frames_of (at_once waits bytes)) took took_now
   pub later : held_now ≡ held ++ late_copies turn waits side bytes
 
--- A copy of a packet isn't passed on: the link below refuses one that isn't late, and counts that; or there is no room to hold one back.
+-- A copy of a packet isn't passed on: the lower link refuses a copy without delay, and counts that;
+-- or there is no room to hold back a delayed copy.
 pub record IsRefusedCopy (wait : ℕ) (failures failures_now held room : ℕ) : Type 0 where
   pub failed : wait ≡ 0 → CountsOne failures failures_now
   pub kept : wait ≢ 0 → failures_now ≡ failures
@@ -56,24 +59,25 @@ PassesSome turn (wait ∷ waits) side bytes failures failures_now room held held
     (IsRefusedCopy wait failures failures_now (length held_now) room × (held_now ≡ held))
     ⊎ PassesSome turn waits side bytes failures failures_now room (held ++ late_copies turn (wait ∷ []) side bytes) held_now
 
--- A turn, as a link sees it, ends where its ends are asked one after the other, the device's first, and neither gives a frame.
+-- For a link, a turn ends when its ends were asked one after the other, the device's first, and
+-- neither gave a frame.
 abbrev pub ends_turn : Side → (gave is_idle : Bool) → Bool
 ends_turn sides.Device gave is_idle = false
 ends_turn sides.Agent gave is_idle = not gave && is_idle
 
--- whether the device's end was the last that was asked, and gave none
+-- whether the device's end was asked last, and gave no frame
 abbrev pub idle_after : Side → (gave : Bool) → Bool
 idle_after sides.Device gave = not gave
 idle_after sides.Agent gave = false
 
--- behind a turn the packets that are due go out, and others are late still
+-- after a turn the due packets are passed on, and the others are still held back
 abbrev pub is_late : (turn : ℕ) → DelayedPacketOf → Bool
 is_late turn h = nat_lt turn h.due
 
 abbrev pub is_due : (turn : ℕ) → DelayedPacketOf → Bool
 is_due turn h = not (is_late turn h)
 
--- Packets go out, one after another, each at its end.
+-- Packets are passed on, one after another, each at its end.
 abbrev pub GoOut : List DelayedPacketOf → LinkBytes → LinkBytes → Type 0
 GoOut [] old new = new ≡ old
 GoOut (h ∷ hs) old new = (mid : LinkBytes) × GrowsAt h.side (frames_of (h.bytes ∷ [])) old mid × GoOut hs mid new
@@ -84,7 +88,7 @@ pub record Releases (turn : ℕ) (took took_now : LinkBytes) (held held_now : Li
 
 -- THE LAW
 
--- What becomes of a packet is within what is asked for.
+-- The fate of a packet is within the roughness.
 pub record IsWithinRoughness (r : Roughness) (fate : Fate) : Type 0 where
   pub none_lost : r.loss ≡ 0 → 1 ≤ length (waits_of fate)
   pub all_lost : 100 ≤ r.loss → waits_of fate ≡ []

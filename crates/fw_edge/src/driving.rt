@@ -16,12 +16,12 @@ use fd_core::Bank;
 use fw_world::{Step, World};
 use thiserror::Error;
 
-/// What a run did.
+/// The result of a run.
 #[derive(Clone, Copy, PartialEq, Eq)]
 pub struct Driven {
-    /// The turns that it took.
+    /// The number of turns.
     pub turns: u32,
-    /// The frames that came and were no living packet of their pair.
+    /// The number of received frames that were not living packets of their pair.
     pub foreign: u64,
 }
 
@@ -31,7 +31,7 @@ pub enum EdgeFault {
     /// A link failed.
     #[error("Frame")]
     Frame,
-    /// A step was refused: the clock stands at its last unit.
+    /// A step was refused: the clock is at its last tick.
     #[error("Step")]
     Step,
     /// Memory was refused.
@@ -39,7 +39,7 @@ pub enum EdgeFault {
     Memory,
 }
 
-/// How many packets were sent in each pair.
+/// The number of packets sent in each pair.
 fn all_sent<B: Bank + Drop>(world: &World<'_, B>) -> ArrayVec<usize, 16>
     ensures all { result.items ≡ packet_counts world.now.sites }
     ensures few { length world.now.sites ≤ 16 }
@@ -51,8 +51,8 @@ fn all_sent<B: Bank + Drop>(world: &World<'_, B>) -> ArrayVec<usize, 16>
     sent
 }
 
-/// A turn: a tick passes, packets go out and frames come in, and then the devices have their verdicts, and the sessions that
-/// are ready activate. The frames that came.
+/// Takes a turn: a tick, the rounds that send packets and receive frames, the verdicts that devices
+/// wait for, and the activations that sessions wait for. Returns the counts of the received frames.
 fn turn<B: Bank + Drop, L: Link>(
     world: &mut World<'_, B>,
     links: &mut [L],
@@ -87,7 +87,7 @@ fn turn<B: Bank + Drop, L: Link>(
     Ok(frames)
 }
 
-/// Takes so many turns, or fewer where each session is Done or Failed before.
+/// Takes `turns` turns, or fewer if each session is Done or Failed earlier.
 fn take_turns<B: Bank + Drop, L: Link>(
     world: &mut World<'_, B>,
     links: &mut [L],
@@ -121,18 +121,20 @@ fn take_turns<B: Bank + Drop, L: Link>(
     Ok(Driven { turns, foreign })
 }
 
-/// Runs a world over links, one for each device, in configured order, for so many turns, or until each session is Done or
-/// Failed, which is tested before each turn. The steps that are taken are put behind those of the list, whatever the outcome;
-/// the room for each is made before it is taken.
+/// Runs a world over links, one for each device in configured order, for `turns` turns, or until
+/// each session is Done or Failed, which is tested before each turn. The steps taken are appended
+/// to `steps`, whatever the outcome; room for each is reserved before it is taken.
 ///
-/// A turn is a tick; then rounds, in which what was sent since the run began and isn't written goes out, and a frame is read
-/// at each end of each link, the device's first; then the verdicts that devices wait for, and the activations that sessions
-/// wait for. The last round reads no frame, or is the one after which the turn has read 1,024 frames or more; what is then
-/// unwritten goes out. A frame that is a living packet of its pair comes to the node at that end, and another to nobody.
+/// A turn is a tick, then rounds, then the verdicts that devices wait for, then the activations
+/// that sessions wait for. A round writes the packets that were sent since the run began and aren't
+/// written yet, and reads one frame at each end of each link, the device's end first. The last
+/// round reads no frame, or brings the turn to 1,024 frames or more; packets still unwritten then
+/// are written. A frame that is a living packet of its pair is delivered to the node at that end.
+/// Any other frame is dropped.
 ///
 /// # Errors
-/// `Frame` where a link failed, `Step` where the clock stands at its last unit, and `Memory`. The world is then the one after
-/// the steps that are listed.
+/// `Frame` if a link failed, `Step` if the clock is at its last tick, and `Memory` if memory is
+/// refused. The world is then the one after the steps listed.
 pub fn drive<B: Bank + Drop, L: Link>(
     world: &mut World<'_, B>,
     links: &mut [L],

@@ -1,4 +1,4 @@
-//! What becomes of packets on a rough link.
+//! The fates of packets on a rough link.
 
 ghost use Rattle.std.specs.Prelude.{◌≡◌, ◌<◌, ◌%◌, false, true};
 ghost use Rattle.fw_edge.specs.Fates.{fate_of, generator_after, word_after, word_of};
@@ -7,18 +7,19 @@ use fwupd_base::Roughness;
 use rand_core::utils::NextWord;
 use rand_pcg::Pcg32;
 
-/// What becomes of a packet: how often it comes, and each time how many turns late.
+/// The fate of a packet: the number of its copies, and the delay of each in turns.
 #[derive(Clone, Copy, Debug, PartialEq, Eq)]
 pub enum Fate {
-    /// It never comes.
+    /// No copy arrives.
     Lost,
-    /// It comes once.
+    /// One copy arrives.
     Once(u32),
-    /// It comes twice.
+    /// Two copies arrive.
     Twice(u32, u32),
 }
 
-/// The next number of a generator, below a bound. Below 1 nothing is divided: a link that holds nothing back asks so twice a packet.
+/// The next number of a generator, below `bound`. A bound of 1 skips the division: a link without
+/// delays uses it twice for each packet.
 #[tactic(auto, unfolding(crate::specs::Fates::word_of, crate::specs::Fates::word_after))]
 fn below(generator: &mut Pcg32, bound: u32) -> u32
     requires { 0 < bound }
@@ -33,7 +34,7 @@ fn below(generator: &mut Pcg32, bound: u32) -> u32
     word % bound
 }
 
-/// What becomes of the next packet. It takes four numbers of the generator, whatever that is.
+/// The fate of the next packet. It takes four numbers of the generator, whatever the fate.
 pub(crate) fn next_fate(roughness: Roughness, generator: &mut Pcg32) -> Fate
     ensures fate { result ≡ fate_of roughness generator.old }
     ensures left { generator.new ≡ generator_after generator.old }

@@ -12,25 +12,26 @@ use mctp_wire::{HEAD_SIZE, MAX_PACKET, RawPacket, Unit};
 use std::io::{Read, Write};
 use thiserror::Error;
 
-/// The bytes of a frame's length.
+/// The size of a frame's length field in bytes.
 const LENGTH_SIZE: usize = 2;
 
-/// The most bytes of a frame, whatever the transmission unit: its length and a packet.
+/// The largest size of a frame in bytes, with any transmission unit: its length field and a packet.
 const MAX_FRAME: usize = LENGTH_SIZE + MAX_PACKET;
 
 /// The bytes of a frame.
 pub(crate) type Frame = ArrayVec<u8, MAX_FRAME>;
 
-/// Why a frame isn't read or written, or a link gives or takes none.
+/// Why a frame isn't read or written, or a link doesn't give or take one.
 #[derive(Clone, Copy, Debug, PartialEq, Eq, Error)]
 pub enum FrameFault {
-    /// No byte came: the stream is at its end.
+    /// The stream is at its end: no byte was read.
     #[error("End")]
     End,
     /// The stream ends within a frame.
     #[error("Cut")]
     Cut,
-    /// A length that no packet of the network has: 0, or more than a head and its transmission unit.
+    /// A length that no packet of the network has: 0, or more than a header and its transmission
+    /// unit.
     #[error("Size")]
     Size,
     /// The stream failed.
@@ -38,8 +39,8 @@ pub enum FrameFault {
     Io,
 }
 
-/// Whether a packet of a network with this transmission unit may have so many bytes: 1 to a head and the unit, 68 or 132
-/// (DSP0236, section 8.3).
+/// Whether a packet of a network with this transmission unit may have `size` bytes: 1 to a header
+/// and the unit, 68 or 132 (DSP0236, section 8.3).
 fn is_size(unit: Unit, size: usize) -> bool
     ensures yes { result ≡ true → IsSize unit size }
     ensures room { result ≡ true → size ≤ MAX_PACKET }
@@ -48,14 +49,15 @@ fn is_size(unit: Unit, size: usize) -> bool
     size != 0 && size <= HEAD_SIZE + unit.bytes()
 }
 
-/// Reads a frame of a network with this transmission unit: the length of a packet in two bytes, the low byte first, and the
-/// packet, of 1 byte to a head and the unit. Reads that are interrupted are tried again.
+/// Reads a frame of a network with this transmission unit: the length of a packet in two bytes, low
+/// byte first, and the packet, of 1 byte to a header and the unit. Interrupted reads are retried.
 ///
 /// # Errors
-/// - `End` where the reader is at its end, and nothing is read;
-/// - `Cut` where it ends before the frame does, and all that it had is read;
-/// - `Size` for a length of 0 or more than a head and the unit, 68 or 132 bytes, which alone is read;
-/// - `Io` where the reader fails, after a part of a frame.
+/// - `End` if the reader is at its end; nothing is read;
+/// - `Cut` if the reader ends within the frame; all its bytes are read;
+/// - `Size` for a length of 0 or more than a header and the unit, 68 or 132 bytes; only the length
+/// is read;
+/// - `Io` if the reader fails; a part of the frame may be read.
 pub fn read_frame<R: Read>(unit: Unit, reader: &mut R) -> Result<RawPacket, FrameFault>
     ensures ok { IfOk result (λ p. Consumes (R.remaining reader.old) (R.remaining reader.new) (frames_of (p.items ∷ []))) }
     ensures size { IfOk result (λ p. IsSize unit (length p.items)) }
@@ -68,7 +70,8 @@ pub fn read_frame<R: Read>(unit: Unit, reader: &mut R) -> Result<RawPacket, Fram
     }
 }
 
-/// Reads a frame as `read_frame` does, and puts its packet in place of what `packet` holds. After a fault that holds any bytes.
+/// Reads a frame as `read_frame` does, and replaces the content of `packet` by its packet. After a
+/// fault the content of `packet` is unspecified.
 pub(crate) fn read_frame_into<R: Read>(
     unit: Unit,
     reader: &mut R,
@@ -102,7 +105,7 @@ pub(crate) fn read_frame_into<R: Read>(
     Ok(())
 }
 
-/// Puts the bytes of a packet's frame in place of what `frame` holds.
+/// Replaces the content of `frame` by a packet's frame.
 fn put_frame(packet: &RawPacket, frame: &mut Frame)
     ensures { frame.new.items ≡ frame_of packet.now.items }
 {
@@ -113,11 +116,13 @@ fn put_frame(packet: &RawPacket, frame: &mut Frame)
     let _ = frame.try_extend_from_slice(packet.as_slice());
 }
 
-/// Writes the frame of a packet to a network with this transmission unit. Writes that are interrupted are tried again.
+/// Writes the frame of a packet to a network with this transmission unit. Interrupted writes are
+/// retried.
 ///
 /// # Errors
-/// - `Size` for a packet without a byte, or of more than a head and the unit, of which nothing is written;
-/// - `Io` where the writer fails, or takes no more bytes: a beginning of the frame may be written.
+/// - `Size` for an empty packet, or one of more bytes than a header and the unit; nothing is
+/// written;
+/// - `Io` if the writer fails, or takes no more bytes; a beginning of the frame may be written.
 pub fn write_frame<W: Write>(
     unit: Unit,
     writer: &mut W,
@@ -131,7 +136,7 @@ pub fn write_frame<W: Write>(
     write_frame_from(unit, writer, packet, &mut frame)
 }
 
-/// Writes the frame of a packet as `write_frame` does. It is made in place of what `frame` holds.
+/// Writes the frame of a packet as `write_frame` does. The frame replaces the content of `frame`.
 pub(crate) fn write_frame_from<W: Write>(
     unit: Unit,
     writer: &mut W,

@@ -8,8 +8,9 @@ use fd_core::Bank;
 use fw_world::{SentPackets, World};
 use mctp_wire::RawPacket;
 
-/// The number of the last packet of a pair, named by its device, that has these bytes and may still come: what a Deliver
-/// names. None exactly where there is no such packet. Those that the world knows to be dead aren't looked at.
+/// Returns the number of the pair's last living packet with these bytes, or none if there is no
+/// such packet. `pair` is the device's endpoint identifier; the result is the number that a Deliver
+/// step takes. Packets that the world knows to be dead are skipped.
 pub fn heard<B: Bank + Drop>(world: &World<'_, B>, pair: u8, packet: &RawPacket) -> Option<usize>
     ensures { IsHeard world.now pair packet.now.items result }
 {
@@ -19,7 +20,8 @@ pub fn heard<B: Bank + Drop>(world: &World<'_, B>, pair: u8, packet: &RawPacket)
     last_living(&packets, world.dead_packets(pair), world.now(), packet)
 }
 
-/// Whether there is a packet at a place, counted from 0, that may still come at this time and has these bytes.
+/// Whether the packet at `place`, counted from 0, is alive at tick `now` and has the bytes of
+/// `packet`.
 fn is_living(packets: &SentPackets<'_>, place: usize, now: u32, packet: &RawPacket) -> bool
     ensures yes { result ≡ true → IsSomeAnd (slice_get packets.now place) (LivesWith now packet.now.items) }
     ensures no { result ≡ false → IsSomeAnd (slice_get packets.now place) (LivesWith now packet.now.items) → ⊥ }
@@ -30,7 +32,8 @@ fn is_living(packets: &SentPackets<'_>, place: usize, now: u32, packet: &RawPack
     }
 }
 
-/// The number of the last of these packets that has these bytes and may still come at this time. So many of the first are dead.
+/// The number of the last living packet with the bytes of `packet`. The first `dead` packets are
+/// dead.
 fn last_living(
     packets: &SentPackets<'_>,
     dead: usize,

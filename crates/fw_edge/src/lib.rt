@@ -1,5 +1,5 @@
-//! The edge of a firmware update agent: packets (DSP0236) as frames over byte streams, links to devices, and the run of a
-//! world over them, every step of which is one that the world allows.
+//! The edge of a firmware update agent: packets (DSP0236) as frames over byte streams, links to
+//! devices, and the run of a world over links. Every step of a run is one that the world allows.
 #![tactic(auto)]
 
 mod driving;

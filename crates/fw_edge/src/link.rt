@@ -10,11 +10,13 @@ use crate::tally::Tally;
 use fw_world::Side;
 use mctp_wire::RawPacket;
 
-/// A link between the agent and a device, as both of its ends see it: what is sent at one end may come at the other, late,
-/// more than once, or never, and anything else may come too. `Side::Agent` names the agent's end, `Side::Device` the device's.
+/// A link between the agent and a device, with both of its ends. A packet sent at one end may
+/// arrive at the other late, more than once, or never, and other frames may arrive too.
+/// `Side::Agent` is the agent's end, `Side::Device` the device's.
 ///
-/// It counts what it does. Each count stops at its last value, 2^64 - 1, and only the one that a call says changes in it. A link
-/// may also tell contracts which bytes it took and gave at each end, as frames; one that doesn't leaves them unknown.
+/// A link counts its calls. Each count stops at 2^64 - 1, and each method changes only the counts
+/// that it names. In contracts, `taken` and `gave` are the bytes of the frames taken and given at
+/// each end, if the link knows them.
 pub trait Link {
     ghost tally: { Self → Tally };
 
@@ -22,29 +24,29 @@ pub trait Link {
 
     ghost gave: { Self → LinkBytes } = { λ _. none_known };
 
-    /// Takes a packet that was sent at an end.
+    /// Takes a packet that was sent at `side`.
     ///
     /// # Errors
-    /// Any fault, which is counted as a failure.
+    /// Any fault; it is counted as a failure.
     fn send(&mut self, side: Side, packet: &RawPacket) -> Result<(), FrameFault>
         ensures ok { OnOk result (SendsPacket (tally self.old) (tally self.new)) }
         ensures taken { OnOk result (GrowsAt side (frames_of (packet.now.items ∷ [])) (taken self.old) (taken self.new)) }
         ensures gave { OnOk result (gave self.new ≡ gave self.old) }
         ensures err { OnErr result (FailsCall (tally self.old) (tally self.new)) };
 
-    /// The next packet that came at an end, if there is one.
+    /// Returns the next packet that arrived at `side`, if there is one.
     ///
     /// # Errors
-    /// Any fault, also of bytes that are no frame, which is counted as a failure.
+    /// Any fault, also for bytes that aren't a frame; it is counted as a failure.
     fn receive(&mut self, side: Side) -> Result<Option<RawPacket>, FrameFault>
         ensures ok { IfOk result (λ p. AsksForFrame (is_some p) (tally self.old) (tally self.new)) }
         ensures gave { IfOk result (λ p. GrowsAt side (frames_of (option_to_list (option_map (λ q. q.items) p))) (gave self.old) (gave self.new)) }
         ensures taken { OnOk result (taken self.new ≡ taken self.old) }
         ensures err { OnErr result (FailsCall (tally self.old) (tally self.new)) };
 
-    /// Asks for the next packet that came at an end, as `receive` does, and puts it in place of what `packet` holds. Whether there
-    /// was one; where there was none `packet` stays as it is, and after a fault it holds any bytes. Whoever asks often makes the
-    /// place for a packet once.
+    /// Reads the next packet that arrived at `side`, as `receive` does, and replaces the content of
+    /// `packet` by it. Returns whether there was one; if not, `packet` is unchanged. After a fault
+    /// the content of `packet` is unspecified. A caller in a loop needs only one buffer.
     ///
     /// # Errors
     /// Those of `receive`.
@@ -65,19 +67,19 @@ pub trait Link {
         }
     }
 
-    /// How many calls failed, bytes that are no frame among them.
+    /// Returns the number of failed calls, also those that failed because bytes weren't a frame.
     fn failures(&self) -> u64
         ensures { result ≡ (tally self.now).failures };
 
-    /// How many packets were taken.
+    /// Returns the number of packets taken.
     fn sent(&self) -> u64
         ensures { result ≡ (tally self.now).sent };
 
-    /// How often a frame was asked for, without a failure.
+    /// Returns the number of calls that asked for a frame and didn't fail.
     fn asked(&self) -> u64
         ensures { result ≡ (tally self.now).asked };
 
-    /// How many frames were given.
+    /// Returns the number of frames given.
     fn given(&self) -> u64
         ensures { result ≡ (tally self.now).given };
 }

@@ -12,19 +12,19 @@ use mctp_wire::{RawPacket, copy_of};
 use std::alloc::Global;
 use std::collections::VecDeque;
 
-/// A link in memory that gives each packet once, in the order of sending. It fails only where the memory for a packet is
-/// refused; that packet is lost.
+/// A link in memory that delivers each packet once, in the order of sending. It fails only if
+/// memory for a packet is refused; that packet is lost.
 #[derive(Drop)]
 pub struct MemLink {
-    /// On the way to the agent.
+    /// Packets on the way to the agent.
     up: VecDeque<RawPacket>,
-    /// On the way to the device.
+    /// Packets on the way to the device.
     down: VecDeque<RawPacket>,
     tally: Tally,
 }
 
 impl MemLink {
-    /// A link on which nothing was sent.
+    /// Creates a link without packets.
     pub fn new(alloc: Global) -> MemLink
         ensures up { result.up.items ≡ [] }
         ensures down { result.down.items ≡ [] }
@@ -40,7 +40,8 @@ impl MemLink {
         }
     }
 
-    /// Puts a packet that was sent at an end behind those that are on the way, if there is memory for it.
+    /// Appends a packet that was sent at `side` to the packets on the way, if there is memory for
+    /// it.
     fn put(&mut self, side: Side, packet: RawPacket) -> bool
         ensures tally { self.new.tally ≡ self.old.tally }
         ensures agent { side ≡ Side.Agent → result ≡ true → self.new.down.items ≡ self.old.down.items ++ packet ∷ [] }
@@ -57,7 +58,7 @@ impl MemLink {
         }
     }
 
-    /// Takes the first of the packets that are on the way to an end, if there is one.
+    /// Removes and returns the first packet on the way to `side`, if there is one.
     fn take(&mut self, side: Side) -> Option<RawPacket>
         ensures tally { self.new.tally ≡ self.old.tally }
         ensures agent { side ≡ Side.Agent → self.old.up.items ≡ option_to_list result ++ self.new.up.items }

@@ -1,4 +1,4 @@
-//! Packets of a world, written to its links.
+//! Writes packets of a world to its links.
 
 ghost use Rattle.std.specs.Prelude.{◌≡◌, ◌≤◌, ◌<◌, ◌+◌, ◌-◌, IfErr, OnOk, length, map, slice_get};
 ghost use Rattle.fw_edge.specs.Ledgers.{NoCountFalls, packet_counts};
@@ -13,7 +13,8 @@ use fd_core::Bank;
 use fw_world::{SentPackets, Side, World};
 use mctp_wire::{MAX_PACKET, RawPacket};
 
-/// The end of a device's link at which a packet goes out: that of its sender, whom its third byte names (DSP0236).
+/// The end of a device's link at which a packet is sent: that of its source, which is its third
+/// byte (DSP0236).
 fn end_of(packet: &[u8], device: u8) -> Side
     ensures { result ≡ end_of packet.now device }
 {
@@ -26,7 +27,7 @@ fn end_of(packet: &[u8], device: u8) -> Side
     Side::Agent
 }
 
-/// Puts these bytes in place of what a packet holds.
+/// Replaces the content of a packet.
 fn put(packet: &mut RawPacket, bytes: &[u8])
     requires { length bytes.now ≤ MAX_PACKET }
     ensures { packet.new.items ≡ bytes.now }
@@ -35,7 +36,7 @@ fn put(packet: &mut RawPacket, bytes: &[u8])
     let _ = packet.try_extend_from_slice(bytes);
 }
 
-/// Writes these packets of a pair to its link, each at its sender's end.
+/// Writes packets of a pair to its link, each at the end of its source.
 fn write_each<L: Link>(link: &mut L, packets: &SentPackets<'_>, device: u8) -> Result<(), EdgeFault>
     ensures took { OnOk result (LinkTakesAll device (L.taken link.old) (map (λ p. p.bytes) packets.now) (L.taken link.new)) }
     ensures wrote { OnOk result (LinkWriteOk L.tally L.gave (length packets.now) link.old link.new) }
@@ -55,7 +56,7 @@ fn write_each<L: Link>(link: &mut L, packets: &SentPackets<'_>, device: u8) -> R
     Ok(())
 }
 
-/// How many packets were sent in the pair of the device at a place.
+/// The number of packets sent in the pair of the device at `place`.
 pub(crate) fn sent_at<B: Bank + Drop>(world: &World<'_, B>, place: usize) -> usize
     ensures { result ≡ length (packets_at (slice_get world.now.sites place)) }
 {
@@ -65,7 +66,7 @@ pub(crate) fn sent_at<B: Bank + Drop>(world: &World<'_, B>, place: usize) -> usi
     }
 }
 
-/// Writes the packets of the pair of the device at a place that stand behind so many to its link.
+/// Writes the packets of the pair of the device at `place` after the first `written` to its link.
 #[tactic(auto, using(crate::proofs::Taking::took_written))]
 fn write_at<B: Bank + Drop, L: Link>(
     world: &World<'_, B>,
@@ -89,8 +90,9 @@ fn write_at<B: Bank + Drop, L: Link>(
     }
 }
 
-/// Writes each packet that isn't written yet to the link of its pair, in configured order, by rising number. `written[i]` counts
-/// the packets that link i has taken; afterwards these are all.
+/// Writes each packet that isn't written yet to the link of its pair, in configured order and
+/// ascending numbers. `written[i]` is the number of packets that link i has taken; afterwards it is
+/// the number of all packets of the pair.
 pub(crate) fn write_out<B: Bank + Drop, L: Link>(
     world: &World<'_, B>,
     links: &mut [L],

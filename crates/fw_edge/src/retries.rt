@@ -1,4 +1,4 @@
-//! Reads and writes of several bytes, which are tried again where they are interrupted.
+//! Reads and writes of several bytes that are retried if they are interrupted.
 
 ghost use Rattle.std.specs.Prelude.{◌≢◌, ◌<◌, ◌≤◌, length, IfErr, OnErr, OnOk};
 ghost use Rattle.std.specs.Io.KnownBytes.{Appends, Consumes, IsAtEnd};
@@ -8,10 +8,10 @@ ghost use Rattle.fw_edge.specs.Frames.{BeginsOf, PartOf};
 use mctp_wire::{MAX_PACKET, RawPacket};
 use std::io::{self, ErrorKind, Read, Write};
 
-/// Reads so many bytes in place of what `held` holds, fewer only where the reader is at its end.
+/// Reads `size` bytes, or fewer at the reader's end, and replaces the content of `held` by them.
 ///
 /// # Errors
-/// Why the reader failed, which isn't that it was interrupted.
+/// The reader's error, other than an interruption.
 pub(crate) fn read_up_to<R: Read>(
     reader: &mut R,
     size: usize,
@@ -47,10 +47,10 @@ pub(crate) fn read_up_to<R: Read>(
     Err(io::Error::from(ErrorKind::TimedOut))
 }
 
-/// Writes all these bytes, one or more.
+/// Writes all bytes, one or more.
 ///
 /// # Errors
-/// Why the writer failed, which isn't that it was interrupted; or `WriteZero` where it takes no more bytes.
+/// The writer's error, other than an interruption, or `WriteZero` if it takes no more bytes.
 pub(crate) fn write_whole<W: Write>(writer: &mut W, bytes: &[u8]) -> io::Result<()>
     requires some { 1 ≤ length bytes.now }
     ensures ok { OnOk result (Appends (W.contents writer.old) (W.contents writer.new) bytes.now) }

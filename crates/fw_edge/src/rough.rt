@@ -1,4 +1,4 @@
-//! A link that is bad on purpose.
+//! A link that loses, duplicates and delays packets on purpose.
 
 ghost use Rattle.std.specs.Prelude.{[], ◌∷◌, ◌≡◌, ◌≤◌, ◌+◌, ◌-◌, ◌^◌, ◌<◌, ◌⊎◌, false, true, IfOk, OnErr, OnOk, is_some, length, min, option_map, option_to_list, vec_capacity};
 ghost use Rattle.std.specs.List.{filter};
@@ -20,44 +20,47 @@ use mctp_wire::{RawPacket, copy_of};
 use rand_pcg::Pcg32;
 use std::alloc::{AllocError, Global};
 
-/// For how many packets that are held back a link has room from the beginning: more than the frames of any turn.
+/// The number of delayed packets that fit without allocating: more than the frames of any turn.
 const MOST_HELD: usize = 1_024;
 
-/// A packet that is held back.
+/// A delayed packet.
 #[derive(Drop)]
 pub struct DelayedPacket {
     /// The end at which it was sent.
     side: Side,
-    /// Behind which turn it goes out.
+    /// The turn after which it is sent.
     due: u64,
     packet: RawPacket,
 }
 
-/// A link over another that loses, repeats and holds back packets on purpose, as a generator of random numbers says: a seed
-/// says it again.
+/// A link over another link that loses, duplicates and delays packets on purpose. A random
+/// generator decides, so a seed repeats the run.
 ///
-/// It does so with what is sent: a packet that is lost is taken, and doesn't go on to the link below; one that comes twice goes
-/// on twice; and one that is late is held back for so many turns. What the link below gives, it gives.
+/// It does so to packets that are sent. A lost packet is taken, but not passed on to the lower
+/// link; a duplicated packet is passed on twice; and a delayed packet is held back for some turns.
+/// Frames of the lower link are returned unchanged.
 ///
-/// A turn, as a link sees it, ends where its ends are asked one after the other, the device's first, and neither gives a frame.
-/// `drive` asks so in the last round of each turn, unless it stops there at its limit of frames, and for a single device in no other.
+/// For a link, a turn ends when the device's end and then the agent's end were asked for a frame
+/// and neither gave one. `drive` does so in the last round of each turn, unless it stops there at
+/// its limit of frames; for a single device it does so in no other round.
 ///
-/// Where the link below fails to take what is due, all that is held back stays so, also what has gone out: a caller who goes on sends
-/// it once more.
+/// If the lower link fails to take a due packet, all delayed packets stay held back, also those
+/// that were passed on; a caller that continues sends them again.
 #[derive(Drop)]
 pub struct Rough<L: Link + Drop> {
     link: L,
     roughness: Roughness,
     generator: Pcg32,
     held: Vec<DelayedPacket>,
-    /// How many turns have ended.
+    /// The number of turns that have ended.
     turn: u64,
-    /// Whether the device's end gave nothing when it was asked last, and the agent's gave no answer and no call failed since.
+    /// Whether the device's end gave no frame when it was last asked, and since then no call has
+    /// failed and the agent's end gave no answer.
     is_idle: bool,
     tally: Tally,
 }
 
-/// Passes a copy of a packet that was sent at an end on to the link below, or holds it back where it comes late.
+/// Passes a copy of a packet on to the lower link, or holds it back if it is delayed.
 fn pass_copy<L: Link>(
     link: &mut L,
     held: &mut Vec<DelayedPacket>,
@@ -86,7 +89,7 @@ fn pass_copy<L: Link>(
     }
 }
 
-/// Passes a packet that was sent at an end on to the link below, as its fate says.
+/// Passes a packet on to the lower link, according to its fate.
 fn pass<L: Link>(
     link: &mut L,
     held: &mut Vec<DelayedPacket>,
@@ -113,7 +116,7 @@ fn pass<L: Link>(
     }
 }
 
-/// Passes on those packets that are due behind a turn.
+/// Passes on the packets that are due after `turn`.
 fn send_due<L: Link>(link: &mut L, held: &[DelayedPacket], turn: u64) -> Result<(), FrameFault>
     ensures out { OnOk result (GoOut (filter (is_due turn) (helds_of held.now)) (L.taken link.old) (L.taken link.new)) }
     ensures counts { OnOk result (TakesPackets (length (filter (is_due turn) (helds_of held.now))) (L.tally link.old) (L.tally link.new)) }
@@ -131,14 +134,14 @@ fn send_due<L: Link>(link: &mut L, held: &[DelayedPacket], turn: u64) -> Result<
     Ok(())
 }
 
-/// Lets go of those packets that are due behind a turn.
+/// Removes the packets that are due after `turn`.
 fn let_go(held: &mut Vec<DelayedPacket>, turn: u64)
     ensures { helds_of held.new.items ≡ filter (is_late turn) (helds_of held.old.items) }
 {
     held.retain(|packet| packet.due > turn);
 }
 
-/// Passes on what is held back and due behind a turn.
+/// Passes on the delayed packets that are due after `turn`, and removes them.
 fn release<L: Link>(
     link: &mut L,
     held: &mut Vec<DelayedPacket>,
@@ -159,7 +162,7 @@ fn release<L: Link>(
 }
 
 impl<L: Link + Drop> Rough<L> {
-    /// A rough link over this one, whose chances are a stream of their own among those of the seed.
+    /// Creates a rough link over `link`. Its random numbers are the stream `stream` of the seed.
     pub fn new(alloc: Global, link: L, roughness: Roughness, stream: u64) -> Rough<L>
         ensures link { result.link ≡ link }
         ensures roughness { result.roughness ≡ roughness }
@@ -183,8 +186,8 @@ impl<L: Link + Drop> Rough<L> {
         }
     }
 
-    /// A rough link over this one, as `new` makes it. If it makes packets late, there is room for 1,024 of them: while fewer are held
-    /// back, it asks for no memory.
+    /// Creates a rough link over `link`, as `new` does. If it delays packets, it has room for 1,024
+    /// of them; it allocates only when more are held back.
     ///
     /// # Errors
     /// `AllocError` if memory is refused.
@@ -216,7 +219,8 @@ impl<L: Link + Drop> Rough<L> {
         Ok(rough)
     }
 
-    /// An end was asked, and gave a frame or not: behind a turn what is due goes out.
+    /// Records that an end was asked, and whether it gave a frame; after a turn, passes on what is
+    /// due.
     fn pass_turn(&mut self, side: Side, gave: bool) -> Result<(), FrameFault>
         ensures same { (self.new.tally ≡ self.old.tally) × (self.new.generator ≡ self.old.generator) × (self.new.roughness ≡ self.old.roughness) }
         ensures idle { self.new.is_idle ≡ idle_after side gave }

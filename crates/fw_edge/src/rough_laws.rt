@@ -1,9 +1,10 @@
-//! What holds of rough links.
+//! Laws of rough links.
 
 ghost use Rattle.fw_edge.specs.Roughening.{FatesAreWithin};
 
-/// What becomes of packets is within what is asked for: at 0 of a hundred none is lost, or comes twice, and at 100 each; and none
-/// is later than it may be. So where nothing is asked for each packet comes once, and at once.
+/// Fates are within the roughness: at 0 percent no packet is lost, or duplicated, and at 100
+/// percent each is; and no delay exceeds the limit. Without roughness each packet arrives once,
+/// without delay.
 pub fn fates_are_within()
     ensures { FatesAreWithin }
 {}

@@ -1,4 +1,4 @@
-//! Rounds of a turn: what was sent goes out, and a frame is read at each end.
+//! Rounds of a turn: packets are written, and a frame is read at each end.
 
 ghost use Rattle.std.specs.Prelude.{[], ◌∷◌, ◌≡◌, ◌≤◌, ◌<◌, ◌+◌, ◌⊎◌, IfErr, IfOk, None, OnErr, OnOk, length, slice_get};
 ghost use Rattle.fw_edge.specs.Links.{links_at};
@@ -20,20 +20,20 @@ use fd_core::Bank;
 use fw_world::{Side, Step, World};
 use mctp_wire::RawPacket;
 
-/// A turn reads no more frames once it has read so many; the round that reaches it is finished.
+/// A turn stops reading after this number of frames; the round that reaches it is finished.
 const MAX_FRAMES: usize = 1_024;
 
-/// Frames that were read.
+/// Counts of received frames.
 #[derive(Clone, Copy)]
 pub(crate) struct Frames {
-    /// Packets of their pairs.
+    /// Living packets of their pairs.
     pub(crate) known: usize,
-    /// The others.
+    /// Other frames.
     pub(crate) foreign: usize,
 }
 
 impl Frames {
-    /// None.
+    /// No frames.
     fn none() -> Frames
         ensures known { result.known ≡ 0 }
         ensures foreign { result.foreign ≡ 0 }
@@ -44,7 +44,7 @@ impl Frames {
         }
     }
 
-    /// How many they are.
+    /// The sum of both counts.
     fn count(self) -> usize
         requires { self.known + self.foreign ≤ 4096 }
         ensures { result ≡ self.known + self.foreign }
@@ -52,7 +52,7 @@ impl Frames {
         self.known + self.foreign
     }
 
-    /// These and others.
+    /// The sums of both counts.
     fn and(self, others: Frames) -> Frames
         requires { (self.known + self.foreign) + (others.known + others.foreign) ≤ 4096 }
         ensures known { result.known ≡ self.known + others.known }
@@ -78,8 +78,8 @@ fn node_at<B: Bank + Drop>(world: &World<'_, B>, device: u8, end: Side) -> u8
     }
 }
 
-/// The packet that a frame is comes to the node at an end of a device's link; a frame that is no living packet of the pair
-/// comes to nobody.
+/// Delivers the packet of a frame to the node at an end of a device's link. A frame that isn't a
+/// living packet of the pair is dropped.
 #[tactic(auto, using(crate::proofs::Arriving::may_deliver))]
 fn hand_over<B: Bank + Drop>(
     world: &mut World<'_, B>,
@@ -111,7 +111,8 @@ fn hand_over<B: Bank + Drop>(
     })
 }
 
-/// Reads a frame at an end of a device's link, if there is one, and hands it over. Its packet is put into `packet`.
+/// Reads a frame at an end of a device's link, if there is one, and delivers it. `packet` is its
+/// buffer.
 fn read_end<B: Bank + Drop, L: Link>(
     world: &mut World<'_, B>,
     device: u8,
@@ -136,7 +137,7 @@ fn read_end<B: Bank + Drop, L: Link>(
     }
 }
 
-/// Reads a frame at each end of a device's link, the device's first. Its packet is put into `packet`.
+/// Reads a frame at each end of a device's link, the device's first. `packet` is the buffer.
 fn read_both<B: Bank + Drop, L: Link>(
     world: &mut World<'_, B>,
     device: u8,
@@ -158,7 +159,7 @@ fn read_both<B: Bank + Drop, L: Link>(
     Ok(first.and(second))
 }
 
-/// The device at a place.
+/// The endpoint identifier of the device at `place`.
 fn eid_at<B: Bank + Drop>(world: &World<'_, B>, place: usize) -> u8
     ensures { result ≡ eid_in (slice_get world.now.sites place) }
 {
@@ -193,7 +194,7 @@ fn read_round<B: Bank + Drop, L: Link>(
     Ok(frames)
 }
 
-/// A round: what isn't written goes out, and a frame is read at each end.
+/// A round: writes the unwritten packets, and reads a frame at each end.
 fn round<B: Bank + Drop, L: Link>(
     world: &mut World<'_, B>,
     links: &mut [L],
@@ -220,8 +221,8 @@ fn round<B: Bank + Drop, L: Link>(
     Ok(frames)
 }
 
-/// The rounds of a turn. The last one reads no frame, or is the one in which the turn has read enough: at most 1,055 frames come, 1,023
-/// before the last round and 32 in it.
+/// The rounds of a turn. The last round reads no frame, or brings the turn to its limit. At most
+/// 1,055 frames are received: 1,023 before the last round and 32 in it.
 fn rounds<B: Bank + Drop, L: Link>(
     world: &mut World<'_, B>,
     links: &mut [L],
@@ -251,7 +252,7 @@ fn rounds<B: Bank + Drop, L: Link>(
     Ok(frames)
 }
 
-/// The rounds of a turn; what is unwritten then goes out.
+/// The rounds of a turn; then the unwritten packets are written.
 pub(crate) fn exchange<B: Bank + Drop, L: Link>(
     world: &mut World<'_, B>,
     links: &mut [L],

@@ -16,10 +16,11 @@ use fw_message::awaits;
 use fw_world::{Missed, Step, World};
 use ua_core::SessionState;
 
-/// Takes a step that may be taken, and puts it behind the others. The room for it is made first.
+/// Takes a step that the world allows, and appends it to `steps`. The room for it is reserved
+/// first.
 ///
 /// # Errors
-/// `Memory` where memory is refused. Nothing has changed then.
+/// `Memory` if memory is refused; nothing has changed then.
 pub(crate) fn take<B: Bank + Drop>(
     world: &mut World<'_, B>,
     steps: &mut Vec<Step>,
@@ -46,10 +47,11 @@ pub(crate) fn take<B: Bank + Drop>(
     Ok(())
 }
 
-/// A tick passes, which nobody misses.
+/// Takes a tick that no node misses.
 ///
 /// # Errors
-/// `Step` where the clock stands at its last unit, and `Memory`. Nothing has changed then.
+/// `Step` if the clock is at its last tick, and `Memory` if memory is refused; nothing has changed
+/// then.
 #[tactic(auto, using(crate::proofs::Full::full_may))]
 pub(crate) fn tick<B: Bank + Drop>(
     world: &mut World<'_, B>,
@@ -70,7 +72,7 @@ pub(crate) fn tick<B: Bank + Drop>(
     take(world, steps, Step::Tick(Missed::new()))
 }
 
-/// The verdict that a device waits for: that all is well.
+/// The verdict that a device waits for; it is always a success.
 fn awaited<B: Bank + Drop>(world: &World<'_, B>, device: u8) -> Option<Verdict>
     ensures may { IfSome result (λ v. may_step world.now (Step.Verdict device v) ≡ None) }
     ensures good { IfSome result (λ v. is_good v ≡ true) }
@@ -88,7 +90,7 @@ fn awaited<B: Bank + Drop>(world: &World<'_, B>, device: u8) -> Option<Verdict>
     None
 }
 
-/// Whether the session with a device waits for the operator to activate what was applied.
+/// Whether the session with a device waits for the operator's activation.
 fn is_ready<B: Bank + Drop>(world: &World<'_, B>, device: u8) -> bool
     ensures may { result ≡ true → may_step world.now (Step.Activate device) ≡ None }
     ensures ready { result ≡ is_some (ready_for world.now.agent device) }
@@ -99,7 +101,7 @@ fn is_ready<B: Bank + Drop>(world: &World<'_, B>, device: u8) -> bool
     }
 }
 
-/// The device at a place has the verdict that it waits for, if it waits for one.
+/// Gives the device at `place` the verdict that it waits for, if any.
 #[tactic(auto, using(crate::proofs::Gaining::verdict_sends_none))]
 fn judge<B: Bank + Drop>(
     world: &mut World<'_, B>,
@@ -122,7 +124,7 @@ fn judge<B: Bank + Drop>(
     take(world, steps, Step::Verdict(device, verdict))
 }
 
-/// The operator has the device at a place activate, if its session waits for that.
+/// Activates the session with the device at `place`, if it waits for that.
 #[tactic(auto, using(crate::proofs::Gaining::activation_sends_none))]
 fn activate<B: Bank + Drop>(
     world: &mut World<'_, B>,
@@ -145,7 +147,7 @@ fn activate<B: Bank + Drop>(
     take(world, steps, Step::Activate(device))
 }
 
-/// Each device that waits for a verdict has it, in configured order.
+/// Gives each waiting device its verdict, in configured order.
 pub(crate) fn judge_all<B: Bank + Drop>(
     world: &mut World<'_, B>,
     steps: &mut Vec<Step>,
@@ -164,7 +166,7 @@ pub(crate) fn judge_all<B: Bank + Drop>(
     Ok(())
 }
 
-/// Each session that waits for that activates, in configured order.
+/// Activates each waiting session, in configured order.
 pub(crate) fn activate_all<B: Bank + Drop>(
     world: &mut World<'_, B>,
     steps: &mut Vec<Step>,

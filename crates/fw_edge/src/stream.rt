@@ -12,24 +12,25 @@ use fw_world::Side;
 use mctp_wire::{RawPacket, Unit};
 use std::io::{Read, Write};
 
-/// A link of a network with a transmission unit, whose ends are those of a byte stream, as of a socket: the frames that are
-/// written at one are read at the other. It reads only where a frame that it wrote is still to come, so it never waits for nothing;
-/// what the other end's stream holds back goes out before, so a stream may write many frames at once.
+/// A link whose ends are byte streams, such as sockets: a frame written at one end is read at the
+/// other. It reads only if a frame that it wrote is still on the way, so it never blocks on an
+/// empty stream. Before a read it flushes the other end's stream, so a stream may buffer many
+/// frames.
 #[derive(Drop)]
 pub struct StreamLink<S: Read + Write + Drop> {
     unit: Unit,
     agent: S,
     device: S,
-    /// Frames on the way to the agent.
+    /// The number of frames on the way to the agent.
     up: u64,
-    /// Frames on the way to the device.
+    /// The number of frames on the way to the device.
     down: u64,
     tally: Tally,
-    /// Where the frames that are written are made.
+    /// The buffer of written frames.
     frame: Frame,
 }
 
-/// Lets go out what a stream holds back.
+/// Flushes a stream.
 fn flush<S: Write>(stream: &mut S) -> Result<(), FrameFault>
     ensures kept { Keeps (S.contents stream.old) (S.contents stream.new) }
     ensures fault { IfErr result (λ e. e ≡ FrameFault.Io) }
@@ -41,7 +42,8 @@ fn flush<S: Write>(stream: &mut S) -> Result<(), FrameFault>
 }
 
 impl<S: Read + Write + Drop> StreamLink<S> {
-    /// The link between these two ends, on which nothing was sent, in a network with this transmission unit.
+    /// Creates the link between these two ends, with no frame on the way, in a network with this
+    /// transmission unit.
     pub fn new(unit: Unit, agent: S, device: S) -> StreamLink<S>
         ensures unit { result.unit ≡ unit }
         ensures agent { result.agent ≡ agent }
@@ -64,7 +66,8 @@ impl<S: Read + Write + Drop> StreamLink<S> {
         }
     }
 
-    /// Writes the frame of a packet at an end; it is then on the way to the other. The stream of that other end stays as it is.
+    /// Writes the frame of a packet at an end; it is then on the way to the other end, whose stream
+    /// is unchanged.
     fn write(&mut self, side: Side, packet: &RawPacket) -> Result<(), FrameFault>
         ensures tally { self.new.tally ≡ self.old.tally }
         ensures unit { self.new.unit ≡ self.old.unit }
@@ -88,10 +91,11 @@ impl<S: Read + Write + Drop> StreamLink<S> {
         Ok(())
     }
 
-    /// Reads a frame at an end, if one is on the way there, and puts its packet in place of what `packet` holds; else it leaves the
-    /// streams and the packet as they are. Whether there was one. What the stream of the other end holds back goes out before, and
-    /// nothing else is written there. A frame that can't be read, or before which that doesn't go out, is on the way no more: behind a
-    /// fault the streams of a link give nothing that can be relied on.
+    /// Reads a frame at an end, if one is on the way there, and replaces the content of `packet` by
+    /// its packet. Returns whether there was one; if not, the streams and the packet are unchanged.
+    /// The other end's stream is flushed before, and nothing else is written there. After a failed
+    /// flush or read the frame no longer counts as on the way, and the streams' contents are
+    /// unreliable.
     fn read(&mut self, side: Side, packet: &mut RawPacket) -> Result<bool, FrameFault>
         ensures tally { self.new.tally ≡ self.old.tally }
         ensures unit { self.new.unit ≡ self.old.unit }

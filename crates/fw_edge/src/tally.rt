@@ -1,23 +1,23 @@
-//! What a link counts.
+//! The counts of a link.
 
 ghost use Rattle.std.specs.Prelude.{◌≡◌, false, true};
 ghost use Rattle.fw_edge.specs.Links.{AsksForFrame, FailsCall, SendsPacket};
 
-/// What a link has done so far. Each count stops at its last value.
+/// The counts of a link's calls so far. Each count stops at 2^64 - 1.
 #[derive(Clone, Copy, PartialEq, Eq)]
 pub struct Tally {
     /// Calls that failed.
     pub failures: u64,
-    /// Packets that it took.
+    /// Packets taken.
     pub sent: u64,
-    /// How often it was asked for a frame, and didn't fail.
+    /// Calls that asked for a frame and didn't fail.
     pub asked: u64,
-    /// Frames that it gave.
+    /// Frames given.
     pub given: u64,
 }
 
 impl Tally {
-    /// Nothing yet.
+    /// Creates counts of 0.
     pub fn new() -> Tally
         ensures failures { result.failures ≡ 0 }
         ensures sent { result.sent ≡ 0 }
@@ -32,21 +32,21 @@ impl Tally {
         }
     }
 
-    /// Counts a call that failed.
+    /// Counts a failed call.
     pub fn fail(&mut self)
         ensures { FailsCall self.old self.new }
     {
         self.failures = self.failures.saturating_add(1);
     }
 
-    /// Counts a packet that was taken.
+    /// Counts a taken packet.
     pub fn send(&mut self)
         ensures { SendsPacket self.old self.new }
     {
         self.sent = self.sent.saturating_add(1);
     }
 
-    /// Counts that a frame was asked for, and whether one was given.
+    /// Counts a call that asked for a frame, and whether one was given.
     pub fn ask(&mut self, gave: bool)
         ensures { AsksForFrame gave self.old self.new }
     {

@@ -1,4 +1,4 @@
--- What is told piece by piece is told as a whole.
+-- Appending the pieces one by one appends their concatenation.
 use Rattle.std.proofs.Common.{◌≡◌, ◌∙◌, List, ◌++◌, append_assoc, ap, refl}
 use Rattle.json.specs.Token.{Token}
 use Rattle.json.specs.Written.{Written}
@@ -10,7 +10,7 @@ tells_more {w} {w1} {w2} {a} {b} first second = record {
   before = second.before ∙ first.before;
 }
 
--- a piece more is told, and less is left
+-- appending one more piece leaves the rest to append
 pub told_more : (w w1 : Written) (rest all piece : List Token) → w.tokens ++ (piece ++ rest) ≡ all → AppendsTokens w w1 piece → w1.tokens ++ rest ≡ all
 told_more w w1 rest all piece told tells = ap (λ ts. ts ++ rest) tells.tokens ∙ append_assoc w.tokens piece rest ∙ told
 

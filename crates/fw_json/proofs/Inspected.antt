@@ -1,4 +1,4 @@
--- The value of a package nests five deep.
+-- The value of a package nests five levels deep.
 use Rattle.std.proofs.Common.{◌≤◌, ℕ, arith}
 use Rattle.json.specs.Json.{max_depth}
 use Rattle.json.specs.Tree.{depth}

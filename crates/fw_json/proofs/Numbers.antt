@@ -1,4 +1,4 @@
--- The number after one of 64 bits is written as a number of JSON.
+-- A 64-bit number plus one is written as a JSON number.
 use Rattle.std.proofs.Common.{◌^◌, ◌+◌, ◌<◌, ℕ, decimal, refl, arith, subst, inl, inr}
 use Rattle.std.proofs.lemmas.Bool.{cases_lt}
 use Rattle.std.specs.Fmt.{digits}

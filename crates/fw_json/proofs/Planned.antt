@@ -1,4 +1,4 @@
--- The value of what an update would come to nests seven deep.
+-- The value of a plan nests seven levels deep.
 use Rattle.mctp_wire.specs.declared.unit.Unit.TheVariants.{U64}
 use Rattle.std.proofs.Common.{◌≤◌, ◌+◌, ℕ, codes, List, Option, Some, None, Result, Ok, Err, map, arith}
 use Rattle.json.specs.Json.{Json, Items, max_depth, no_items, null}

@@ -1,4 +1,4 @@
--- What is written of a value reads back as that value.
+-- The written value decodes to that value.
 use Rattle.std.proofs.Common.{◌≡◌, ◌≤◌, ℕ, ◌+◌, List, [], ◌∷◌, option_and_then, sym, ap, ◌∙◌, arith, append-nil, Result, Ok, Err, OnOk}
 use Rattle.json.specs.Json.{Json, if_last, value, max_depth}
 use Rattle.json.specs.Lex.{tokens}
@@ -8,7 +8,7 @@ use Rattle.json.specs.Tree.{json_tokens, depth, items_depth}
 use Rattle.json.proofs.Printed.Trees.{value-json_tokens}
 use Rattle.fw_json.specs.Values.{ReadsBack, numbered_items, items}
 
--- tokens that are found in their text again are read as the value that they are of
+-- tokens that decode from their text decode to their value
 pub read_back : (j : Json) (ts : List Token) → ts ≡ json_tokens j → tokens (print ts) ≡ ts → depth j ≤ max_depth → ReadsBack j
 read_back j ts of found shallow =
     ap (option_and_then (λ p. if_last p.0 p.1))
@@ -24,7 +24,7 @@ pub counted_shallow : {A : Type 0} (f : ℕ → A → Json) (n : ℕ) → ((k : 
 counted_shallow f n h k [] = omega arith
 counted_shallow f n h k (x ∷ xs) = omega (arith, h k x, counted_shallow f n h (k + 1) xs)
 
--- what holds at any rate holds of a success
+-- a fact that always holds, holds for a success
 pub on_ok : {T E P : Type 0} (r : Result T E) → P → OnOk r P
 on_ok (Ok x) h = h
 on_ok (Err e) h = tt

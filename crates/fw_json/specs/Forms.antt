@@ -1,4 +1,4 @@
--- What is written in either form: the text for a reader, or the line of a value of JSON for a program.
+-- The output in either format: the text for readers, or a line with a JSON value for programs.
 use Rattle.std.specs.Prelude.{ℕ, List}
 use Rattle.fw_package.specs.Package.{PackageText}
 use Rattle.fw_script.specs.Configs.{DeviceConfigOf}
@@ -23,7 +23,7 @@ abbrev pub report_in : Form → WorldOf → List ℕ
 report_in forms.Text w = report_of w
 report_in forms.Json w = line_of (report_value w)
 
--- what an update of a configuration's devices would come to, for the package of this number
+-- the plan of an update for a configuration's devices, with package `number`
 abbrev pub plan_in : Form → (number : ℕ) → PackageText → List DeviceConfigOf → List ℕ
 plan_in forms.Text number p devices = forecast_of number p devices
 plan_in forms.Json number p devices = line_of (plan_value number p devices)

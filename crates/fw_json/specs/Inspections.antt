@@ -1,5 +1,6 @@
--- The value of a package that `fwupd inspect --json` writes: the package, its records with their descriptors, its components. What
--- a key names is what the text of `fwupd inspect` has in its place; keys are only ever added.
+-- The value that `fwupd inspect --json` writes: the package, its records with their descriptors,
+-- and its components. Each member has the value that the text of `fwupd inspect` shows; keys are
+-- only ever added.
 use Rattle.std.specs.Prelude.{ℕ, ◌+◌, [], ◌∷◌, codes}
 use Rattle.json.specs.Json.{Json, array, string}
 use Rattle.fw_package.specs.Components.{PlaceOf}
@@ -20,7 +21,7 @@ record_value n r =
     ((codes "number", number_value n) ∷ (codes "flags", number_value r.flags) ∷ (codes "set", text_value r.set_text.bytes)
     ∷ (codes "uses", array (items use_value r.uses)) ∷ (codes "descriptors", array (items descriptor_value r.descriptors)) ∷ [])
 
--- a component's value, which names its image by length and place
+-- a component's value, with its image's length and position
 unfoldable pub component_value : (number : ℕ) → PlaceOf → Json
 component_value n c =
     object_of
@@ -28,7 +29,7 @@ component_value n c =
     ∷ (codes "stamp", number_value c.stamp) ∷ (codes "options", number_value c.options) ∷ (codes "offset", number_value c.offset)
     ∷ (codes "size", number_value c.size) ∷ (codes "version", text_value c.text.bytes) ∷ [])
 
--- what is written of a package without its images
+-- the value of a package without its images
 abbrev pub outline_value : OutlineOf → Json
 outline_value o =
     object_of
@@ -36,6 +37,6 @@ outline_value o =
     ∷ (codes "records", array (numbered_items record_value 1 o.records))
     ∷ (codes "components", array (numbered_items component_value 1 o.places)) ∷ [])
 
--- what is written of a package
+-- the value of a package
 abbrev pub inspection_value : PackageText → Json
 inspection_value p = outline_value (outline_of_package p)

@@ -1,4 +1,4 @@
--- Values of JSON, and the line that a value is written as.
+-- JSON values, and the line of a value.
 use Rattle.std.specs.Prelude.{◌≡◌, ℕ, ◌+◌, List, [], ◌∷◌, ◌++◌, decimal, Option, Some, None}
 use Rattle.std.specs.List.{flat_map}
 use Rattle.hex.specs.Hex.{encode_upper}
@@ -15,12 +15,12 @@ members (m ∷ ms) = member m.0 m.1 (members ms)
 abbrev pub object_of : List (List ℕ × Json) → Json
 object_of ms = object (members ms)
 
--- the items of an array: the values of these things, in their order
+-- the items of an array: the values of the listed things, in order
 abbrev pub items : {A : Type 0} → (A → Json) → List A → Items
 items f [] = no_items
 items f (x ∷ xs) = item (f x) (items f xs)
 
--- the same of things that are counted, from number n on
+-- the same for things numbered from n
 abbrev pub numbered_items : {A : Type 0} → (ℕ → A → Json) → ℕ → List A → Items
 numbered_items f n [] = no_items
 numbered_items f n (x ∷ xs) = item (f n x) (numbered_items f (n + 1) xs)
@@ -29,15 +29,15 @@ numbered_items f n (x ∷ xs) = item (f n x) (numbered_items f (n + 1) xs)
 abbrev pub number_value : ℕ → Json
 number_value n = number (decimal n)
 
--- bytes in upper-case digits, two each
+-- bytes in upper-case hexadecimal digits, two each
 abbrev pub in_digits : List ℕ → Json
 in_digits bytes = string (encode_upper bytes)
 
--- a text as it is printed between quotes
+-- a text, escaped as between quotes
 abbrev pub text_value : List ℕ → Json
 text_value text = string (flat_map escaped_byte text)
 
--- what is absent is null
+-- an absent value is null
 abbrev pub optional_value : {A : Type 0} → (A → Json) → Option A → Json
 optional_value f None = null
 optional_value f (Some x) = f x
@@ -46,6 +46,6 @@ optional_value f (Some x) = f x
 abbrev pub line_of : Json → List ℕ
 line_of j = print (json_tokens j) ++ 10 ∷ []
 
--- a reader finds the value in its line, without the line feed
+-- the value's line, without its line feed, decodes to the value
 abbrev pub ReadsBack : Json → Type 0
 ReadsBack j = document (print (json_tokens j)) ≡ Some j

@@ -1,6 +1,6 @@
-//! Pieces of a value, each written after what is there.
+//! Pieces of a value, each appended to the tokens written so far.
 //!
-//! Their only error is want of memory; of the tokens nothing is known then.
+//! Their only error is `AllocError`; the tokens are unspecified after it.
 
 ghost use Rattle.std.specs.Prelude.{◌≡◌, ◌+◌, ◌++◌, [], ◌∷◌, IfOk, OnOk, decimal, option_map, string_bytes};
 ghost use Rattle.std.specs.List.{flat_map};
@@ -66,7 +66,7 @@ pub(crate) fn push_null(writer: &mut Writer) -> Result<(), AllocError>
     Ok(())
 }
 
-/// Writes the number after this place.
+/// Writes the number `place` plus one.
 pub(crate) fn push_next(alloc: Global, writer: &mut Writer, place: usize) -> Result<(), AllocError>
     ensures { OnOk result (AppendsTokens writer.old writer.new (number (decimal (place + 1)) ∷ [])) }
 {
@@ -88,7 +88,7 @@ pub(crate) fn push_number_field(
     Ok(())
 }
 
-/// Writes a key and words.
+/// Writes a key and a string.
 pub(crate) fn push_word_field(
     writer: &mut Writer,
     name: &str,
@@ -101,7 +101,7 @@ pub(crate) fn push_word_field(
     Ok(())
 }
 
-/// Writes a key and whether something holds.
+/// Writes a key and a boolean.
 pub(crate) fn push_flag_field(
     writer: &mut Writer,
     name: &str,
@@ -114,7 +114,7 @@ pub(crate) fn push_flag_field(
     Ok(())
 }
 
-/// Writes a key, and words or null.
+/// Writes a key, and a string or null.
 pub(crate) fn push_optional_word_field(
     writer: &mut Writer,
     name: &str,
@@ -130,7 +130,7 @@ pub(crate) fn push_optional_word_field(
     Ok(())
 }
 
-/// Writes a key and the number after this place.
+/// Writes a key and the number `place` plus one.
 pub(crate) fn push_next_field(
     alloc: Global,
     writer: &mut Writer,
@@ -143,7 +143,7 @@ pub(crate) fn push_next_field(
     push_next(alloc, writer, place)
 }
 
-/// Writes a key, and bytes in upper-case digits or null.
+/// Writes a key, and bytes in upper-case hexadecimal digits or null.
 pub(crate) fn push_optional_digits_field(
     alloc: Global,
     writer: &mut Writer,
@@ -158,7 +158,7 @@ pub(crate) fn push_optional_digits_field(
     }
 }
 
-/// Writes a key, and bytes in upper-case digits, two each.
+/// Writes a key, and bytes in upper-case hexadecimal digits, two each.
 pub(crate) fn push_digits_field(
     alloc: Global,
     writer: &mut Writer,
@@ -171,14 +171,14 @@ pub(crate) fn push_digits_field(
     push_word_field(writer, name, &digits)
 }
 
-/// Whether a byte is printed as it is.
+/// Whether a byte is printed unescaped.
 fn is_plain(byte: u8) -> bool
     ensures { result ≡ Rattle.fw_text.specs.Printing.is_plain byte }
 {
     (b' '..=b'~').contains(&byte) && byte != b'"' && byte != b'\\'
 }
 
-/// Appends a byte of a text, as it is printed between quotes.
+/// Appends a byte of a text, escaped as between quotes.
 fn push_escaped(alloc: Global, text: &mut String, byte: u8) -> Result<(), AllocError>
     ensures { OnOk result (string_bytes text.new ≡ string_bytes text.old ++ escaped_byte byte) }
 {
@@ -192,7 +192,7 @@ fn push_escaped(alloc: Global, text: &mut String, byte: u8) -> Result<(), AllocE
     Ok(())
 }
 
-/// A text as it is printed between quotes.
+/// A text, escaped as between quotes.
 fn spelling(alloc: Global, bytes: &[u8]) -> Result<String, AllocError>
     ensures { IfOk result (λ text. string_bytes text ≡ flat_map escaped_byte bytes.now) }
 {
@@ -203,7 +203,7 @@ fn spelling(alloc: Global, bytes: &[u8]) -> Result<String, AllocError>
     Ok(text)
 }
 
-/// Writes a key, and a text as it is printed between quotes.
+/// Writes a key, and a text escaped as between quotes.
 pub(crate) fn push_text_field(
     alloc: Global,
     writer: &mut Writer,
@@ -216,7 +216,7 @@ pub(crate) fn push_text_field(
     push_word_field(writer, name, &text)
 }
 
-/// The line of a value that is written: its bytes, and a line feed.
+/// The line of the written value: its bytes, and a line feed.
 pub(crate) fn line(writer: Writer) -> Result<Vec<u8>, AllocError>
     ensures bytes { IfOk result (λ text. text.items ≡ writer.before ++ print writer.tokens ++ 10 ∷ []) }
     ensures reads_back { tokens (print writer.tokens) ≡ writer.tokens }

@@ -1,4 +1,4 @@
-//! What is written in a form.
+//! Output in either format.
 
 ghost use Rattle.std.specs.Prelude.{◌≡◌, ◌≢◌, Err, IfErr, IfOk, IsOk, List, Ok, map, ℕ};
 ghost use Rattle.std.specs.Result.{result_map_both};
@@ -18,10 +18,11 @@ use fw_world::World;
 use fwupd_base::{Form, InspectFault, inspect, inspect_beginning};
 use std::alloc::{AllocError, Global};
 
-/// Inspects a firmware package, in a form.
+/// Returns the inspection of a firmware package in a format.
 ///
 /// # Errors
-/// Bytes that are no package are refused by the first fault that holds; `Memory` only where memory was refused.
+/// `Package`, with the first fault, if the bytes aren't a package; `Memory` only if memory is
+/// refused.
 pub fn inspect_in(alloc: Global, bytes: &[u8], form: Form) -> Result<Vec<u8>, InspectFault>
     ensures text { IfOk result (λ text. result_map_both (inspection_in form) (λ e. e) (package_of bytes.now) ≡ Ok text.items) }
     ensures fault { IfErr result (λ e. e ≢ InspectFault.Memory → result_map_both (λ p. p) InspectFault.Package (package_of bytes.now) ≡ Err e) }
@@ -33,11 +34,12 @@ pub fn inspect_in(alloc: Global, bytes: &[u8], form: Form) -> Result<Vec<u8>, In
     }
 }
 
-/// Inspects in a form the firmware package whose file has this length and begins with these bytes, which are its first 65,535,
-/// or all where it has no more.
+/// Returns the inspection, in a format, of the firmware package in a file of `file_length` bytes.
+/// `beginning` is the first 65,535 of them, or all if there are fewer.
 ///
 /// # Errors
-/// A file that is no package is refused by the first fault that holds; `Memory` only where memory was refused.
+/// `Package`, with the first fault, if the file isn't a package; `Memory` only if memory is
+/// refused.
 pub fn inspect_beginning_in(
     alloc: Global,
     beginning: &[u8],
@@ -54,10 +56,10 @@ pub fn inspect_beginning_in(
     }
 }
 
-/// The report of a world, in a form.
+/// Returns the report of a world in a format.
 ///
 /// # Errors
-/// `AllocError` where memory for it is refused.
+/// `AllocError` if memory is refused.
 pub fn report_in<'a, B: Bank + Drop>(
     alloc: Global,
     world: &World<'a, B>,
@@ -71,10 +73,10 @@ pub fn report_in<'a, B: Bank + Drop>(
     }
 }
 
-/// What an update of each of these devices comes to, with the package of this number, in a form.
+/// Returns the plan of an update with package `number` for each device, in a format.
 ///
 /// # Errors
-/// `AllocError` where memory for it is refused.
+/// `AllocError` if memory is refused.
 pub fn plan_in(
     alloc: Global,
     number: usize,

@@ -1,4 +1,4 @@
-//! The inspection of a package as a value of JSON.
+//! The inspection of a package as a JSON value.
 
 ghost use Rattle.std.specs.Prelude.{◌≡◌, ◌≢◌, ◌+◌, Err, IfErr, IfOk, IsOk, List, OnOk, Ok, ℕ};
 ghost use Rattle.std.specs.Result.{result_map_both};
@@ -36,7 +36,7 @@ pub(crate) fn push_descriptor(
     Ok(())
 }
 
-/// Writes the descriptors of a record, and ends their array.
+/// Writes the descriptors of a record, and ends the array.
 #[tactic(auto, using(crate::proofs::Chains::telling))]
 fn push_descriptors(
     alloc: Global,
@@ -52,7 +52,7 @@ fn push_descriptors(
     Ok(())
 }
 
-/// Writes the number of each component that a record uses, and ends their array.
+/// Writes the number of each component that a record uses, and ends the array.
 #[tactic(auto, using(crate::proofs::Chains::telling))]
 fn push_uses(alloc: Global, writer: &mut Writer, uses: Uses<'_>) -> Result<(), AllocError>
     ensures { OnOk result (AppendsTokens writer.old writer.new (items_tokens (items use_value uses.entry))) }
@@ -85,7 +85,7 @@ fn push_record(
     Ok(())
 }
 
-/// Writes all records, and ends their array.
+/// Writes all records, and ends the array.
 #[tactic(auto, using(crate::proofs::Chains::telling))]
 fn push_records(
     alloc: Global,
@@ -130,7 +130,7 @@ fn push_component(
     Ok(())
 }
 
-/// Writes all components, and ends their array.
+/// Writes all components, and ends the array.
 #[tactic(auto, using(crate::proofs::Chains::telling))]
 fn push_components(
     alloc: Global,
@@ -178,11 +178,12 @@ fn inspection(alloc: Global, contents: &Outline<'_>) -> Result<Vec<u8>, AllocErr
     line(writer)
 }
 
-/// Inspects a firmware package: what its records name, and its components, as a value of JSON on one line, ended by a line feed.
-/// Without it the line reads back as that value.
+/// Returns the inspection of a firmware package as a JSON value on one line: its records with their
+/// descriptors, and its components. Without its line feed, the line decodes to that value.
 ///
 /// # Errors
-/// Bytes that are no package are refused by the first fault that holds; `Memory` only where memory was refused.
+/// `Package`, with the first fault, if the bytes aren't a package; `Memory` only if memory is
+/// refused.
 pub fn inspect_json(alloc: Global, bytes: &[u8]) -> Result<Vec<u8>, InspectFault>
     ensures line { IfOk result (λ text. result_map_both (λ p. line_of (inspection_value p)) (λ e. e) (package_of bytes.now) ≡ Ok text.items) }
     ensures reads_back { OnOk result (IfOk (package_of bytes.now) (λ p. ReadsBack (inspection_value p))) }
@@ -192,11 +193,12 @@ pub fn inspect_json(alloc: Global, bytes: &[u8]) -> Result<Vec<u8>, InspectFault
     inspect_json_beginning(alloc, beginning_of(bytes), bytes.len())
 }
 
-/// Inspects in the same way the firmware package whose file has this length and begins with these bytes, which are its first
-/// 65,535, or all where it has no more.
+/// Returns the same for the firmware package in a file of `file_length` bytes. `beginning` is the
+/// first 65,535 of them, or all if there are fewer.
 ///
 /// # Errors
-/// A file that is no package is refused by the first fault that holds; `Memory` only where memory was refused.
+/// `Package`, with the first fault, if the file isn't a package; `Memory` only if memory is
+/// refused.
 pub fn inspect_json_beginning(
     alloc: Global,
     beginning: &[u8],

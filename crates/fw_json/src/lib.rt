@@ -1,5 +1,5 @@
-//! What `--json` writes: the inspection of a package, the report of a world, and what an update would come to, each as one value
-//! of JSON on a line of its own.
+//! The output of `--json`: the inspection of a package, the report of a world, and the plan of an
+//! update, each as one JSON value on its own line.
 #![tactic(auto)]
 
 mod fields;

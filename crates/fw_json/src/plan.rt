@@ -1,4 +1,4 @@
-//! What an update would come to as a value of JSON.
+//! The plan of an update as a JSON value.
 
 ghost use Rattle.std.specs.Prelude.{◌≡◌, ◌<◌, All, IfOk, OnOk, length, map, option_map};
 ghost use Rattle.json.specs.Tree.{items_tokens, json_tokens};
@@ -39,7 +39,8 @@ fn push_lacked(
     }
 }
 
-/// Writes why a record isn't for a device: the descriptor that it lacks, or null where the record has none.
+/// Writes why a record doesn't apply to a device: the descriptor that the device lacks, or null if
+/// the record has no descriptors.
 fn push_lack(
     alloc: Global,
     writer: &mut Writer,
@@ -57,7 +58,7 @@ fn push_lack(
     Ok(())
 }
 
-/// Writes, for each record, why it isn't for a device, and ends their array.
+/// Writes, for each record, why it doesn't apply to a device, and ends the array.
 #[tactic(auto, using(crate::proofs::Chains::telling))]
 fn push_lacks(
     alloc: Global,
@@ -77,7 +78,7 @@ fn push_lacks(
     Ok(())
 }
 
-/// Writes what runs for a component.
+/// Writes the active image of a component.
 fn push_running(
     alloc: Global,
     writer: &mut Writer,
@@ -92,7 +93,7 @@ fn push_running(
     Ok(())
 }
 
-/// Writes what runs for a component, or null.
+/// Writes the active image of a component, or null.
 fn push_active(
     alloc: Global,
     writer: &mut Writer,
@@ -106,7 +107,7 @@ fn push_active(
     }
 }
 
-/// Writes a component that a device is offered.
+/// Writes a component that is offered to a device.
 fn push_offer(
     alloc: Global,
     writer: &mut Writer,
@@ -136,7 +137,7 @@ fn push_offer(
     Ok(())
 }
 
-/// Writes these components of a package, and ends their array.
+/// Writes the listed components of a package, and ends the array.
 #[tactic(auto, using(crate::proofs::Chains::telling))]
 fn push_offers(
     alloc: Global,
@@ -155,7 +156,7 @@ fn push_offers(
     Ok(())
 }
 
-/// Writes a device for which no record is.
+/// Writes a device to which no record applies.
 fn push_unmet(
     alloc: Global,
     writer: &mut Writer,
@@ -180,7 +181,7 @@ fn push_unmet(
     Ok(())
 }
 
-/// Writes a device for which this record is, and these components of the package.
+/// Writes a device with its record, and the listed components of the package.
 fn push_chosen(
     alloc: Global,
     writer: &mut Writer,
@@ -209,7 +210,7 @@ fn push_chosen(
     Ok(())
 }
 
-/// Writes a device for which this record is, by the record's plan.
+/// Writes a device with its record, by the record's plan.
 fn push_planned(
     alloc: Global,
     writer: &mut Writer,
@@ -255,7 +256,7 @@ fn push_device(
     }
 }
 
-/// Writes the devices of a configuration, and ends their array.
+/// Writes the devices of a configuration, and ends the array.
 #[tactic(auto, using(crate::proofs::Chains::telling))]
 fn push_devices(
     alloc: Global,
@@ -272,7 +273,7 @@ fn push_devices(
     Ok(())
 }
 
-/// Writes what an update of these devices comes to.
+/// Writes the plan of an update for the devices.
 fn push_plan(
     alloc: Global,
     writer: &mut Writer,
@@ -291,11 +292,11 @@ fn push_plan(
     Ok(())
 }
 
-/// What an update of each of these devices comes to, with the package of this number, as a value of JSON on one line, ended by a line
-/// feed. Without it the line reads back as that value.
+/// Returns the plan of an update with package `number` for each device, as a JSON value on one
+/// line. Without its line feed, the line decodes to that value.
 ///
 /// # Errors
-/// `AllocError` where memory for it is refused.
+/// `AllocError` if memory is refused.
 pub fn plan_json(
     alloc: Global,
     number: usize,

@@ -13,7 +13,7 @@ use Rattle.fw_script.specs.declared.schedule_lines.ScheduleLine.TheVariants as l
 pub all_more : (lines : List ScheduleLine) (line : ScheduleLine) → all_steps (lines ++ line ∷ []) ≡ all_steps lines ++ line_steps line
 all_more lines line = flat_map-append line_steps lines (line ∷ []) ∙ ap (λ steps. all_steps lines ++ steps) (append-nil (line_steps line))
 
--- none more
+-- no more lines
 pub none_more : (lines : List ScheduleLine) → all_steps lines ≡ all_steps lines ++ []
 none_more lines = sym (append-nil (all_steps lines))
 
@@ -21,11 +21,11 @@ repeated_long : (n : ℕ) (step : Step) → length (repeat n (step ∷ [])) ≡ 
 repeated_long zero step = refl
 repeated_long (suc n) step = ap suc (repeated_long n step)
 
--- as many ticks as are said
+-- the number of ticks of a line
 pub ticks_long : (n : ℕ) → length (repeat n (full_tick ∷ [])) ≡ n
 ticks_long n = repeated_long n full_tick
 
--- one line more of these
+-- one more line is counted
 pub counted_more : (lines : List ScheduleLine) (i : ℕ) (line : ScheduleLine) → i < length lines
     → length (all_steps (take (i + 1) lines)) ≡ length (all_steps (take i lines)) + length (line_steps (get_or lines i line))
 counted_more lines i line lt =
@@ -33,7 +33,7 @@ counted_more lines i line lt =
     ∙ ap length (all_more (take i lines) (get_or lines i line))
     ∙ length-append (all_steps (take i lines)) (line_steps (get_or lines i line))
 
--- no more than all of them
+-- the count so far is at most the total
 pub counted_so_far : (lines : List ScheduleLine) (i : ℕ) → length (all_steps (take i lines)) ≤ length (all_steps lines)
 counted_so_far lines i =
     let whole : length (all_steps lines) ≡ length (all_steps (take i lines)) + length (all_steps (drop i lines)) =
@@ -51,7 +51,7 @@ pub ticks_first : (count : ℕ) (rest : List ScheduleLine) → count ≢ 0
     → all_steps (lines.Ticks count ∷ rest) ≡ full_tick ∷ (repeat (count - 1) (full_tick ∷ []) ++ all_steps rest)
 ticks_first count rest some = ap (λ steps. steps ++ all_steps rest) (one_tick count some)
 
--- the same of lines whose first this is
+-- the same for lines whose first line is this one
 pub lines_ticked : (all : List ScheduleLine) (first : ScheduleLine) (count : ℕ) → 1 ≤ length all → first ≡ get_or all 0 first → first ≡ lines.Ticks count → count ≢ 0
     → all_steps all ≡ full_tick ∷ (repeat (count - 1) (full_tick ∷ []) ++ all_steps (take (length all - 1) (drop 1 all)))
 lines_ticked [] first count long is said some = absurd (omega (arith, long))

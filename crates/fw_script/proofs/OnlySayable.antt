@@ -1,4 +1,4 @@
--- What a schedule reads as can be said by one.
+-- Every schedule reads as steps that a schedule can encode.
 use Rattle.std.proofs.Common.{◌≡◌, ◌≢◌, ◌+◌, ◌-◌, ◌<◌, ◌≤◌, ◌^◌, ◌==◌, ◌&&◌, ℕ, zero, suc, Bool, true, false, if◌then◌else◌, List, [], ◌∷◌, ◌++◌, Option, Some, None, Result, Ok, Err, IfOk, length, nat_le, nat_lt, length-append, refl, sym, subst, arith}
 use Rattle.std.specs.Char.{is_ascii_digit}
 use Rattle.std.specs.List.{AllByRecursion, list_all, list_any, repeat}
@@ -60,7 +60,7 @@ made_ok : {A : Type 0} (P : A → Type 0) (f : A → Step) (r : Result A ScriptC
 made_ok P f (Ok a) h p = h a p
 made_ok P f (Err cause) h p = tt
 
--- of which nothing is asked
+-- a value without conditions
 any_ok : {A : Type 0} (r : Result A ScriptCause) → IfOk r (λ a. Unit {0})
 any_ok (Ok a) = tt
 any_ok (Err cause) = tt
@@ -99,7 +99,7 @@ push_eid : (eids : List ℕ) (eid : ℕ) → AllByRecursion IsEid eids → IsEid
 push_eid [] eid h k = (k, tt)
 push_eid (other ∷ eids) eid h k = (h.0, push_eid eids eid h.1 k)
 
--- so many identifiers
+-- `count` identifiers
 pub record AreEids (count : ℕ) (eids : List ℕ) : Type 0 where
   pub each : AllByRecursion IsEid eids
   pub counted : length eids ≡ count
@@ -234,7 +234,7 @@ line_ok : (line : List ℕ) → IfOk (steps_of line) StepsRoundTrip
 unfolding steps_of
 line_ok line = line_if (is_skipped line) (steps_in (words_of line)) (words_ok (words_of line))
 
--- steps of two lists
+-- the steps of two lists
 pub all_sayable : (front back : List Step) → StepsRoundTrip front → StepsRoundTrip back → StepsRoundTrip (front ++ back)
 all_sayable [] back h k = k
 all_sayable (step ∷ front) back h k = (h.0, all_sayable front back h.1 k)

@@ -1,4 +1,4 @@
--- What is written of steps is read as them, a line after another, and the same in portions.
+-- The text of steps reads back as the steps, line by line, and the same in portions.
 use Rattle.std.proofs.Common.{◌≡◌, ◌≢◌, ◌∙◌, ◌+◌, ◌<◌, ◌≤◌, ℕ, zero, suc, true, false, List, [], ◌∷◌, ◌++◌, Ok, length, inl, inr, ap, refl, sym, append_assoc, append-nil, true≢false, arith}
 use Rattle.std.specs.List.{repeat}
 use Rattle.std.proofs.lemmas.Bool.{cases_Bool, eq-eqb, eqb-true, ne_eqb}
@@ -14,14 +14,14 @@ use Rattle.fw_script.proofs.SaidSteps.{step_back, step_words, tick_words, ticks_
 use Rattle.fw_script.proofs.SpacedLines.{AreWords, first_of_lines}
 use Rattle.fw_script.proofs.Steps.{repeat_more}
 
--- a text is read as these steps, whatever the number of its first line
+-- a text reads as these steps, whatever the number of its first line
 pub record Reads (text : List ℕ) (steps : List Step) : Type 0 where
   pub from : (number : ℕ) → script_from number (lines_of text) ≡ Ok steps
 
 reads_nothing : Reads [] []
 reads_nothing = record { from = λ number. refl }
 
--- a line before
+-- with a line before
 reads_line : (words : List (List ℕ)) (rest : List ℕ) (said more : List Step) → AreWords words → steps_of (words_with_spaces words) ≡ Ok said → Reads rest more
     → Reads (line_of words ++ rest) (said ++ more)
 reads_line words rest said more are says follows = record {
@@ -45,7 +45,7 @@ reads_ticks (suc n) rest more few follows =
     rw (ne_eqb (suc n) 0 (λ e. absurd (omega arith)))
     (reads_line (words_for_ticks (suc n)) rest (repeat (suc n) (full_tick ∷ [])) more (tick_words (suc n) few) (ticks_back (suc n) (omega arith) few) follows)
 
--- a tick that nobody misses
+-- a tick that no node misses
 full_from : (step : Step) → is_idle step ≡ true → step ≡ full_tick
 full_from (steps.Deliver pair number node) h = absurd (true≢false (sym h))
 full_from (steps.Tick missed) h = ap (λ xs. steps.Tick (record { items = xs })) (nil_from_length missed.items (eqb-true (length missed.items) 0 h))
@@ -56,15 +56,15 @@ full_from (steps.Verdict device verdict) h = absurd (true≢false (sym h))
 full_from (steps.Restart node) h = absurd (true≢false (sym h))
 full_from (steps.Sel request) h = absurd (true≢false (sym h))
 
--- one more is held back
+-- one more tick is held back
 one_more : (idle : ℕ) (more : List Step) → repeat (idle + 1) (full_tick ∷ []) ++ more ≡ repeat idle (full_tick ∷ []) ++ full_tick ∷ more
 one_more idle more = ap (λ ss. ss ++ more) (repeat_more idle full_tick) ∙ append_assoc (repeat idle (full_tick ∷ [])) (full_tick ∷ []) more
 
--- what is left to be written
+-- the text that is still to be written
 abbrev left_of : (idle : ℕ) → List Step → List ℕ
 left_of idle ss = text_of_steps idle ss ++ ticks_text (idle_at idle ss)
 
--- a step that is no such tick
+-- a step that is another than such a tick
 reads_other : (idle : ℕ) (step : Step) (ss : List Step) → idle < 1000 → is_idle step ≡ false → StepRoundTrips step → Reads (left_of 0 ss) ss
     → Reads (left_of idle (step ∷ ss)) (repeat idle (full_tick ∷ []) ++ step ∷ ss)
 reads_other idle step ss few other h follows =
@@ -98,7 +98,7 @@ reads_left idle (step ∷ ss) few h =
 pub schedules_read_back : SchedulesReadBack
 schedules_read_back ss h = (reads_left 0 ss (omega arith) h).from 1
 
--- so is a text that is the steps'
+-- the same for the whole text of the steps
 pub read_written : (text : List ℕ) (ss : List Step) → text ≡ schedule_text ss → StepsRoundTrip ss → script_of text ≡ Ok ss
 read_written text ss is h = ap script_of is ∙ schedules_read_back ss h
 

@@ -1,4 +1,4 @@
--- The words that say a step are read as it.
+-- The words of a step read back as the step.
 use Rattle.std.proofs.Common.{◌≡◌, ◌∙◌, ◌-◌, ◌<◌, ◌≤◌, ◌^◌, ◌==◌, ℕ, suc, true, false, List, [], ◌∷◌, ◌++◌, Ok, Some, codes, ◌/◌, ◌%◌, inl, inr, length, map, decimal, nat_lt, slice_index, ap, refl, sym, append_assoc, append-nil, true≢false, arith}
 use Rattle.std.specs.Char.{is_ascii_digit}
 use Rattle.std.specs.List.{AllByRecursion, list_all, list_any, repeat}
@@ -60,7 +60,7 @@ eid_words (eid ∷ eids) h = (eid_word eid h.0, eid_words eids h.1)
 
 -- BYTES
 
--- two digits or more are no dash
+-- two digits or more are not a dash
 no_dash : (b : ℕ) (bytes : List ℕ) → is_dash (encode_upper (b ∷ bytes)) ≡ false
 unfolding encode_with
 no_dash b bytes = and_right _ _ refl
@@ -70,7 +70,7 @@ unfolding bytes_of
 data_back [] h = refl
 data_back (b ∷ bytes) h = rw (no_dash b bytes, decode_of-encode_upper (b ∷ bytes) h) refl
 
--- a digit stands behind a space
+-- the code of a digit is above that of a space
 digit_shown : (c d : ℕ) → hex_digit_value c ≡ Some d → 32 < c
 digit_shown c d h = grind (arith, nat_tests)
 
@@ -95,7 +95,7 @@ unfolding words_with_spaces
 unskipped [] words some h = absurd (omega arith)
 unskipped (b ∷ bytes) words some h = h
 
--- the words of a line that says something
+-- the words of a line that isn't skipped
 pub said : (d : Directive) (name : List ℕ) (fields : List (List ℕ)) → directive_of name ≡ Some d → is_skipped name ≡ false
     → length fields ≤ most_fields (Some d) → AreWords (name ∷ fields) → steps_of (words_with_spaces (name ∷ fields)) ≡ steps_of_directive d fields
 unfolding steps_of

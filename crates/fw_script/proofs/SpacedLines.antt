@@ -1,4 +1,5 @@
--- Words that a line is made of are the words of that line, and it is the first line of what it begins.
+-- Words joined by spaces split into the same words, and their line is the first line of the text
+-- that it begins.
 use Rattle.std.proofs.Common.{◌≡◌, ◌∙◌, ◌<◌, ◌≤◌, ◌^◌, ◌==◌, ◌&&◌, ℕ, Bool, true, false, List, [], ◌∷◌, ◌++◌, Some, length, map, decimal, nat_lt, ap, refl, append_assoc, append-nil, arith}
 use Rattle.std.specs.List.{AllByRecursion, flat_map, list_all, list_any}
 use Rattle.std.specs.Str.Parse.{AllDigits}
@@ -12,11 +13,11 @@ use Rattle.fw_script.specs.Lines.{fields_in, is_nothing, lines_of, words_of}
 use Rattle.fw_script.specs.ScheduleTexts.{line_of, words_with_spaces}
 use Rattle.fw_script.proofs.Cuts.{more_lines}
 
--- bytes behind a space: neither a space nor a line feed
+-- bytes above the space's code: neither a space nor a line feed
 abbrev pub AreShown : List ℕ → Type 0
 AreShown bytes = AllByRecursion (λ b. 32 < b) bytes
 
--- a word: some bytes, each of them behind a space
+-- a word: one byte or more, each above the space's code
 pub record IsWord (word : List ℕ) : Type 0 where
   pub some : 0 < length word
   pub shown : AreShown word
@@ -24,7 +25,7 @@ pub record IsWord (word : List ℕ) : Type 0 where
 abbrev pub AreWords : List (List ℕ) → Type 0
 AreWords words = AllByRecursion IsWord words
 
--- a word that is known is one
+-- a literal word is a word
 shown_from : (bytes : List ℕ) → list_all (λ b. nat_lt 32 b) bytes ≡ true → AreShown bytes
 shown_from [] h = tt
 shown_from (b ∷ bytes) h =
@@ -55,12 +56,12 @@ number_words (n ∷ ns) h = (number_word n h.0, number_words ns h.1)
 
 -- WORDS OF A LINE
 
--- what all bytes are, those of two texts are
+-- a property of all bytes of two texts holds for the joined text
 all_append : (P : ℕ → Type 0) (xs ys : List ℕ) → AllByRecursion P xs → AllByRecursion P ys → AllByRecursion P (xs ++ ys)
 all_append P [] ys h k = k
 all_append P (x ∷ xs) ys h k = (h.0, all_append P xs ys h.1 k)
 
--- no byte behind a space is this one
+-- no byte above the space's code equals `c`
 none_is : (c : ℕ) (bytes : List ℕ) → c ≤ 32 → AreShown bytes → AllByRecursion (λ b. (b == c) ≡ false) bytes
 none_is c [] low h = tt
 none_is c (b ∷ bytes) low h = let past = h.0 in (ne_eqb b c (λ e. omega arith), none_is c bytes low h.1)
@@ -75,7 +76,7 @@ words_spaced word (next ∷ words) h =
 
 -- THE LINE
 
--- no line feed stands in words
+-- words contain no line feed
 whole_words : (words : List (List ℕ)) → AreWords words → AllByRecursion (λ b. (b == 10) ≡ false) (flat_map (λ w. 32 ∷ w) words)
 whole_words [] h = tt
 whole_words (word ∷ words) h =

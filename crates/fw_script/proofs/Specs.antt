@@ -1,10 +1,10 @@
--- What the lines of a package's text say, part by part.
+-- The lines of a package description, part by part.
 use Rattle.std.proofs.Common.{◌≡◌, ◌++◌, ◌∷◌, ℕ, List, [], Option, Some, None, Result, Ok, Err, ap, append_assoc, refl, sym}
 use Rattle.fw_script.specs.declared.faults.ScriptCause.{ScriptCause}
 use Rattle.fw_script.specs.Configs.{mapped_value}
 use Rattle.fw_script.specs.SpecFields.{with_byte}
 
--- bytes, and more of them where there are some
+-- the bytes so far, then more bytes, if there are some
 abbrev pub behind : List ℕ → Option (List ℕ) → Option (List ℕ)
 behind before None = None
 behind before (Some bytes) = Some (before ++ bytes)
@@ -19,7 +19,7 @@ pub behind_nothing : (rest : Option (List ℕ)) → behind [] rest ≡ rest
 behind_nothing None = refl
 behind_nothing (Some bytes) = refl
 
--- the same of uses
+-- the same for uses
 abbrev pub used_behind : List ℕ → Result (List ℕ) ScriptCause → Result (List ℕ) ScriptCause
 used_behind before (Err cause) = Err cause
 used_behind before (Ok uses) = Ok (before ++ uses)

@@ -1,4 +1,4 @@
--- Words that are appended one after another are appended as a line's.
+-- Words that are appended one after another form a line.
 use Rattle.std.proofs.Common.{◌≡◌, ◌∙◌, ℕ, List, [], ◌∷◌, ◌++◌, map, decimal, append_assoc, append-nil, ap, sym}
 use Rattle.std.specs.List.{flat_map}
 use Rattle.std.proofs.lemmas.Grind.{flat_map-append}
@@ -22,7 +22,7 @@ said_more : {t t1 t2 : List ℕ} (name : List ℕ) (words : List (List ℕ)) {wo
     → AppendsText t t2 (words_with_spaces (name ∷ words ++ word ∷ []))
 said_more {t} {t1} {t2} name words {word} before more = adds_same (adds_more before more) (spaced_more name words word)
 
--- one more, two and three
+-- one more word, two and three
 pub said_one : {t t1 t2 name a : List ℕ} → AppendsText t t1 name → AppendsText t1 t2 (32 ∷ a) → AppendsText t t2 (words_with_spaces (name ∷ a ∷ []))
 said_one {t} {t1} {t2} {name} {a} before first = said_more name [] (said_name before) first
 

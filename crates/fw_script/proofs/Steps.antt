@@ -6,7 +6,7 @@ use Rattle.fw_script.specs.declared.faults.ScriptFault.{ScriptFault}
 use Rattle.fw_steps.specs.declared.step.Step.{Step}
 use Rattle.fw_script.specs.Schedules.{steps_then, then_lines, with_line}
 
--- one more of a step
+-- one more repetition of a step
 pub repeat_more : (n : ℕ) (step : Step) → repeat (n + 1) (step ∷ []) ≡ repeat n (step ∷ []) ++ step ∷ []
 repeat_more zero step = refl
 repeat_more (suc n) step = rw add-one (ap (λ ss. step ∷ ss) (rw add-one at (repeat_more n step)))
@@ -26,7 +26,7 @@ pub fault_read : (number : ℕ) (steps : List Step) (cause : ScriptCause) (r : R
 fault_read number steps cause (Ok more) rest h = absurd (cc)
 fault_read number steps cause (Err other) rest h = let is : other ≡ cause = cc in rw is refl
 
--- nothing before
+-- no steps before
 pub before_nothing : (r : Result (List Step) ScriptFault) → steps_then [] r ≡ r
 before_nothing (Ok steps) = refl
 before_nothing (Err fault) = refl

@@ -1,4 +1,4 @@
--- What a text makes is whole.
+-- Every configuration that is read satisfies its limits.
 use Rattle.std.proofs.Common.{◌≡◌, ◌≢◌, ◌≤◌, ◌+◌, ◌++◌, ◌∙◌, ◌∷◌, ◌||◌, ◌&&◌, ◌==◌, ℕ, Bool, true, false, List, [], Option, Some, None, Result, Ok, Err, IfSome, is_some, length, map, nat_lt, nat_le, option_to_list, if◌then◌else◌, append-nil, append_assoc, ap, sym, subst, refl, arith}
 use Rattle.std.specs.List.{AllByRecursion, list_all}
 use Rattle.std.specs.Char.{is_ascii_digit}
@@ -27,12 +27,12 @@ use Rattle.fw_script.specs.Lines.{is_skipped, fields_in, lines_of, words_of}
 use Rattle.fw_script.specs.Values.{bytes_of, eid_of, kind_of, number_in, text_of, uuid_of}
 use Rattle.fw_script.specs.Whole.{AreNew, AreWhole, IsDevice, eids_of, keys_of}
 
--- whether a component is there, and whether its key is
+-- testing for a component is testing for its key
 same_has : (cs : List ComponentConfigOf) (key : Key) → has_component cs key ≡ has_key (keys_of cs) key
 same_has [] key = refl
 same_has (c ∷ cs) key = ap (λ b. Rattle.fd_core.specs.Images.same_key c.component.key key || b) (same_has cs key)
 
--- a new key behind others
+-- a new key after others
 new_more : (before keys : List Key) (key : Key) → AreNew before keys → has_key (before ++ keys) key ≡ false → AreNew before (keys ++ key ∷ [])
 new_more before [] key h e = (subst (λ ks. has_key ks key ≡ false) (append-nil before) e, tt)
 new_more before (k ∷ keys) key h e =
@@ -44,7 +44,7 @@ new_component cs c h e =
     subst (AreNew []) (sym (map-append (λ (x : ComponentConfigOf). x.component.key) cs (c ∷ [])))
     (new_more [] (keys_of cs) c.component.key h (sym (same_has cs c.component.key) ∙ e))
 
--- a list with one more behind it
+-- a list with one more item at the end
 all_more : {A : Type 0} (P : A → Type 0) (xs : List A) (x : A) → AllByRecursion P xs → P x → AllByRecursion P (xs ++ x ∷ [])
 all_more P [] x h p = (p, tt)
 all_more P (y ∷ xs) x h p = (h.0, all_more P xs x h.1 p)
@@ -63,7 +63,7 @@ different_more (x ∷ xs) y h others = (
   different_more xs y h.1 others.1,
 )
 
--- an identifier that is read is one
+-- an identifier that is read is in its bounds
 in_bounds : (digits low high : Bool) (v n : ℕ) → nat_le 8 v ≡ low → nat_le v 254 ≡ high
     → (if digits then (if low && high then Ok v else Err causes.Range) else Err causes.Number) ≡ Ok n → IsEid n
 in_bounds true true true v n le ge e = subst IsEid (cc) (leb-true 8 v le, leb-true v 254 ge)
@@ -86,7 +86,7 @@ node_made_in (Err cause) (Err other) e known h = absurd (cc)
 node_in : (eid uuid : List ℕ) (e : Endpoint) → configs.node_of eid uuid ≡ Ok e → IsEid e.eid
 node_in eid uuid e h = node_made_in (eid_of eid) (uuid_of uuid) e (eid_in eid) h
 
--- What lines have said so far is whole.
+-- The draft satisfies the limits so far.
 abbrev eids_in : DraftOf → List ℕ
 eids_in d = map (λ a. a.eid) (option_to_list d.agent) ++ eids_of (configs.devices_of d)
 
@@ -217,7 +217,7 @@ device_whole d d2 [] h e = absurd (cc)
 device_whole d d2 (eid ∷ []) h e = absurd (cc)
 device_whole d d2 (eid ∷ uuid ∷ more ∷ fields) h e = absurd (cc)
 
--- a line of the last device changes it alone, and neither its end nor that it is whole
+-- a line of the last device changes only that device; its endpoint and its limits are kept
 record Keeps (x y : DeviceConfigOf) : Type 0 where
   endpoint : y.endpoint ≡ x.endpoint
   whole : IsDevice x → IsDevice y
@@ -363,7 +363,7 @@ line_whole : (d d2 : DraftOf) (line : List ℕ) → IsDraft d → configs.after_
 unfolding configs.after_line
 line_whole d d2 line h e = line_if d d2 (is_skipped line) (words_of line) h e
 
--- behind the last line
+-- after the last line
 some_device : (xs : List DeviceConfigOf) → configs.has_missing xs ≡ false → 1 ≤ length xs
 some_device [] e = absurd (cc)
 some_device (x ∷ xs) e = omega (arith)
@@ -407,6 +407,6 @@ from_whole [] number d c h e = finished_at number d (configs.config_of_draft d) 
 from_whole (line ∷ lines) number d c h e =
     next_at lines number (configs.after_line d line) c (λ d2 made. line_whole d d2 line h made) (λ d2 h2 e2. from_whole lines (number + 1) d2 c h2 e2) e
 
--- what a text makes is whole
+-- every configuration that is read satisfies its limits
 pub config_whole : (text : List ℕ) (c : ConfigOf) → configs.config_of text ≡ Ok c → AreWhole c.agent.eid c.devices
 config_whole text c e = from_whole (lines_of text) 1 configs.empty_draft c nothing_whole e

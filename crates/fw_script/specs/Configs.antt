@@ -1,4 +1,4 @@
--- The text of a configuration: which agent, devices and packages it is of.
+-- The text of a configuration: the agent, its devices and its packages.
 use Rattle.std.specs.Prelude.{ℕ, ◌+◌, ◌==◌, ◌&&◌, ◌||◌, not, nat_lt, Bool, true, false, List, [], ◌∷◌, ◌++◌, Option, None, Some, Result, Ok, Err, codes, if◌then◌else◌, is_some, length, option_to_list}
 use Rattle.std.specs.List.{list_any}
 use Rattle.std.specs.Str.{bytes_eq, is_utf8}
@@ -21,13 +21,13 @@ use Rattle.fw_script.specs.Faults.{both}
 use Rattle.fw_script.specs.Lines.{fields_in, is_skipped, lines_of, words_of}
 use Rattle.fw_script.specs.Values.{bytes_of, eid_of, kind_of, number_in, text_of, uuid_of}
 
--- a component, the label of the image that runs, and the image
+-- a component, the label of the active image, and the image
 pub record ComponentConfigOf : Type 0 where
   pub component : BankComponent
   pub label : LabelOf
   pub image : List ℕ
 
--- a device: its end of the links, its descriptors and its components, in the order of their lines
+-- a device: its endpoint, its descriptors and its components, in the order of their lines
 pub record DeviceConfigOf : Type 0 where
   pub endpoint : Endpoint
   pub descriptors : List DeviceDescriptorOf
@@ -40,7 +40,8 @@ pub record ConfigOf : Type 0 where
   pub devices : List DeviceConfigOf
   pub packages : List (List ℕ)
 
--- What lines have said so far: the devices before the last, and the last, which the lines that follow it describe.
+-- The result of the lines read so far: the devices before the last, and the last, which the
+-- following lines describe.
 pub record DraftOf : Type 0 where
   pub agent : Option Endpoint
   pub unit : Option «Unit»
@@ -54,7 +55,7 @@ empty_draft = record { agent = None; unit = None; done = []; last = None; packag
 abbrev pub devices_of : DraftOf → List DeviceConfigOf
 devices_of d = d.done ++ option_to_list d.last
 
--- the word that a line begins with
+-- the directive of a line's first word
 unfoldable pub directive_of : List ℕ → Option Directive
 directive_of word =
     if bytes_eq word (codes "agent") then Some directives.Agent
@@ -93,7 +94,7 @@ unit_among (Err cause) = Err cause
 abbrev pub unit_of : List ℕ → Result «Unit» ScriptCause
 unit_of word = unit_among (number_in 64 128 word)
 
--- the unit's line follows the agent's, once, and no other line
+-- the unit's line directly follows the agent's line, once
 abbrev pub has_none : List (List ℕ) → Bool
 has_none [] = true
 has_none (path ∷ paths) = false
@@ -141,7 +142,7 @@ abbrev pub device_line : DraftOf → List (List ℕ) → Result DraftOf ScriptCa
 device_line d (eid ∷ uuid ∷ []) = if may_begin d then with_device d (node_of eid uuid) else Err causes.Order
 device_line d fields = Err causes.Fields
 
--- a line of the last device, which no package's follows
+-- a line of the last device, before any package's line
 abbrev pub draft_with_last : DraftOf → Result DeviceConfigOf ScriptCause → Result DraftOf ScriptCause
 draft_with_last d (Ok device) = Ok (record d { last = Some device })
 draft_with_last d (Err cause) = Err cause
@@ -153,7 +154,7 @@ of_last d (Some device) says = draft_with_last d (says device)
 abbrev pub in_device : DraftOf → (DeviceConfigOf → Result DeviceConfigOf ScriptCause) → Result DraftOf ScriptCause
 in_device d says = if has_none d.packages then of_last d d.last says else Err causes.Order
 
--- a descriptor: as they are sent, all of a device's fit one answer
+-- a descriptor: the encoded descriptors of a device fit one answer
 abbrev pub descriptor_made : ℕ × List ℕ → DeviceDescriptorOf
 descriptor_made v = record { kind = v.0; bytes = v.1 }
 
@@ -187,7 +188,7 @@ unfoldable pub numbers_of : List ℕ → List ℕ → List ℕ → List ℕ → 
 numbers_of class ident index stamp =
     mapped_value numbers_made (both (key_of class ident) (both (number_in 0 255 index) (number_in 0 4294967295 stamp)))
 
--- a component: of its image's text the first bytes are kept, and its type is 1
+-- a component: the first bytes of its image's text are kept, with text type 1
 abbrev pub component_made : List ℕ → Numbers × List ℕ → ComponentConfigOf
 component_made text v = record {
   component = v.0.component;
@@ -228,7 +229,7 @@ abbrev pub package_line : DraftOf → List (List ℕ) → Result DraftOf ScriptC
 package_line d (path ∷ []) = if is_some d.agent then with_package d (path_of path) else Err causes.Order
 package_line d fields = Err causes.Fields
 
--- what a line says
+-- the draft after a directive
 abbrev pub draft_after_directive : DraftOf → Directive → List (List ℕ) → Result DraftOf ScriptCause
 draft_after_directive d directives.Agent fields = agent_line d fields
 draft_after_directive d directives.Unit fields = unit_line d fields
@@ -246,11 +247,11 @@ abbrev pub draft_after_words : DraftOf → List (List ℕ) → Result DraftOf Sc
 draft_after_words d [] = Err causes.Directive
 draft_after_words d (name ∷ fields) = line_named d (directive_of name) (fields_in 6 fields)
 
--- what lines have said after one more
+-- the draft after one more line
 unfoldable pub after_line : DraftOf → List ℕ → Result DraftOf ScriptCause
 after_line d line = if is_skipped line then Ok d else draft_after_words d (words_of line)
 
--- Behind the last line: there are an agent and a device, and no device without a component.
+-- After the last line: there are an agent and a device, and no device without a component.
 abbrev pub is_bare : DeviceConfigOf → Bool
 is_bare x = length x.components == 0
 
@@ -258,7 +259,7 @@ abbrev pub has_missing : List DeviceConfigOf → Bool
 has_missing [] = true
 has_missing (x ∷ xs) = list_any is_bare (x ∷ xs)
 
--- the unit that a line has chosen, or the baseline
+-- the unit of the unit's line, or the baseline without one
 abbrev pub unit_or : Option «Unit» → «Unit»
 unit_or None = U64
 unit_or (Some u) = u
@@ -276,11 +277,11 @@ abbrev pub at_line : {A B : Type 0} → ℕ → (A → Result B ScriptFault) →
 at_line number next (Ok a) = next a
 at_line number next (Err cause) = Err (record { line = number; cause = cause })
 
--- the configuration that lines make of what was said before, the first of which has this number
+-- the configuration after the remaining lines, of which the first has number `number`
 abbrev pub config_from : List (List ℕ) → ℕ → DraftOf → Result ConfigOf ScriptFault
 config_from [] number d = at_line number Ok (config_of_draft d)
 config_from (line ∷ lines) number d = at_line number (config_from lines (number + 1)) (after_line d line)
 
--- the configuration of a text, or its first line with a fault and what that is
+-- the configuration of a text, or its first line with a fault, and the fault
 abbrev pub config_of : List ℕ → Result ConfigOf ScriptFault
 config_of text = config_from (lines_of text) 1 empty_draft

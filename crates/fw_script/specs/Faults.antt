@@ -1,10 +1,10 @@
--- What may be wrong with a line, and which of several faults is told.
+-- The faults of a line, and which of several faults is reported.
 use Rattle.std.specs.Prelude.{ℕ, ◌≡◌, ◌≢◌, List, Result, Ok, Err, codes, nat_le, if◌then◌else◌}
 use Rattle.fw_script.specs.declared.faults.ScriptCause.{ScriptCause}
 use Rattle.fw_script.specs.declared.faults.ScriptCause.TheVariants as causes
 use Rattle.fw_script.specs.declared.faults.ScriptFault.{ScriptFault}
 
--- the word that names a cause
+-- the name of a cause
 abbrev pub name_of : ScriptCause → List ℕ
 name_of causes.Directive = codes "Directive"
 name_of causes.Fields = codes "Fields"
@@ -30,7 +30,7 @@ rank_of causes.Limit = 8
 rank_of causes.Missing = 9
 rank_of causes.Memory = 10
 
--- of two faults of a line the one that stands first in the list
+-- of two faults of a line, the one that comes first in the list
 abbrev pub earlier : ScriptCause → ScriptCause → ScriptCause
 earlier a b = if nat_le (rank_of a) (rank_of b) then a else b
 
@@ -41,12 +41,12 @@ both (Ok a) (Err fault) = Err fault
 both (Err fault) (Ok b) = Err fault
 both (Err fault) (Err other) = Err (earlier fault other)
 
--- An answer is this value or fault, unless memory was refused.
+-- The result is this value or fault, unless memory was refused.
 abbrev pub AnswersUnlessMemory : {A B : Type 0} → (A → B) → Result A ScriptCause → Result B ScriptCause → Type 0
 AnswersUnlessMemory seen (Ok a) wanted = wanted ≡ Ok (seen a)
 AnswersUnlessMemory seen (Err cause) wanted = cause ≢ causes.Memory → wanted ≡ Err cause
 
--- The same of a whole text, whose faults have their line.
+-- The same for a whole text, whose faults have their line.
 abbrev pub ReadsAs : {A B : Type 0} → (A → B) → Result A ScriptFault → Result B ScriptFault → Type 0
 ReadsAs seen (Ok a) wanted = wanted ≡ Ok (seen a)
 ReadsAs seen (Err fault) wanted = fault.cause ≢ causes.Memory → wanted ≡ Err fault

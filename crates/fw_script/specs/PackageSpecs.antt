@@ -1,4 +1,4 @@
--- The text of a package that is to be built: what is asked of it.
+-- The text of a package description.
 use Rattle.std.specs.Prelude.{ℕ, ◌+◌, ◌||◌, not, nat_lt, Bool, true, false, List, [], ◌∷◌, ◌++◌, Option, None, Some, Result, Ok, Err, codes, if◌then◌else◌, is_some, length, map, option_map, option_to_list, string_bytes}
 use Rattle.std.specs.List.{list_all, repeat}
 use Rattle.std.specs.Str.{bytes_eq}
@@ -20,7 +20,8 @@ use Rattle.fw_script.specs.Lines.{is_skipped, lines_of, words_of}
 use Rattle.fw_script.specs.SpecFields.{image_path_of, package_text_of, release_of, uses_of, whole_fields}
 use Rattle.fw_script.specs.Values.{bytes_of, kind_of, number_in}
 
--- a record: the line that begins it, its option flags, set text and descriptors, and the components that it uses, counted from 0
+-- a record: the line that begins it, its option flags, set text and descriptors, and the components
+-- that it uses, counted from 0
 pub record SpecRecordOf : Type 0 where
   pub line : ℕ
   pub flags : ℕ
@@ -34,7 +35,7 @@ pub record SpecComponentOf : Type 0 where
   pub text : List ℕ
   pub path : Option (List ℕ)
 
--- what is asked of a package, and the number of the line after the last that says it
+-- the description of a package, and the number of the line after the last
 pub record PackageSpecOf : Type 0 where
   pub release : List ℕ
   pub version : List ℕ
@@ -42,7 +43,7 @@ pub record PackageSpecOf : Type 0 where
   pub components : List SpecComponentOf
   pub next_line : ℕ
 
--- the same of a value in the program
+-- the description that a value of the program represents
 abbrev pub spec_descriptor_of : SpecDescriptor → DescriptorOf
 spec_descriptor_of d = record { kind = d.kind; bytes = d.bytes.items }
 
@@ -69,7 +70,8 @@ spec_seen p =
       next_line = p.next_line;
     }
 
--- What lines have said so far: the records before the last, and the last, which the lines that follow it describe.
+-- The result of the lines read so far: the records before the last, and the last, which the
+-- following lines describe.
 pub record SpecDraftOf : Type 0 where
   pub version : Option (List ℕ)
   pub release : Option (List ℕ)
@@ -83,7 +85,7 @@ empty_spec_draft = record { version = None; release = None; done = []; last = No
 abbrev pub records_of : SpecDraftOf → List SpecRecordOf
 records_of d = d.done ++ option_to_list d.last
 
--- the word that a line begins with
+-- the directive of a line's first word
 unfoldable pub spec_directive_of : List ℕ → Option Directive
 spec_directive_of word =
     if bytes_eq word (codes "version") then Some directives.Version
@@ -93,7 +95,7 @@ spec_directive_of word =
     else if bytes_eq word (codes "component") then Some directives.Component
     else None
 
--- a component was said, or a record
+-- there is a component, or a record
 abbrev pub has_component : List SpecComponentOf → Bool
 has_component [] = false
 has_component (c ∷ cs) = true
@@ -188,7 +190,7 @@ abbrev pub component_line : SpecDraftOf → List (List ℕ) → Result SpecDraft
 component_line d (class ∷ ident ∷ stamp ∷ options ∷ method ∷ text ∷ path ∷ []) = spec_draft_with_component (spec_numbers_of class ident stamp options method) text path d
 component_line d fields = Err causes.Fields
 
--- what a line says
+-- the draft after a directive
 abbrev pub spec_draft_after_directive : ℕ → SpecDraftOf → Directive → List (List ℕ) → Result SpecDraftOf ScriptCause
 spec_draft_after_directive line d directives.Version fields = version_line d fields
 spec_draft_after_directive line d directives.Release fields = release_line d fields
@@ -205,20 +207,21 @@ abbrev pub spec_draft_after_words : ℕ → SpecDraftOf → List (List ℕ) → 
 spec_draft_after_words line d [] = Err causes.Directive
 spec_draft_after_words line d (name ∷ fields) = line_named line d (spec_directive_of name) (whole_fields fields)
 
--- what lines have said after one more, of this number
+-- the draft after line `number`
 unfoldable pub after_spec_line : ℕ → SpecDraftOf → List ℕ → Result SpecDraftOf ScriptCause
 after_spec_line number d line = if is_skipped line then Ok d else spec_draft_after_words number d (words_of line)
 
--- a record uses more components than there are
+-- a record uses a component beyond `count`
 unfoldable pub is_past : ℕ → SpecRecordOf → Bool
 is_past count r = not (list_all (λ k. nat_lt k count) r.uses)
 
--- the line of the first record that does
+-- the line of the first such record
 abbrev pub past_line : ℕ → List SpecRecordOf → Option ℕ
 past_line count [] = None
 past_line count (r ∷ rs) = if is_past count r then Some r.line else past_line count rs
 
--- Behind the last line, with the number of the next: a text that isn't said is empty, and a release time that isn't has zeros.
+-- After the last line, with the number of the next: a text that isn't given is empty, and a release
+-- time that isn't given is zeros.
 abbrev pub or_else : List ℕ → Option (List ℕ) → List ℕ
 or_else bytes None = bytes
 or_else bytes (Some said) = said
@@ -245,12 +248,12 @@ abbrev pub at_spec_line : ℕ → (SpecDraftOf → Result PackageSpecOf ScriptFa
 at_spec_line number next (Ok d) = next d
 at_spec_line number next (Err cause) = Err (record { line = number; cause = cause })
 
--- what lines ask behind what was said before, by so many lines
+-- the description after the remaining lines, of which `before` lines were read already
 abbrev pub spec_from : List (List ℕ) → ℕ → SpecDraftOf → Result PackageSpecOf ScriptFault
 spec_from [] before d = spec_finished (before + 1) d
 spec_from (line ∷ lines) before d = at_spec_line (before + 1) (spec_from lines (before + 1)) (after_spec_line (before + 1) d line)
 
--- what a text asks of a package, or its first line with a fault and what that is; where there is none, the first record's line
--- that uses more components than there are
+-- The description in a text, or its first line with a fault, and the fault. If no line has a fault,
+-- the fault is at the line of the first record that uses a component that doesn't exist.
 abbrev pub package_spec_of : List ℕ → Result PackageSpecOf ScriptFault
 package_spec_of text = spec_from (lines_of text) 0 empty_spec_draft

@@ -1,4 +1,4 @@
--- What the lines of a schedule say, as they are written.
+-- The content of a schedule's lines.
 use Rattle.std.specs.Prelude.{◌++◌, ◌∷◌, [], List, None, Option, Some}
 use Rattle.std.specs.List.{flat_map, repeat}
 use Rattle.fw_steps.specs.Worlds.{full_tick}
@@ -13,7 +13,7 @@ abbrev pub line_steps : ScheduleLine → List Step
 line_steps (lines.Step step) = step ∷ []
 line_steps (lines.Ticks count) = repeat count (full_tick ∷ [])
 
--- a line that is skipped says none
+-- a skipped line has no steps
 abbrev pub steps_if_any : Option ScheduleLine → List Step
 steps_if_any None = []
 steps_if_any (Some line) = line_steps line
@@ -22,7 +22,7 @@ steps_if_any (Some line) = line_steps line
 abbrev pub all_steps : List ScheduleLine → List Step
 all_steps lines = flat_map line_steps lines
 
--- the step that comes next
+-- the next step
 abbrev pub step_of_next : NextStep → Step
 step_of_next (next.Said step) = step.now
 step_of_next next.Tick = full_tick

@@ -1,6 +1,7 @@
--- The text that steps are written as, so that a schedule reads back as them: a line a step. Ticks that nobody misses and that stand
--- next to each other are one line, of at most 1000. A writer is handed one step after another, and holds back no more than a count
--- of such ticks; the text is the same in whatever portions the steps come.
+-- The text written for steps, which reads back as these steps: one line for each step. Adjacent
+-- ticks that no node misses share a line of at most 1000. The writer gets the steps one after
+-- another, and holds back only a count of such ticks. The text doesn't depend on the portions in
+-- which the steps are written.
 use Rattle.std.specs.Prelude.{ℕ, ◌≡◌, ◌≤◌, ◌<◌, ◌+◌, ◌^◌, ◌==◌, Bool, false, if◌then◌else◌, List, [], ◌∷◌, ◌++◌, Ok, codes, decimal, length, map}
 use Rattle.std.specs.List.{AllByRecursion, flat_map}
 use Rattle.hex.specs.Hex.{IsBytes}
@@ -19,7 +20,7 @@ unfoldable pub words_with_spaces : List (List ℕ) → List ℕ
 words_with_spaces [] = []
 words_with_spaces (word ∷ words) = word ++ flat_map (λ next. 32 ∷ next) words
 
--- a line of these words
+-- the line of these words
 abbrev pub line_of : List (List ℕ) → List ℕ
 line_of words = words_with_spaces words ++ 10 ∷ []
 
@@ -29,7 +30,7 @@ verdict_word verdicts.VerifyFail = codes "verify-fail"
 verdict_word verdicts.ApplyOk = codes "apply-ok"
 verdict_word verdicts.ApplyFail = codes "apply-fail"
 
--- the words that say a step; of ticks only one that some node misses is said so
+-- the words of a step; for a tick only if some node misses it
 abbrev pub words_for : Step → List (List ℕ)
 words_for (steps.Deliver pair number node) = codes "deliver" ∷ decimal pair ∷ decimal number ∷ decimal node ∷ []
 words_for (steps.Tick missed) = codes "miss" ∷ map decimal missed.items
@@ -43,35 +44,35 @@ words_for (steps.Sel request) = codes "sel" ∷ data_text request.items ∷ []
 unfoldable pub step_text : Step → List ℕ
 step_text step = line_of (words_for step)
 
--- the words that say so many ticks that nobody misses, 1 to 1000
+-- the words of `count` ticks that no node misses, 1 to 1000
 abbrev pub words_for_ticks : ℕ → List (List ℕ)
 words_for_ticks count = if count == 1 then codes "tick" ∷ [] else codes "tick" ∷ decimal count ∷ []
 
--- their line; no tick has none
+-- their line; none for 0 ticks
 unfoldable pub ticks_text : ℕ → List ℕ
 ticks_text count = if count == 0 then [] else line_of (words_for_ticks count)
 
--- a tick that nobody misses
+-- a tick that no node misses
 abbrev pub is_idle : Step → Bool
 is_idle (steps.Tick missed) = is_nothing missed.items
 is_idle step = false
 
--- One more such tick is held back, where there are so many. The thousandth is written.
+-- The count after one more such tick. The thousandth tick is written.
 abbrev pub idle_after_tick : (idle : ℕ) → ℕ
 idle_after_tick idle = if idle == 999 then 0 else idle + 1
 
 abbrev pub text_with_tick : (idle : ℕ) → List ℕ
 text_with_tick idle = if idle == 999 then ticks_text 1000 else []
 
--- how many are held back after a step
+-- the number of held-back ticks after a step
 abbrev pub idle_after : (idle : ℕ) → Step → ℕ
 idle_after idle step = if is_idle step then idle_after_tick idle else 0
 
--- what is written with it: where it is another step, the ticks that are held back come first
+-- the text written with a step: the held-back ticks first, if it is another step
 abbrev pub text_with : (idle : ℕ) → Step → List ℕ
 text_with idle step = if is_idle step then text_with_tick idle else ticks_text idle ++ step_text step
 
--- the same of steps, one after another
+-- the same for a list of steps
 abbrev pub idle_at : (idle : ℕ) → List Step → ℕ
 idle_at idle [] = idle
 idle_at idle (step ∷ steps) = idle_at (idle_after idle step) steps
@@ -80,30 +81,30 @@ abbrev pub text_of_steps : (idle : ℕ) → List Step → List ℕ
 text_of_steps idle [] = []
 text_of_steps idle (step ∷ steps) = text_with idle step ++ text_of_steps (idle_after idle step) steps
 
--- The text of a schedule: what is written with its steps, and at the end the line of the ticks that are held back then.
+-- The text of a schedule: the text of its steps, then the line of the ticks held back at the end.
 abbrev pub schedule_text : List Step → List ℕ
 schedule_text steps = text_of_steps 0 steps ++ ticks_text (idle_at 0 steps)
 
--- WHAT A SCHEDULE CAN SAY
+-- STEPS THAT A SCHEDULE CAN ENCODE
 
--- that a packet of a pair comes: the device, the packet's number, and the node that it comes to
+-- delivering a packet: the pair's device, the packet's number, and the node
 pub record IsDelivery (pair number node : ℕ) : Type 0 where
   pub of_pair : IsEid pair
   pub counted : number < 2 ^ 64
   pub to_node : IsEid node
 
--- that an update of a device starts, with the package of this number
+-- starting an update of a device with package `number`
 pub record IsStart (device number : ℕ) : Type 0 where
   pub of_device : IsEid device
   pub counted : number < 2 ^ 64
 
--- that these nodes miss a tick: 17 at most, and each once
+-- a tick that nodes miss: at most 17 of them, each once
 pub record AreMissing (missed : List ℕ) : Type 0 where
   pub few : length missed ≤ 17
   pub nodes : AllByRecursion IsEid missed
   pub apart : AreDifferent missed
 
--- that the event log is asked: at most 64 bytes
+-- an event log request of at most 64 bytes
 pub record IsLogRequest (request : List ℕ) : Type 0 where
   pub few : length request ≤ 64
   pub bytes : IsBytes request
@@ -123,15 +124,15 @@ StepsRoundTrip steps = AllByRecursion StepRoundTrips steps
 
 -- THE LAWS
 
--- What is written of steps reads back as exactly these steps.
+-- The text of steps reads back as exactly these steps.
 abbrev pub SchedulesReadBack : Type 0
 SchedulesReadBack = (steps : List Step) → StepsRoundTrip steps → script_of (schedule_text steps) ≡ Ok steps
 
--- A schedule reads as no other steps than those that can be said.
+-- Every schedule reads as steps that a schedule can encode.
 abbrev pub OnlyRoundTripsAreRead : Type 0
 OnlyRoundTripsAreRead = (text : List ℕ) (steps : List Step) → script_of text ≡ Ok steps → StepsRoundTrip steps
 
--- Steps that are handed over in two portions are written as they are at once, and as many ticks are held back after them.
+-- Two portions of steps give the same text as both at once, and the same count of held-back ticks.
 pub record IsSameInPortions (idle : ℕ) (first second : List Step) : Type 0 where
   pub text : text_of_steps idle (first ++ second) ≡ text_of_steps idle first ++ text_of_steps (idle_at idle first) second
   pub held : idle_at idle (first ++ second) ≡ idle_at (idle_at idle first) second

@@ -1,4 +1,4 @@
--- The text of a schedule: which steps it is.
+-- The text of a schedule: its steps.
 use Rattle.std.specs.Prelude.{ℕ, ◌+◌, ◌-◌, ◌^◌, ◌==◌, ◌||◌, Bool, false, nat_lt, List, [], ◌∷◌, ◌++◌, Option, None, Some, Result, Ok, Err, codes, if◌then◌else◌, length}
 use Rattle.std.specs.List.{list_any, repeat}
 use Rattle.std.specs.Str.{bytes_eq}
@@ -16,7 +16,7 @@ use Rattle.fw_script.specs.Faults.{both}
 use Rattle.fw_script.specs.Lines.{fields_in, is_skipped, lines_of, words_of}
 use Rattle.fw_script.specs.Values.{bytes_of, eid_of, number_in, some_or}
 
--- the word that a line begins with
+-- the directive of a line's first word
 unfoldable pub directive_of : List ℕ → Option Directive
 directive_of word =
     if bytes_eq word (codes "tick") then Some directives.Tick
@@ -45,12 +45,12 @@ verdict_of word = some_or causes.Number (verdict_named word)
 abbrev pub place_of : List ℕ → Result ℕ ScriptCause
 place_of word = number_in 0 (2 ^ 64 - 1) word
 
--- a step of these values
+-- a step with these values
 abbrev pub mapped_step : {A : Type 0} → (A → Step) → Result A ScriptCause → Result Step ScriptCause
 mapped_step f (Ok a) = Ok (f a)
 mapped_step f (Err cause) = Err cause
 
--- a request of the event log
+-- an event log request
 abbrev pub request_step : Result (List ℕ) ScriptCause → Result Step ScriptCause
 request_step (Ok bytes) = if nat_lt 64 (length bytes) then Err causes.Limit else Ok (steps.Sel (record { items = bytes }))
 request_step (Err cause) = Err cause
@@ -60,11 +60,11 @@ abbrev pub only_eid_of : List (List ℕ) → Result ℕ ScriptCause
 only_eid_of (eid ∷ []) = eid_of eid
 only_eid_of fields = Err causes.Fields
 
--- a packet comes
+-- delivering a packet
 abbrev pub delivery : List ℕ → List ℕ → List ℕ → Result Step ScriptCause
 delivery pair number node = mapped_step (λ v. steps.Deliver v.0 v.1.0 v.1.1) (both (eid_of pair) (both (place_of number) (eid_of node)))
 
--- the identifiers that words are, in order, behind these
+-- the identifiers so far, then the next
 abbrev pub eids_with : Result (List ℕ × ℕ) ScriptCause → Result (List ℕ) ScriptCause
 eids_with (Ok v) = Ok (v.0 ++ v.1 ∷ [])
 eids_with (Err cause) = Err cause
@@ -76,12 +76,12 @@ abbrev pub eids_from : Result (List ℕ) ScriptCause → List (List ℕ) → Res
 eids_from eids [] = eids
 eids_from eids (word ∷ words) = eids_from (with_eid eids word) words
 
--- one of them stands twice
+-- an identifier occurs twice
 abbrev pub has_twice : List ℕ → Bool
 has_twice [] = false
 has_twice (eid ∷ eids) = list_any (λ other. other == eid) eids || has_twice eids
 
--- a tick that these nodes miss
+-- a tick that the listed nodes miss
 abbrev pub miss_step : Result (List ℕ) ScriptCause → Result Step ScriptCause
 miss_step (Ok eids) = if has_twice eids then Err causes.Duplicate else Ok (steps.Tick (record { items = eids }))
 miss_step (Err cause) = Err cause
@@ -90,7 +90,7 @@ abbrev pub miss : List (List ℕ) → Result Step ScriptCause
 miss [] = Err causes.Fields
 miss (word ∷ words) = if nat_lt 17 (length (word ∷ words)) then Err causes.Fields else miss_step (eids_from (Ok []) (word ∷ words))
 
--- what the fields of a step's line say, each directive in turn
+-- the step of a line, by its directive and fields
 abbrev pub step_of : Directive → List (List ℕ) → Result Step ScriptCause
 step_of directives.Deliver (pair ∷ number ∷ node ∷ []) = delivery pair number node
 step_of directives.Start (eid ∷ number ∷ []) = mapped_step (λ v. steps.Start v.0 v.1) (both (eid_of eid) (place_of number))
@@ -102,7 +102,7 @@ step_of directives.Miss fields = miss fields
 step_of directives.Sel (request ∷ []) = request_step (bytes_of request)
 step_of d fields = Err causes.Fields
 
--- how many ticks: one, or as many as are named
+-- the number of ticks: 1, or the given number
 abbrev pub ticks_of : List (List ℕ) → Result ℕ ScriptCause
 ticks_of [] = Ok 1
 ticks_of (count ∷ []) = number_in 1 1000 count
@@ -125,7 +125,7 @@ steps_named None fields = Err causes.Directive
 steps_named (Some d) None = Err causes.Fields
 steps_named (Some d) (Some fields) = steps_of_directive d fields
 
--- how many fields a line has at most
+-- the most fields of a line
 abbrev pub most_fields : Option Directive → ℕ
 most_fields None = 6
 most_fields (Some directives.Tick) = 6
@@ -146,26 +146,26 @@ steps_in (name ∷ fields) = steps_named (directive_of name) (fields_in (most_fi
 unfoldable pub steps_of : List ℕ → Result (List Step) ScriptCause
 steps_of line = if is_skipped line then Ok [] else steps_in (words_of line)
 
--- steps, and those that follow
+-- steps, then those that follow
 abbrev pub steps_then : List Step → Result (List Step) ScriptFault → Result (List Step) ScriptFault
 steps_then steps (Ok more) = Ok (steps ++ more)
 steps_then steps (Err fault) = Err fault
 
--- a line's steps, and those of the lines that follow
+-- a line's steps, then those of the lines that follow
 abbrev pub then_lines : ℕ → Result (List Step) ScriptCause → Result (List Step) ScriptFault → Result (List Step) ScriptFault
 then_lines number (Ok steps) rest = steps_then steps rest
 then_lines number (Err cause) rest = Err (record { line = number; cause = cause })
 
--- the steps of lines, the first of which has this number
+-- the steps of lines, of which the first has number `number`
 abbrev pub script_from : ℕ → List (List ℕ) → Result (List Step) ScriptFault
 script_from number [] = Ok []
 script_from number (line ∷ lines) = then_lines number (steps_of line) (script_from (number + 1) lines)
 
--- the steps of a text, or its first line with a fault and what that is
+-- the steps of a text, or its first line with a fault, and the fault
 abbrev pub script_of : List ℕ → Result (List Step) ScriptFault
 script_of text = script_from 1 (lines_of text)
 
--- these steps, and a line's
+-- these steps, then a line's
 abbrev pub with_line : List Step → Result (List Step) ScriptCause → Result (List Step) ScriptCause
 with_line steps (Ok more) = Ok (steps ++ more)
 with_line steps (Err cause) = Err cause

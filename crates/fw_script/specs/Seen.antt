@@ -1,4 +1,4 @@
--- What a configuration and a schedule in the program say.
+-- The values that a configuration and a schedule of the program represent.
 use Rattle.std.specs.Prelude.{ℕ, List, map, Result, string_bytes}
 use Rattle.std.specs.Result.{result_map_both}
 use Rattle.arrayvec.specs.declared.array_vec.ArrayVec.{ArrayVec}

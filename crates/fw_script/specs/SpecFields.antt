@@ -1,4 +1,4 @@
--- The values of the fields that a package's text has, where a configuration's has none of them.
+-- Field values that only package descriptions have.
 use Rattle.std.specs.Prelude.{ℕ, ◌*◌, ◌+◌, ◌-◌, ◌==◌, ◌&&◌, nat_le, nat_lt, Bool, List, [], ◌∷◌, Option, None, Some, Result, Ok, Err, if◌then◌else◌, length}
 use Rattle.std.specs.Char.{is_ascii_digit}
 use Rattle.std.specs.List.{list_all, list_any}
@@ -9,7 +9,7 @@ use Rattle.fw_script.specs.Configs.{mapped_value, path_of}
 use Rattle.fw_script.specs.Lines.{is_nothing}
 use Rattle.fw_script.specs.Values.{decoded_digits, is_dash, number_in}
 
--- the fields behind a line's first word, as many as there are; none is empty
+-- the fields after a line's first word, in any number; none is empty
 abbrev pub whole_fields : List (List ℕ) → Result (List (List ℕ)) ScriptCause
 whole_fields words = if list_any is_nothing words then Err causes.Fields else Ok words
 
@@ -24,7 +24,7 @@ abbrev pub two_digits : Option ℕ → Option ℕ → Option ℕ
 two_digits (Some high) (Some low) = Some (high * 16 + low)
 two_digits high low = None
 
--- the byte that `\xNN` stands for, of what follows the backslash
+-- the byte that `\xNN` encodes, given what follows the backslash
 abbrev pub byte_escaped : ℕ → ℕ → ℕ → Option ℕ
 byte_escaped x high low = if x == 120 then two_digits (upper_digit_of high) (upper_digit_of low) else None
 
@@ -32,7 +32,7 @@ abbrev pub with_byte : Option ℕ → Option (List ℕ) → Option (List ℕ)
 with_byte (Some b) (Some bytes) = Some (b ∷ bytes)
 with_byte b bytes = None
 
--- the bytes that a word stands for: each backslash begins a `\xNN`
+-- the bytes that a word encodes: each backslash begins a `\xNN`
 abbrev pub unescaped_word : List ℕ → Option (List ℕ)
 unescaped_word [] = Some []
 unescaped_word (b ∷ x ∷ high ∷ low ∷ rest) =
@@ -51,8 +51,8 @@ package_text_of word = short_text (if is_dash word then Some [] else unescaped_w
 unfoldable pub release_of : List ℕ → Result (List ℕ) ScriptCause
 release_of word = decoded_digits (decode_sized word 13)
 
--- The components that a record uses. In the text they count from 1, and each number is greater than the one before it; as they are
--- kept they count from 0.
+-- The components that a record uses. In the text they are counted from 1, and each number is
+-- greater than the one before it; the description counts them from 0.
 abbrev pub then_use : Result ℕ ScriptCause → (ℕ → Result (List ℕ) ScriptCause) → Result (List ℕ) ScriptCause
 then_use (Ok n) next = mapped_value (λ uses. (n - 1) ∷ uses) (next (n + 1))
 then_use (Err cause) next = Err cause

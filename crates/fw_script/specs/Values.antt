@@ -26,11 +26,11 @@ abbrev pub some_or : {A : Type 0} → ScriptCause → Option A → Result A Scri
 some_or cause None = Err cause
 some_or cause (Some a) = Ok a
 
--- the bytes of a UUID's text
+-- the bytes of a UUID
 unfoldable pub uuid_of : List ℕ → Result (List ℕ) ScriptCause
 uuid_of word = some_or causes.Number (parsed word)
 
--- a field that stands for nothing
+-- a field that is a dash, which is an empty value
 abbrev pub is_dash : List ℕ → Bool
 is_dash word = bytes_eq word (codes "-")
 

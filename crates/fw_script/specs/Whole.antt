@@ -1,4 +1,5 @@
--- What is true of each configuration: its limits, and that no node and no component of a device stands twice.
+-- Facts about every configuration: its limits, and that no node's identifier occurs twice, nor a
+-- component's key in a device.
 use Rattle.std.specs.Prelude.{ℕ, ◌≡◌, ◌≤◌, ◌++◌, List, [], ◌∷◌, false, length, map}
 use Rattle.std.specs.List.{AllByRecursion}
 use Rattle.exch_lane.specs.Lanes.{IsEid}
@@ -7,7 +8,7 @@ use Rattle.fw_script.specs.Configs.{ComponentConfigOf, DeviceConfigOf}
 use Rattle.fw_steps.specs.Headline.{AreDifferent}
 use Rattle.fwup_wire.specs.declared.values.Key.{Key}
 
--- each of these keys is new behind those before it
+-- each key differs from the keys before it
 abbrev pub AreNew : (before : List Key) → List Key → Type 0
 AreNew before [] = Unit {0}
 AreNew before (key ∷ keys) = (has_key before key ≡ false) × AreNew (before ++ key ∷ []) keys

@@ -1,4 +1,4 @@
-//! What a configuration holds.
+//! The values of a configuration.
 
 ghost use Rattle.std.specs.Prelude.{◌≡◌, map};
 ghost use Rattle.std.specs.Result.{result_map_both};
@@ -20,35 +20,36 @@ use std::alloc::Global;
 /// A configuration.
 #[derive(PartialEq, Eq, Drop)]
 pub struct Config {
-    /// The agent's end of the links.
+    /// The agent's endpoint.
     pub agent: Endpoint,
-    /// The transmission unit of its network, 64 or 128 bytes a packet's body, which all nodes share (DSP0236, section 8.3).
+    /// The transmission unit of its network: 64 or 128 bytes of a packet's body. All nodes share it
+    /// (DSP0236, section 8.3).
     pub unit: Unit,
     /// Its devices, 1 to 16.
     pub devices: Vec<DeviceConfig>,
-    /// The paths of the packages that updates may start with; the first has number 1.
+    /// The paths of the packages that updates may use; the first has number 1.
     pub packages: Vec<String>,
 }
 
-/// A device as it is configured.
+/// The configuration of a device.
 #[derive(PartialEq, Eq, Drop)]
 pub struct DeviceConfig {
-    /// Its end of the links.
+    /// Its endpoint.
     pub endpoint: Endpoint,
-    /// What it is known by.
+    /// Its descriptors.
     pub descriptors: DescriptorList,
-    /// Its components, 1 to 3, with keys of their own.
+    /// Its components, 1 to 3, each with its own key.
     pub components: Vec<ComponentConfig>,
 }
 
-/// A component as it is configured.
+/// The configuration of a component.
 #[derive(PartialEq, Eq, Drop)]
 pub struct ComponentConfig {
     /// The component.
     pub component: BankComponent,
-    /// What the image that runs calls itself.
+    /// The label of the active image.
     pub label: Label,
-    /// The image that runs, at most 1,048,576 bytes.
+    /// The active image, at most 1,048,576 bytes.
     pub image: Vec<u8>,
 }
 
@@ -107,7 +108,7 @@ pub(crate) fn read_numbers(
     }
 }
 
-/// What an image of this stamp calls itself.
+/// The label of an image with this stamp and text.
 fn label_of(stamp: u32, text: &[u8]) -> Label
     ensures { result ≡ label_made (record { stamp = stamp; text = record { text_type = 1; bytes = text.now } }) }
 {
@@ -120,7 +121,7 @@ fn label_of(stamp: u32, text: &[u8]) -> Label
     })
 }
 
-/// Whether a component of this key is there.
+/// Whether a component has this key.
 fn has_key(components: &[ComponentConfig], key: Key) -> bool
     ensures { result ≡ has_component (map component_of components.now) key }
 {
@@ -133,7 +134,7 @@ fn has_key(components: &[ComponentConfig], key: Key) -> bool
 }
 
 impl DeviceConfig {
-    /// A device of which nothing more is said.
+    /// Creates a device without descriptors or components.
     pub(crate) fn new(alloc: Global, endpoint: Endpoint) -> DeviceConfig
         ensures { device_of result ≡ new_device endpoint }
     {

@@ -1,4 +1,4 @@
-//! Configurations, line by line.
+//! Reads a configuration line by line.
 
 ghost use Rattle.std.specs.Prelude.{◌≡◌, IfErr, IfOk, OnOk, length, map, string_bytes};
 ghost use Rattle.std.specs.List.{list_any};
@@ -16,10 +16,10 @@ use mctp_wire::Unit;
 use std::alloc::Global;
 use std::marker::Model;
 
-/// The most devices.
+/// The largest number of devices.
 const MAX_DEVICES: usize = 16;
 
-/// What a line begins with.
+/// The first word of a line.
 #[derive(Clone, Copy, PartialEq, Eq)]
 enum Directive {
     Agent,
@@ -30,7 +30,7 @@ enum Directive {
     Package,
 }
 
-/// What a word begins, if it is one of the format.
+/// The directive with this word, if there is one.
 #[tactic(auto, unfolding(crate::specs::Configs::directive_of))]
 fn directive_of(word: &[u8]) -> Option<Directive>
     ensures { result ≡ directive_named word.now }
@@ -52,7 +52,7 @@ fn directive_of(word: &[u8]) -> Option<Directive>
     }
 }
 
-/// A node's identifier and UUID.
+/// A node's endpoint identifier and UUID.
 fn read_node(eid_word: &[u8], uuid_word: &[u8]) -> Result<Endpoint, ScriptCause>
     ensures { result ≡ node_of eid_word.now uuid_word.now }
 {
@@ -75,7 +75,7 @@ pub(crate) fn read_path(alloc: Global, word: &[u8]) -> Result<String, ScriptCaus
     }
 }
 
-/// Whether a device of this identifier is there.
+/// Whether a device has this identifier.
 fn is_device(devices: &[DeviceConfig], eid: u8) -> bool
     ensures { result ≡ has_device (map device_of devices.now) eid }
 {
@@ -87,7 +87,7 @@ fn is_device(devices: &[DeviceConfig], eid: u8) -> bool
     false
 }
 
-/// Whether a device has no component.
+/// Whether any device has no component.
 fn is_any_bare(devices: &[DeviceConfig]) -> bool
     ensures { result ≡ list_any is_bare (map device_of devices.now) }
 {
@@ -99,7 +99,7 @@ fn is_any_bare(devices: &[DeviceConfig]) -> bool
     false
 }
 
-/// The unit that a line has chosen, or the baseline (DSP0236, section 8.3).
+/// The unit of the unit's line, or the baseline without one (DSP0236, section 8.3).
 fn chosen(unit: Option<Unit>) -> Unit
     ensures { result ≡ unit_or unit }
 {
@@ -109,14 +109,14 @@ fn chosen(unit: Option<Unit>) -> Unit
     }
 }
 
-/// What lines have said so far.
+/// The result of the lines read so far.
 #[derive(Drop)]
 struct Draft {
     agent: Option<Endpoint>,
     unit: Option<Unit>,
     /// The devices before the last.
     done: Vec<DeviceConfig>,
-    /// The last device, which the lines that follow it describe.
+    /// The last device, which the following lines describe.
     last: Option<DeviceConfig>,
     packages: Vec<String>,
 }
@@ -138,7 +138,7 @@ impl Model for Draft {
 }
 
 impl Draft {
-    /// Before the first line.
+    /// Creates the draft before the first line.
     fn new(alloc: Global) -> Draft
         ensures { result ≡ empty_draft }
     {
@@ -151,7 +151,7 @@ impl Draft {
         }
     }
 
-    /// Whether a node of this identifier is there.
+    /// Whether a node has this identifier.
     fn has_node(&self, eid: u8) -> bool
         ensures { result ≡ uses_eid self.now eid }
     {
@@ -168,7 +168,7 @@ impl Draft {
         is_device(self.done.as_slice(), eid)
     }
 
-    /// How many devices there are.
+    /// The number of devices.
     fn device_count(&self) -> usize
         ensures { result ≡ length (devices_of self.now) }
     {
@@ -178,7 +178,7 @@ impl Draft {
         }
     }
 
-    /// Takes the agent's line.
+    /// Applies the agent's line.
     fn set_agent(&mut self, fields: &[&[u8]]) -> Result<(), ScriptCause>
         ensures { AnswersUnlessMemory (λ _. self.new) result (agent_line self.old (map (λ f. f.now) fields.now)) }
     {
@@ -197,7 +197,7 @@ impl Draft {
         }
     }
 
-    /// Whether the unit's line may stand here.
+    /// Whether the unit's line is allowed here.
     fn may_choose(&self) -> bool
         ensures { result ≡ may_choose self.now }
     {
@@ -207,7 +207,7 @@ impl Draft {
             && self.packages.is_empty()
     }
 
-    /// Takes the unit's line.
+    /// Applies the unit's line.
     fn set_unit(&mut self, fields: &[&[u8]]) -> Result<(), ScriptCause>
         ensures { AnswersUnlessMemory (λ _. self.new) result (unit_line self.old (map (λ f. f.now) fields.now)) }
     {
@@ -240,7 +240,7 @@ impl Draft {
         Ok(())
     }
 
-    /// Takes a device's line.
+    /// Applies a device's line.
     fn add_device(&mut self, alloc: Global, fields: &[&[u8]]) -> Result<(), ScriptCause>
         ensures { AnswersUnlessMemory (λ _. self.new) result (device_line self.old (map (λ f. f.now) fields.now)) }
     {
@@ -263,7 +263,7 @@ impl Draft {
         self.begin(alloc, endpoint)
     }
 
-    /// Takes a descriptor's line.
+    /// Applies a descriptor's line.
     fn add_descriptor(&mut self, alloc: Global, fields: &[&[u8]]) -> Result<(), ScriptCause>
         ensures { AnswersUnlessMemory (λ _. self.new) result (descriptor_line self.old (map (λ f. f.now) fields.now)) }
     {
@@ -298,7 +298,7 @@ impl Draft {
         }
     }
 
-    /// Takes a component's line.
+    /// Applies a component's line.
     fn add_component(&mut self, alloc: Global, fields: &[&[u8]]) -> Result<(), ScriptCause>
         ensures { AnswersUnlessMemory (λ _. self.new) result (component_line self.old (map (λ f. f.now) fields.now)) }
     {
@@ -309,7 +309,7 @@ impl Draft {
         self.extend_last(alloc, numbers, label, image)
     }
 
-    /// Takes a package's line.
+    /// Applies a package's line.
     fn add_package(&mut self, alloc: Global, fields: &[&[u8]]) -> Result<(), ScriptCause>
         ensures { AnswersUnlessMemory (λ _. self.new) result (package_line self.old (map (λ f. f.now) fields.now)) }
     {
@@ -329,7 +329,7 @@ impl Draft {
         Ok(())
     }
 
-    /// Takes the fields of a line.
+    /// Applies a directive and its fields.
     fn say(
         &mut self,
         alloc: Global,
@@ -348,7 +348,7 @@ impl Draft {
         }
     }
 
-    /// Takes a line.
+    /// Applies a line.
     #[tactic(auto, unfolding(crate::specs::Configs::after_line))]
     fn take_line(&mut self, alloc: Global, line: &[u8]) -> Result<(), ScriptCause>
         ensures { AnswersUnlessMemory (λ _. self.new) result (after_line self.old line.now) }
@@ -366,7 +366,7 @@ impl Draft {
         self.say(alloc, directive, fields.as_slice())
     }
 
-    /// Ends behind the last line.
+    /// Returns the configuration after the last line.
     #[tactic(auto, unfolding(crate::specs::Configs::config_of_draft))]
     fn finish(self) -> Result<Config, ScriptCause>
         ensures { AnswersUnlessMemory config_seen result (config_of_draft self) }
@@ -404,8 +404,9 @@ impl Draft {
 /// Work is linear in the text.
 ///
 /// # Errors
-/// The first line that is none, with the first of its faults; `Missing` at the line after the last where there is no agent,
-/// no device, or a device without a component; `Memory` where memory is refused.
+/// The first invalid line, with its first fault in the order of `ScriptCause`; `Missing`, at the
+/// line after the last, if there is no agent, no device, or a device without a component; `Memory`
+/// if memory is refused.
 #[tactic(auto, using(crate::proofs::Whole::config_whole))]
 pub fn read_config(alloc: Global, text: &[u8]) -> Result<Config, ScriptFault>
     ensures reads { ReadsAs config_seen result (config_of text.now) }

@@ -5,34 +5,34 @@ ghost use Rattle.fw_script.specs.Faults.{both as both_of, earlier as earlier_of,
 
 use thiserror::Error;
 
-/// What is wrong with a line. Of a line with several faults the first of this list is told.
+/// What is wrong with a line. If a line has several faults, the first of this list is reported.
 #[derive(Clone, Copy, Debug, PartialEq, Eq, Error)]
 pub enum ScriptCause {
-    /// The line begins with no word of the format.
+    /// The line begins with no directive of the format.
     #[error("Directive")]
     Directive,
-    /// A field is left out, or one stands too many.
+    /// A field is missing or empty, or there are too many.
     #[error("Fields")]
     Fields,
-    /// The line may not stand here.
+    /// The line isn't allowed here.
     #[error("Order")]
     Order,
-    /// A number isn't all digits, a verdict is unknown, a UUID is none, or a path isn't UTF-8.
+    /// A number isn't all digits, a verdict is unknown, a UUID is malformed, or a path isn't UTF-8.
     #[error("Number")]
     Number,
-    /// Bytes aren't an even number of hexadecimal digits, or a descriptor's type isn't four.
+    /// Bytes aren't an even number of hexadecimal digits, or a descriptor's type isn't four digits.
     #[error("Hex")]
     Hex,
     /// A number is outside its bounds.
     #[error("Range")]
     Range,
-    /// A node's identifier stands twice, or a component's key in one device.
+    /// A node's identifier occurs twice, or a component's key twice in one device.
     #[error("Duplicate")]
     Duplicate,
     /// There are too many devices, components of a device, descriptors, or bytes.
     #[error("Limit")]
     Limit,
-    /// The agent, a device, or a device's component isn't there.
+    /// The agent, a device, or a device's component is missing.
     #[error("Missing")]
     Missing,
     /// Memory was refused.
@@ -41,7 +41,7 @@ pub enum ScriptCause {
 }
 
 impl ScriptCause {
-    /// The word that names the cause.
+    /// Returns the name of the cause.
     pub fn name(self) -> &'static str
         ensures { result.now ≡ name_of self }
     {
@@ -77,7 +77,7 @@ impl ScriptCause {
         }
     }
 
-    /// The one that stands first in the list.
+    /// Returns the cause that comes first in the list.
     pub(crate) fn earlier(self, other: ScriptCause) -> ScriptCause
         ensures { result ≡ earlier_of self other }
     {
@@ -89,17 +89,17 @@ impl ScriptCause {
     }
 }
 
-/// Why a text is refused, and where.
+/// Why a text is refused, and at which line.
 #[derive(Clone, Copy, Debug, PartialEq, Eq, Error)]
 #[error("line {line}: {cause}")]
 pub struct ScriptFault {
-    /// The line, from 1 on; for what is missing the line after the last.
+    /// The line, counted from 1; for `Missing`, the line after the last.
     pub line: usize,
     /// What is wrong with it.
     pub cause: ScriptCause,
 }
 
-/// Two values, or of their faults the one that stands first in the list.
+/// Returns both values, or the fault that comes first in the list.
 pub(crate) fn both<A: Drop, B: Drop>(
     first: Result<A, ScriptCause>,
     second: Result<B, ScriptCause>,

@@ -1,6 +1,6 @@
-//! The texts of a firmware update: a configuration, which says who the agent and its devices are; a schedule of steps; and the
-//! report of what they led to. Configuration and schedule are read line by line, and the first line with a fault is told, with the
-//! first of its faults.
+//! The text formats of a firmware update: a configuration of the agent and its devices; a schedule
+//! of steps; and the report of a run. Configurations and schedules are read line by line. The first
+//! line with a fault is reported, with the first of its faults.
 #![tactic(auto)]
 
 mod config;

@@ -1,4 +1,4 @@
-//! A text as lines, and a line as words.
+//! Splits a text into lines, and a line into words.
 
 ghost use Rattle.std.specs.Prelude.{◌≡◌, ◌<◌, ◌∷◌, ◌==◌, [], IfSome, MatchOption, length, map, option_map};
 ghost use Rattle.std.specs.List.{position, slice_split};
@@ -6,17 +6,17 @@ ghost use Rattle.fw_script.specs.Lines.{fields_in, is_skipped as says_nothing, l
 
 use arrayvec::ArrayVec;
 
-/// The most fields of a line, but for one that lists what it names.
+/// The most fields of a line, except of one that lists nodes.
 pub const MAX_FIELDS: usize = 6;
 
-/// Where a byte first stands.
+/// The position of the first `byte`.
 fn place_of(bytes: &[u8], byte: u8) -> Option<usize>
     ensures { result ≡ position (λ b. b == byte) bytes.now }
 {
     bytes.iter().position(|other| *other == byte)
 }
 
-/// What stands before the first of these bytes, and what behind it.
+/// Splits at the first `byte`.
 fn cut(bytes: &[u8], byte: u8) -> Option<(&[u8], &[u8])>
     ensures parts { MatchOption result (slice_split (λ b. b == byte) bytes.now ≡ bytes.now ∷ [])
         (λ p. slice_split (λ b. b == byte) bytes.now ≡ p.0.now ∷ slice_split (λ b. b == byte) p.1.now) }
@@ -41,7 +41,7 @@ pub fn first_line(text: &[u8]) -> (&[u8], &[u8])
     }
 }
 
-/// Whether a line says nothing.
+/// Whether a line is skipped: it is empty or a comment.
 pub fn is_skipped(line: &[u8]) -> bool
     ensures { result ≡ says_nothing line.now }
 {
@@ -62,7 +62,7 @@ pub fn first_word(line: &[u8]) -> (&[u8], Option<&[u8]>)
     }
 }
 
-/// The fields that follow, if none is empty and they are at most `N`.
+/// The fields after the first word, if none is empty and there are at most `N`.
 #[tactic(auto, using(crate::proofs::Cuts::left_out, crate::proofs::Cuts::too_many))]
 pub fn fields_after<const N: usize>(rest: Option<&[u8]>) -> Option<ArrayVec<&[u8], N>>
     ensures { option_map (λ fields. map (λ f. f.now) fields.items) result ≡ fields_in N (words_from (option_map (λ r. r.now) rest.entry)) }

@@ -1,4 +1,4 @@
-//! The names of states, as a report has them.
+//! The names of states in a report.
 
 ghost use Rattle.std.specs.Prelude.{◌≡◌};
 ghost use Rattle.fw_script.specs.Reports.{cause_name, session_name, session_text, state_name};
@@ -6,7 +6,7 @@ ghost use Rattle.fw_script.specs.Reports.{cause_name, session_name, session_text
 use fd_core::State;
 use ua_core::{Cause, SessionState};
 
-/// The name of a device's state (DSP0267 1.0, "Firmware device state machine").
+/// Returns the name of a device's state (DSP0267 1.0, "Firmware device state machine").
 pub fn state_name(state: State) -> &'static str
     ensures { result.now ≡ state_name state }
 {
@@ -21,7 +21,7 @@ pub fn state_name(state: State) -> &'static str
     }
 }
 
-/// The name of why a session failed.
+/// Returns the name of the cause of a failed session.
 pub fn cause_name(cause: Cause) -> &'static str
     ensures { result.now ≡ cause_name cause }
 {
@@ -39,7 +39,7 @@ pub fn cause_name(cause: Cause) -> &'static str
     }
 }
 
-/// The name of a session that failed so.
+/// The name of a session that failed with this cause.
 fn failure_name(cause: Cause) -> &'static str
     ensures { result.now ≡ session_name (SessionState.Failed cause) }
 {
@@ -57,7 +57,7 @@ fn failure_name(cause: Cause) -> &'static str
     }
 }
 
-/// The name of where a session stands; of one that failed, with the cause.
+/// Returns the name of a session's state, with the cause if it failed.
 pub fn session_name(state: SessionState) -> &'static str
     ensures { result.now ≡ session_name state }
 {
@@ -80,7 +80,7 @@ pub fn session_name(state: SessionState) -> &'static str
     }
 }
 
-/// The name of where the session with a device stands, if there is one.
+/// The name of the state of the session with a device, or a dash if there is none.
 pub(crate) fn session_text(session: Option<SessionState>) -> &'static str
     ensures { result.now ≡ session_text session }
 {

@@ -1,13 +1,13 @@
-//! What the text of a package that is to be built asks of it.
+//! The content of a package description.
 
 use fwup_wire::Key;
 
-/// What is asked of a package.
+/// The description of a package to build.
 #[derive(PartialEq, Eq, Drop)]
 pub struct PackageSpec {
-    /// The release time (timestamp104 of DSP0240, as it is written); zeros where none is said.
+    /// The release time (timestamp104 of DSP0240, as encoded); zeros if none is given.
     pub release: [u8; 13],
-    /// The version text, at most 255 bytes; empty where none is said.
+    /// The version text, at most 255 bytes; empty if none is given.
     pub version: Vec<u8>,
     /// The records, at most 255.
     pub records: Vec<SpecRecord>,
@@ -17,22 +17,23 @@ pub struct PackageSpec {
     pub next_line: usize,
 }
 
-/// A record that is asked for.
+/// The description of a record.
 #[derive(PartialEq, Eq, Drop)]
 pub struct SpecRecord {
-    /// The number of the line that begins it, from 1 on.
+    /// The number of the record's line, from 1.
     pub line: usize,
     /// The update option flags.
     pub flags: u32,
     /// The component image set version text, at most 255 bytes.
     pub set_text: Vec<u8>,
-    /// The descriptors of the devices that it is for, at most 255.
+    /// The descriptors of the devices that it applies to, at most 255.
     pub descriptors: Vec<SpecDescriptor>,
-    /// The numbers of the components that it uses, counted from 0, rising, each of a component that is there.
+    /// The numbers of the components that it uses, counted from 0, in ascending order. Each is the
+    /// number of a component of the package.
     pub uses: Vec<u16>,
 }
 
-/// A descriptor that is asked for.
+/// The description of a descriptor.
 #[derive(PartialEq, Eq, Drop)]
 pub struct SpecDescriptor {
     /// Its type.
@@ -41,18 +42,18 @@ pub struct SpecDescriptor {
     pub bytes: Vec<u8>,
 }
 
-/// A component that is asked for.
+/// The description of a component.
 #[derive(PartialEq, Eq, Drop)]
 pub struct SpecComponent {
-    /// Its numbers.
+    /// Its numeric fields.
     pub numbers: SpecNumbers,
     /// The version text, at most 255 bytes.
     pub text: Vec<u8>,
-    /// The path of its image's file; without one the image is empty.
+    /// The path of the image's file; without one the image is empty.
     pub path: Option<String>,
 }
 
-/// The numbers of a component that is asked for.
+/// The numeric fields of a component's description.
 #[derive(Clone, Copy, PartialEq, Eq)]
 pub struct SpecNumbers {
     /// Classification and identifier.
@@ -61,6 +62,6 @@ pub struct SpecNumbers {
     pub stamp: u32,
     /// The options: bit 0 forces the update, bit 1 uses the stamp.
     pub options: u16,
-    /// The activation methods that are requested.
+    /// The requested activation methods.
     pub method: u16,
 }

@@ -1,4 +1,4 @@
-//! Schedules: the steps of a world, a line each.
+//! Schedules: the steps of a world, one line each.
 
 ghost use Rattle.std.specs.Prelude.{◌≡◌, ◌≢◌, ◌≤◌, ◌<◌, ◌+◌, ◌++◌, ◌∷◌, [], Err, IfErr, IfOk, Ok, OnOk, Some, length, map, option_map};
 ghost use Rattle.std.specs.List.{repeat};
@@ -17,7 +17,7 @@ use fd_core::Verdict;
 use fw_world::{LogRequest, Missed, Step};
 use std::alloc::Global;
 
-/// The most bytes of a request of the event log.
+/// The most bytes of an event log request.
 const MAX_REQUEST: usize = 64;
 
 /// The most ticks of a line.
@@ -26,7 +26,7 @@ const MAX_TICKS: u64 = 1000;
 /// The most nodes that miss a tick.
 const MAX_MISSED: usize = 17;
 
-/// What a line begins with.
+/// The first word of a line.
 #[derive(Clone, Copy, PartialEq, Eq)]
 enum Directive {
     Tick,
@@ -40,7 +40,7 @@ enum Directive {
     Sel,
 }
 
-/// What a word begins, if it is one of the format.
+/// The directive with this word, if there is one.
 #[tactic(auto, unfolding(crate::specs::Schedules::directive_of))]
 fn directive_of(word: &[u8]) -> Option<Directive>
     ensures { result ≡ directive_named word.now }
@@ -68,7 +68,7 @@ fn directive_of(word: &[u8]) -> Option<Directive>
     }
 }
 
-/// A verdict by its word.
+/// The verdict with this word.
 #[tactic(auto, unfolding(crate::specs::Schedules::verdict_of))]
 fn verdict(word: &[u8]) -> Result<Verdict, ScriptCause>
     ensures { result ≡ verdict_of word.now }
@@ -96,7 +96,7 @@ fn place(word: &[u8]) -> Result<usize, ScriptCause>
     }
 }
 
-/// How many ticks a line says.
+/// The number of ticks of a line.
 fn ticks(fields: &[&[u8]]) -> Result<u64, ScriptCause>
     ensures { result ≡ ticks_of (map (λ f. f.now) fields.now) }
 {
@@ -107,7 +107,7 @@ fn ticks(fields: &[&[u8]]) -> Result<u64, ScriptCause>
     }
 }
 
-/// The packet of a pair with this number comes to a node.
+/// The step that delivers packet `number` of a pair to a node.
 fn delivery(pair: &[u8], number: &[u8], node: &[u8]) -> Result<Step, ScriptCause>
     ensures { result ≡ delivery_of pair.now number.now node.now }
 {
@@ -117,7 +117,7 @@ fn delivery(pair: &[u8], number: &[u8], node: &[u8]) -> Result<Step, ScriptCause
     }
 }
 
-/// The step of a packet that comes.
+/// The step that delivers a packet.
 fn deliver(fields: &[&[u8]]) -> Result<Step, ScriptCause>
     ensures { result ≡ step_of Directive.Deliver (map (λ f. f.now) fields.now) }
 {
@@ -153,7 +153,7 @@ fn verdict_step(fields: &[&[u8]]) -> Result<Step, ScriptCause>
     }
 }
 
-/// The only field, an endpoint identifier.
+/// The line's only field, an endpoint identifier.
 fn only_eid(fields: &[&[u8]]) -> Result<u8, ScriptCause>
     ensures { result ≡ only_eid_of (map (λ f. f.now) fields.now) }
 {
@@ -163,7 +163,7 @@ fn only_eid(fields: &[&[u8]]) -> Result<u8, ScriptCause>
     }
 }
 
-/// Puts the identifier that a word is behind those that were read.
+/// Parses `word` as an endpoint identifier and appends it.
 fn with_eid(eids: Result<Missed, ScriptCause>, word: &[u8]) -> Result<Missed, ScriptCause>
     requires { IfOk eids (λ e. length e.items < 17) }
     ensures value { seen_eids result ≡ with_eid_of (seen_eids eids) word.now }
@@ -178,7 +178,7 @@ fn with_eid(eids: Result<Missed, ScriptCause>, word: &[u8]) -> Result<Missed, Sc
     }
 }
 
-/// The identifiers that these words are, at most 17.
+/// Parses words as endpoint identifiers, at most 17.
 fn eids(words: &[&[u8]]) -> Result<Missed, ScriptCause>
     requires { length words.now ≤ 17 }
     ensures { seen_eids result ≡ eids_from (Ok []) (map (λ f. f.now) words.now) }
@@ -190,7 +190,7 @@ fn eids(words: &[&[u8]]) -> Result<Missed, ScriptCause>
     eids
 }
 
-/// Whether one of these identifiers stands twice.
+/// Whether an identifier occurs twice.
 fn has_twice(eids: &[u8]) -> bool
     ensures { result ≡ stands_twice eids.now }
 {
@@ -204,7 +204,7 @@ fn has_twice(eids: &[u8]) -> bool
     false
 }
 
-/// The tick that these nodes miss, 1 to 17.
+/// The tick that the listed nodes miss, 1 to 17 of them.
 fn miss(fields: &[&[u8]]) -> Result<Step, ScriptCause>
     ensures { result ≡ step_of Directive.Miss (map (λ f. f.now) fields.now) }
 {
@@ -222,7 +222,7 @@ fn miss(fields: &[&[u8]]) -> Result<Step, ScriptCause>
     }
 }
 
-/// The step of a request of the event log.
+/// The step of an event log request.
 fn sel(alloc: Global, fields: &[&[u8]]) -> Result<Step, ScriptCause>
     ensures { AnswersUnlessMemory (λ s. s) result (step_of Directive.Sel (map (λ f. f.now) fields.now)) }
 {
@@ -241,7 +241,7 @@ fn sel(alloc: Global, fields: &[&[u8]]) -> Result<Step, ScriptCause>
     Ok(Step::Sel(request))
 }
 
-/// The step of a line that says one.
+/// The step of a line that is a single step.
 fn step(alloc: Global, directive: Directive, fields: &[&[u8]]) -> Result<Step, ScriptCause>
     requires { directive ≢ Directive.Tick }
     ensures { AnswersUnlessMemory (λ s. s) result (step_of directive (map (λ f. f.now) fields.now)) }
@@ -268,7 +268,7 @@ fn step(alloc: Global, directive: Directive, fields: &[&[u8]]) -> Result<Step, S
     }
 }
 
-/// What the fields of a line say.
+/// The content of a line, by its directive and fields.
 fn said(alloc: Global, directive: Directive, fields: &[&[u8]]) -> Result<ScheduleLine, ScriptCause>
     ensures { AnswersUnlessMemory line_steps result (steps_of_directive directive (map (λ f. f.now) fields.now)) }
 {
@@ -284,7 +284,7 @@ fn said(alloc: Global, directive: Directive, fields: &[&[u8]]) -> Result<Schedul
     }
 }
 
-/// The tick that the nodes behind a line's first word miss.
+/// The tick that the nodes listed after the first word miss.
 fn missed(rest: Option<&[u8]>) -> Result<ScheduleLine, ScriptCause>
     ensures { AnswersUnlessMemory line_steps result (steps_named (Some Directive.Miss) (fields_in 17 (words_from (option_map (λ r. r.now) rest.entry)))) }
 {
@@ -297,7 +297,7 @@ fn missed(rest: Option<&[u8]>) -> Result<ScheduleLine, ScriptCause>
     }
 }
 
-/// What a line says; nothing where it is skipped.
+/// The content of a line, or none if the line is skipped.
 #[tactic(auto, unfolding(crate::specs::Schedules::steps_of))]
 fn line_of(alloc: Global, line: &[u8]) -> Result<Option<ScheduleLine>, ScriptCause>
     ensures { AnswersUnlessMemory steps_if_any result (steps_of line.now) }
@@ -323,10 +323,10 @@ fn line_of(alloc: Global, line: &[u8]) -> Result<Option<ScheduleLine>, ScriptCau
     }
 }
 
-/// Appends what a line says, if it says something.
+/// Appends the content of a line, if there is some.
 ///
 /// # Errors
-/// `Memory` where memory for it is refused.
+/// `Memory` if memory is refused.
 #[tactic(auto, using(crate::proofs::AllSteps::all_more, crate::proofs::AllSteps::none_more))]
 fn push_line(lines: &mut Vec<ScheduleLine>, line: Option<ScheduleLine>) -> Result<(), ScriptCause>
     ensures ok { OnOk result (all_steps lines.new.items ≡ all_steps lines.old.items ++ steps_if_any line) }
@@ -341,7 +341,7 @@ fn push_line(lines: &mut Vec<ScheduleLine>, line: Option<ScheduleLine>) -> Resul
     }
 }
 
-/// Reads what a line says behind the others.
+/// Reads a line and appends its content.
 fn read_line(alloc: Global, text: &[u8], lines: &mut Vec<ScheduleLine>) -> Result<(), ScriptCause>
     ensures { AnswersUnlessMemory (λ _. all_steps lines.new.items) result (with_line (all_steps lines.old.items) (steps_of text.now)) }
 {
@@ -351,12 +351,14 @@ fn read_line(alloc: Global, text: &[u8], lines: &mut Vec<ScheduleLine>) -> Resul
     }
 }
 
-/// Reads a schedule line by line: `tick N` is kept as it is written. `miss EID ..` is a tick that these nodes miss.
+/// Reads a schedule line by line: `tick N` is kept as a count. `miss EID ..` is a tick that the
+/// listed nodes miss.
 ///
-/// Work and memory are linear in the text, however many ticks it says.
+/// Work and memory are linear in the text, whatever the numbers of ticks.
 ///
 /// # Errors
-/// The first line that is none, with the first of its faults; `Memory` where memory is refused.
+/// The first invalid line, with its first fault in the order of `ScriptCause`; `Memory` if memory
+/// is refused.
 #[tactic(auto, using(crate::proofs::Steps::before_nothing, crate::proofs::Steps::steps_read, crate::proofs::Steps::fault_read))]
 pub fn read_lines(alloc: Global, text: &[u8]) -> Result<Vec<ScheduleLine>, ScriptFault>
     ensures { ReadsAs (λ lines. all_steps lines.items) result (script_of text.now) }
@@ -376,12 +378,14 @@ pub fn read_lines(alloc: Global, text: &[u8]) -> Result<Vec<ScheduleLine>, Scrip
     Ok(lines)
 }
 
-/// Reads a schedule: its steps in their order, of which `tick N` is N; `miss EID ..` is a tick that these nodes miss.
+/// Reads a schedule: its steps in order; `tick N` is N steps, and `miss EID ..` is a tick that the
+/// listed nodes miss.
 ///
 /// Work is linear in the text and its steps.
 ///
 /// # Errors
-/// The first line that is none, with the first of its faults; `Memory` where memory is refused.
+/// The first invalid line, with its first fault in the order of `ScriptCause`; `Memory` if memory
+/// is refused.
 pub fn read_schedule(alloc: Global, text: &[u8]) -> Result<Vec<Step>, ScriptFault>
     ensures { ReadsAs (λ steps. steps.items) result (script_of text.now) }
 {

@@ -1,9 +1,10 @@
-//! What holds of schedules that are written.
+//! Laws of written schedules.
 
 ghost use Rattle.fw_script.specs.ScheduleTexts.{OnlyRoundTripsAreRead, PortionsAreTheWhole, SchedulesReadBack};
 
-/// What is written of steps that a schedule can say reads back as exactly these steps, and no schedule reads as others. What is
-/// written is the same in whatever portions the steps are handed over.
+/// The text written for steps that a schedule can encode reads back as exactly these steps, and
+/// every schedule reads as such steps. The text doesn't depend on the portions in which the steps
+/// are written.
 pub fn schedules_read_back()
     ensures read { SchedulesReadBack }
     ensures only { OnlyRoundTripsAreRead }

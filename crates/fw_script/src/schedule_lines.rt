@@ -1,4 +1,4 @@
-//! What the lines of a schedule say.
+//! The content of a schedule's lines.
 
 ghost use Rattle.std.specs.Prelude.{◌≡◌, ◌++◌, ◌∷◌, ◌^◌, ◌≤◌, [], IfNone, IfOk, IfSome, OnOk, length};
 ghost use Rattle.std.specs.List.{repeat};
@@ -9,19 +9,19 @@ use fw_world::{Missed, Step};
 use std::alloc::{AllocError, Global};
 use std::marker::Model;
 
-/// What a line of a schedule says.
+/// The content of a line of a schedule.
 #[derive(Drop)]
 pub enum ScheduleLine {
     /// A step.
     Step(Step),
-    /// So many ticks, one after another, each of which all nodes count.
+    /// A number of ticks, each of which all nodes count.
     Ticks(u64),
 }
 
-/// Appends ticks.
+/// Appends `count` ticks.
 ///
 /// # Errors
-/// `AllocError` where memory for them is refused.
+/// `AllocError` if memory is refused.
 fn push_ticks(steps: &mut Vec<Step>, count: u64) -> Result<(), AllocError>
     ensures { OnOk result (steps.new.items ≡ steps.old.items ++ repeat count (full_tick ∷ [])) }
 {
@@ -42,10 +42,10 @@ fn push_steps(steps: &mut Vec<Step>, line: ScheduleLine) -> Result<(), AllocErro
     Ok(())
 }
 
-/// The steps of lines, one after another.
+/// Returns the steps of the lines, in order.
 ///
 /// # Errors
-/// `AllocError` where memory for them is refused.
+/// `AllocError` if memory is refused.
 #[tactic(auto, using(crate::proofs::AllSteps::all_more))]
 pub fn steps_of_all(alloc: Global, lines: Vec<ScheduleLine>) -> Result<Vec<Step>, AllocError>
     ensures { IfOk result (λ steps. steps.items ≡ all_steps lines.items) }
@@ -57,7 +57,7 @@ pub fn steps_of_all(alloc: Global, lines: Vec<ScheduleLine>) -> Result<Vec<Step>
     Ok(steps)
 }
 
-/// How many steps these lines say, where 64 bits hold the number.
+/// Returns the number of steps of the lines, if it fits 64 bits.
 #[tactic(auto, using(crate::proofs::AllSteps::counted_more, crate::proofs::AllSteps::counted_so_far))]
 pub fn step_count(lines: &[ScheduleLine]) -> Option<u64>
     ensures some { IfSome result (λ count. count ≡ length (all_steps lines.now)) }
@@ -74,7 +74,7 @@ impl ScheduleLine {
     ghost use Rattle.std.specs.Prelude.{◌≡◌, length};
     ghost use Rattle.fw_script.specs.ScheduleLines.{line_steps};
 
-    /// How many steps it says.
+    /// The number of steps of the line.
     #[tactic(auto, using(crate::proofs::AllSteps::ticks_long))]
     fn len(&self) -> u64
         ensures { result ≡ length (line_steps self.now) }
@@ -89,13 +89,13 @@ impl ScheduleLine {
 /// The next of a schedule's steps.
 #[derive(Clone, Copy)]
 pub enum NextStep<'a> {
-    /// A step that a line says.
+    /// A step of a line.
     Said(&'a Step),
     /// A tick that all nodes count.
     Tick,
 }
 
-/// The steps of lines, one after another: those that are left.
+/// An iterator over the steps of lines.
 #[derive(Drop)]
 pub struct LineSteps<'a> {
     ticks: u64,
@@ -118,14 +118,14 @@ impl<'a> LineSteps<'a> {
     ghost use Rattle.std.specs.Prelude.{◌≡◌, ◌∷◌, [], IfNone, IfSome};
     ghost use Rattle.fw_script.specs.ScheduleLines.{all_steps, step_of_next};
 
-    /// All steps of these lines.
+    /// Creates an iterator over all steps of the lines.
     pub fn of(lines: &'a [ScheduleLine]) -> LineSteps<'a>
         ensures { result ≡ all_steps lines.now }
     {
         LineSteps { ticks: 0, lines }
     }
 
-    /// The first of the steps that are left, which then isn't; none where none is left.
+    /// Removes and returns the first of the remaining steps, or none if none remains.
     #[tactic(auto, using(crate::proofs::AllSteps::ticks_first))]
     pub fn next(&mut self) -> Option<NextStep<'a>>
         ensures some { IfSome result (λ s. self.old ≡ step_of_next s ∷ self.new) }

@@ -1,4 +1,4 @@
-//! Steps that are written as a schedule's text.
+//! Writes steps as the text of a schedule.
 
 ghost use Rattle.std.specs.Prelude.{◌≡◌, ◌++◌, IfOk, Ok, OnErr, OnOk};
 ghost use Rattle.fw_text.specs.Printing.{AppendsText};
@@ -10,10 +10,10 @@ use fw_world::Step;
 use std::alloc::{AllocError, Global};
 use std::marker::Model;
 
-/// The most ticks that a line says.
+/// The most ticks of a line.
 const MAX_TICKS: u16 = 1000;
 
-/// Whether a step is a tick that nobody misses.
+/// Whether a step is a tick that no node misses.
 fn is_idle(step: &Step) -> bool
     ensures { result ≡ is_idle_tick step.now }
 {
@@ -23,7 +23,7 @@ fn is_idle(step: &Step) -> bool
     }
 }
 
-/// Appends the line that says so many ticks, and that of a step behind it.
+/// Appends the line of `idle` ticks, then the line of a step.
 fn push_behind(alloc: Global, text: &mut Vec<u8>, idle: u16, step: &Step) -> Result<(), AllocError>
     ensures { OnOk result (AppendsText text.old.items text.new.items (ticks_text idle ++ step_text step.now)) }
 {
@@ -32,11 +32,12 @@ fn push_behind(alloc: Global, text: &mut Vec<u8>, idle: u16, step: &Step) -> Res
     Ok(())
 }
 
-/// Writes steps as a schedule's text, one after another, in whatever portions they come. `read_schedule` reads the whole
-/// text as exactly these steps.
+/// Writes steps as the text of a schedule, in any portions. `read_schedule` reads the whole text as
+/// exactly these steps.
 ///
-/// It holds back no more than a count of ticks, below 1000: those that nobody misses and that stand next to each other are
-/// one line. So the text is whole only after `end`. As a value it is that count.
+/// Adjacent ticks that no node misses share a line of at most 1000. The writer holds back only
+/// their count, below 1000, so the text is complete after `end`. Contracts see the writer as that
+/// count.
 #[derive(Drop)]
 pub struct ScheduleText {
     idle: u16,
@@ -53,14 +54,14 @@ impl Model for ScheduleText {
 }
 
 impl ScheduleText {
-    /// Before the first step.
+    /// Creates a writer before the first step.
     pub fn new() -> Self
         ensures { result ≡ 0 }
     {
         ScheduleText { idle: 0 }
     }
 
-    /// Appends a tick that nobody misses, or holds it back.
+    /// Counts a tick that no node misses; writes the line when there are 1000.
     fn hold(&mut self, alloc: Global, text: &mut Vec<u8>) -> Result<(), AllocError>
         ensures written { OnOk result (AppendsText text.old.items text.new.items (text_with_tick self.old)) }
         ensures held { OnOk result (self.new ≡ idle_after_tick self.old) }
@@ -77,12 +78,12 @@ impl ScheduleText {
         Ok(())
     }
 
-    /// Appends what is written with the next step: its line, behind one of the ticks that were held back, and nothing of a
-    /// tick that is held back itself.
+    /// Writes the next step: the line of the held-back ticks, then the step's line. A tick that no
+    /// node misses is held back instead.
     ///
     /// # Errors
-    /// `AllocError` where memory for it is refused. As many ticks are held back then as before; of the text nothing is
-    /// promised.
+    /// `AllocError` if memory is refused. The count of held-back ticks is unchanged; the text's
+    /// content is unspecified.
     pub fn push(&mut self, alloc: Global, text: &mut Vec<u8>, step: &Step) -> Result<(), AllocError>
         ensures written { OnOk result (AppendsText text.old.items text.new.items (text_with self.old step.now)) }
         ensures held { OnOk result (self.new ≡ idle_after self.old step.now) }
@@ -98,11 +99,11 @@ impl ScheduleText {
         Ok(())
     }
 
-    /// Appends what is written with these steps, one after another.
+    /// Writes steps, one after another.
     ///
     /// # Errors
-    /// `AllocError` where memory for it is refused. Of the text and of the ticks that are held back nothing is promised
-    /// then.
+    /// `AllocError` if memory is refused. The text's content and the count of held-back ticks are
+    /// unspecified then.
     #[tactic(auto, using(fw_text::proofs::Chains::telling))]
     pub fn push_all(
         &mut self,
@@ -119,10 +120,12 @@ impl ScheduleText {
         Ok(())
     }
 
-    /// Appends the line of the ticks that are held back. The text is that of all steps then, and the writer as new.
+    /// Appends the line of the held-back ticks. Then the text is complete, and the writer is as
+    /// new.
     ///
     /// # Errors
-    /// `AllocError` where memory for it is refused. The ticks are held back still; of the text nothing is promised.
+    /// `AllocError` if memory is refused. The ticks are still held back; the text's content is
+    /// unspecified.
     pub fn end(&mut self, alloc: Global, text: &mut Vec<u8>) -> Result<(), AllocError>
         ensures written { OnOk result (AppendsText text.old.items text.new.items (ticks_text self.old)) }
         ensures held { OnOk result (self.new ≡ 0) }
@@ -136,10 +139,11 @@ impl ScheduleText {
     }
 }
 
-/// Steps as a schedule's text, which `read_schedule` reads as exactly these steps, where a schedule can say them.
+/// Returns steps as the text of a schedule. If a schedule can encode the steps, `read_schedule`
+/// reads the text as exactly these steps.
 ///
 /// # Errors
-/// `AllocError` where memory for it is refused.
+/// `AllocError` if memory is refused.
 pub fn write_schedule(alloc: Global, steps: &[Step]) -> Result<Vec<u8>, AllocError>
     ensures text { IfOk result (λ text. text.items ≡ schedule_text steps.now) }
     ensures reads { StepsRoundTrip steps.now → IfOk result (λ text. script_of text.items ≡ Ok steps.now) }

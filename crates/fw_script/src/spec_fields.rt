@@ -1,4 +1,4 @@
-//! The values of the fields that a package's text has, where a configuration's has none of them.
+//! Field values that only package descriptions have.
 
 ghost use Rattle.std.specs.Prelude.{◌≡◌, ◌+◌, ◌<◌, ◌≤◌, ◌⊎◌, ◌∷◌, [], IfErr, IfOk, IfSome, MatchOption, None, Ok, Some, length, map, option_map, string_bytes};
 ghost use Rattle.fw_script.specs.Faults.{AnswersUnlessMemory, both as both_of};
@@ -17,7 +17,7 @@ const MAX_TEXT: usize = 255;
 /// The greatest number of a component, counted from 1.
 const MAX_USE: u64 = 65535;
 
-/// The fields that follow, as many as there are.
+/// The fields after the first word, in any number.
 pub(crate) fn all_fields<'a>(
     alloc: Global,
     rest: Option<&'a [u8]>,
@@ -51,7 +51,7 @@ fn upper_digit(digit: u8) -> Option<u8>
     }
 }
 
-/// The byte that `\xNN` stands for, of what follows the backslash.
+/// The byte that `\xNN` encodes, given what follows the backslash.
 fn escaped_byte(x: u8, high: u8, low: u8) -> Option<u8>
     ensures { result ≡ byte_escaped x high low }
 {
@@ -64,7 +64,7 @@ fn escaped_byte(x: u8, high: u8, low: u8) -> Option<u8>
     }
 }
 
-/// The first byte that a word stands for, if it isn't empty, and what follows it.
+/// The first byte that a word encodes, if it isn't empty, and the rest of the word.
 fn first_byte(word: &[u8]) -> Result<Option<(u8, &[u8])>, ScriptCause>
     ensures byte { IfOk result (λ first. MatchOption first (word.now ≡ []) (λ p. unescaped_word word.now ≡ with_byte (Some p.0) (unescaped_word p.1.now))) }
     ensures shorter { IfOk result (λ first. IfSome first (λ p. length p.1.now < length word.now)) }
@@ -82,7 +82,7 @@ fn first_byte(word: &[u8]) -> Result<Option<(u8, &[u8])>, ScriptCause>
     }
 }
 
-/// The bytes that a word stands for.
+/// The bytes that a word encodes.
 #[tactic(auto, using(crate::proofs::Specs::behind_more, crate::proofs::Specs::behind_nothing))]
 fn unescape(alloc: Global, word: &[u8]) -> Result<Vec<u8>, ScriptCause>
     ensures ok { IfOk result (λ bytes. unescaped_word word.now ≡ Some bytes.items) }
@@ -132,7 +132,7 @@ pub(crate) fn release(word: &[u8]) -> Result<[u8; 13], ScriptCause>
     }
 }
 
-/// Whether all words have nothing but digits.
+/// Whether all words are digits only.
 fn are_numbers(words: &[&[u8]]) -> bool
     ensures { result ≡ are_all_numbers (map (λ w. w.now) words.now) }
 {
@@ -144,7 +144,7 @@ fn are_numbers(words: &[&[u8]]) -> bool
     true
 }
 
-/// The components that these numbers name, which rise.
+/// The components that ascending numbers name.
 fn rising_uses(alloc: Global, words: &[&[u8]]) -> Result<Vec<u16>, ScriptCause>
     ensures { AnswersUnlessMemory (λ uses. uses.items) result (uses_from 1 (map (λ w. w.now) words.now)) }
 {

@@ -1,4 +1,4 @@
-//! The text of a package that is to be built, line by line.
+//! Reads a package description line by line.
 
 ghost use Rattle.std.specs.Prelude.{◌≡◌, IfErr, OnOk, length, map, nat_lt};
 ghost use Rattle.std.specs.List.{list_all};
@@ -14,13 +14,13 @@ use crate::values::{kind, number_u16, number_u32, with_bytes};
 use std::alloc::Global;
 use std::marker::Model;
 
-/// The most records.
+/// The largest number of records.
 const MAX_RECORDS: usize = 255;
 
-/// The most descriptors of a record.
+/// The largest number of descriptors of a record.
 const MAX_DESCRIPTORS: usize = 255;
 
-/// What a line begins with.
+/// The first word of a line.
 #[derive(Clone, Copy, PartialEq, Eq)]
 enum Directive {
     Version,
@@ -30,7 +30,7 @@ enum Directive {
     Component,
 }
 
-/// What a word begins, if it is one of the format.
+/// The directive with this word, if there is one.
 #[tactic(auto, unfolding(crate::specs::PackageSpecs::spec_directive_of))]
 fn directive_of(word: &[u8]) -> Option<Directive>
     ensures { result ≡ spec_directive_of word.now }
@@ -87,7 +87,7 @@ fn read_spec_numbers(
     }
 }
 
-/// Whether each of these components, counted from 0, is one of so many.
+/// Whether each component number, counted from 0, is below `count`.
 fn are_there(uses: &[u16], count: usize) -> bool
     ensures { result ≡ list_all (λ k. nat_lt k count) uses.now }
 {
@@ -99,7 +99,7 @@ fn are_there(uses: &[u16], count: usize) -> bool
     true
 }
 
-/// The line of the first record that uses more components than there are.
+/// The line of the first record that uses a component beyond `count`.
 fn past_line(records: &[SpecRecord], count: usize) -> Option<usize>
     ensures { result ≡ past_line_of count (map spec_record_of records.now) }
 {
@@ -112,7 +112,7 @@ fn past_line(records: &[SpecRecord], count: usize) -> Option<usize>
 }
 
 impl SpecRecord {
-    /// Whether it uses more components than there are.
+    /// Whether it uses a component beyond `count`.
     #[tactic(auto, unfolding(crate::specs::PackageSpecs::is_past))]
     fn is_past(&self, count: usize) -> bool
         ensures { result ≡ is_past_of count (spec_record_of self.now) }
@@ -139,14 +139,14 @@ impl SpecRecord {
     }
 }
 
-/// What lines have said so far.
+/// The result of the lines read so far.
 #[derive(Drop)]
 struct SpecDraft {
     version: Option<Vec<u8>>,
     release: Option<[u8; 13]>,
     /// The records before the last.
     done: Vec<SpecRecord>,
-    /// The last record, which the lines that follow it describe.
+    /// The last record, which the following lines describe.
     last: Option<SpecRecord>,
     components: Vec<SpecComponent>,
 }
@@ -167,7 +167,7 @@ impl Model for SpecDraft {
 }
 
 impl SpecDraft {
-    /// Before the first line.
+    /// Creates the draft before the first line.
     fn new(alloc: Global) -> SpecDraft
         ensures { result ≡ empty_spec_draft }
     {
@@ -180,14 +180,14 @@ impl SpecDraft {
         }
     }
 
-    /// Whether a record or a component was said.
+    /// Whether there is a record or a component.
     fn has_begun(&self) -> bool
         ensures { result ≡ has_said self.now }
     {
         self.last.is_some() || !self.components.is_empty()
     }
 
-    /// How many records there are.
+    /// The number of records.
     fn record_count(&self) -> usize
         ensures { result ≡ length (records_of self.now) }
     {
@@ -197,7 +197,7 @@ impl SpecDraft {
         }
     }
 
-    /// Takes the version's line.
+    /// Applies the version's line.
     fn set_version(&mut self, alloc: Global, fields: &[&[u8]]) -> Result<(), ScriptCause>
         ensures { AnswersUnlessMemory (λ _. self.new) result (version_line self.old (map (λ f. f.now) fields.now)) }
     {
@@ -216,7 +216,7 @@ impl SpecDraft {
         }
     }
 
-    /// Takes the release time's line.
+    /// Applies the release time's line.
     fn set_release(&mut self, fields: &[&[u8]]) -> Result<(), ScriptCause>
         ensures { AnswersUnlessMemory (λ _. self.new) result (release_line self.old (map (λ f. f.now) fields.now)) }
     {
@@ -249,7 +249,7 @@ impl SpecDraft {
         Ok(())
     }
 
-    /// Takes a record's line.
+    /// Applies a record's line.
     fn add_record(
         &mut self,
         alloc: Global,
@@ -277,7 +277,7 @@ impl SpecDraft {
         self.begin(said)
     }
 
-    /// Takes a descriptor's line.
+    /// Applies a descriptor's line.
     fn add_descriptor(&mut self, alloc: Global, fields: &[&[u8]]) -> Result<(), ScriptCause>
         ensures { AnswersUnlessMemory (λ _. self.new) result (descriptor_line self.old (map (λ f. f.now) fields.now)) }
     {
@@ -322,7 +322,7 @@ impl SpecDraft {
         Ok(())
     }
 
-    /// Takes a component's line.
+    /// Applies a component's line.
     fn add_component(&mut self, alloc: Global, fields: &[&[u8]]) -> Result<(), ScriptCause>
         ensures { AnswersUnlessMemory (λ _. self.new) result (component_line self.old (map (λ f. f.now) fields.now)) }
     {
@@ -333,7 +333,7 @@ impl SpecDraft {
         self.extend(alloc, numbers, text, path)
     }
 
-    /// Takes the fields of a line.
+    /// Applies a directive and its fields.
     fn say(
         &mut self,
         alloc: Global,
@@ -352,7 +352,7 @@ impl SpecDraft {
         }
     }
 
-    /// Takes a line, of this number.
+    /// Applies line `number`.
     #[tactic(auto, unfolding(crate::specs::PackageSpecs::after_spec_line))]
     fn take_line(&mut self, alloc: Global, number: usize, line: &[u8]) -> Result<(), ScriptCause>
         ensures { AnswersUnlessMemory (λ _. self.new) result (after_spec_line number self.old line.now) }
@@ -371,7 +371,7 @@ impl SpecDraft {
         self.say(alloc, number, directive, fields.as_slice())
     }
 
-    /// Ends behind the last line, with the number of the next.
+    /// Returns the description after the last line, with the number of the next line.
     #[tactic(auto, unfolding(crate::specs::PackageSpecs::spec_finished))]
     fn finish(self, alloc: Global, next_line: usize) -> Result<PackageSpec, ScriptFault>
         ensures { ReadsAs spec_seen result (spec_finished next_line self) }
@@ -411,7 +411,7 @@ impl SpecDraft {
     }
 }
 
-/// The record of a line, of this number.
+/// The record of line `line`.
 #[tactic(auto, unfolding(crate::specs::PackageSpecs::record_read))]
 fn read_record(
     alloc: Global,
@@ -437,13 +437,14 @@ fn read_record(
     }
 }
 
-/// Reads what a text asks of a package.
+/// Reads a package description.
 ///
 /// Work is linear in the text.
 ///
 /// # Errors
-/// The first line that is none, with the first of its faults; where there is none, `Range` at the line of the first record that
-/// uses more components than there are; `Memory` where memory is refused.
+/// The first invalid line, with its first fault in the order of `ScriptCause`; if there is none,
+/// `Range` at the line of the first record that uses a component that doesn't exist; `Memory` if
+/// memory is refused.
 pub fn read_package_spec(alloc: Global, text: &[u8]) -> Result<PackageSpec, ScriptFault>
     ensures { ReadsAs spec_seen result (package_spec_of text.now) }
 {

@@ -1,4 +1,4 @@
-//! The lines that say steps.
+//! Writes steps as lines of a schedule.
 
 ghost use Rattle.std.specs.Prelude.{◌≡◌, ◌++◌, ◌∷◌, [], OnOk, decimal};
 ghost use Rattle.std.specs.List.{flat_map};
@@ -49,7 +49,7 @@ fn verdict_word(verdict: Verdict) -> &'static str
     }
 }
 
-/// Appends the words that say that a packet comes to a node.
+/// Appends the words of the step that delivers a packet to a node.
 fn push_delivery(
     alloc: Global,
     text: &mut Vec<u8>,
@@ -66,7 +66,7 @@ fn push_delivery(
     Ok(())
 }
 
-/// Appends the words that say that an update starts.
+/// Appends the words of the step that starts an update.
 fn push_start(
     alloc: Global,
     text: &mut Vec<u8>,
@@ -81,7 +81,7 @@ fn push_start(
     Ok(())
 }
 
-/// Appends the words that say a verdict.
+/// Appends the words of the step of a verdict.
 fn push_verdict(
     alloc: Global,
     text: &mut Vec<u8>,
@@ -106,7 +106,7 @@ fn push_named(alloc: Global, text: &mut Vec<u8>, word: &str, eid: u8) -> Result<
     Ok(())
 }
 
-/// Appends the words that say which nodes miss a tick.
+/// Appends the words of the tick that nodes miss.
 fn push_missed(alloc: Global, text: &mut Vec<u8>, missed: &Missed) -> Result<(), AllocError>
     ensures { OnOk result (AppendsText text.old.items text.new.items (words_with_spaces (words_for (Step.Tick missed.now)))) }
 {
@@ -115,7 +115,7 @@ fn push_missed(alloc: Global, text: &mut Vec<u8>, missed: &Missed) -> Result<(),
     Ok(())
 }
 
-/// Appends the words that say that the event log is asked.
+/// Appends the words of the step of an event log request.
 fn push_request(alloc: Global, text: &mut Vec<u8>, request: &LogRequest) -> Result<(), AllocError>
     ensures { OnOk result (AppendsText text.old.items text.new.items (words_with_spaces (words_for (Step.Sel request.now)))) }
 {
@@ -125,7 +125,7 @@ fn push_request(alloc: Global, text: &mut Vec<u8>, request: &LogRequest) -> Resu
     Ok(())
 }
 
-/// Appends the words that say a step.
+/// Appends the words of a step.
 fn push_said(alloc: Global, text: &mut Vec<u8>, step: &Step) -> Result<(), AllocError>
     ensures { OnOk result (AppendsText text.old.items text.new.items (words_with_spaces (words_for step.now))) }
 {
@@ -141,7 +141,7 @@ fn push_said(alloc: Global, text: &mut Vec<u8>, step: &Step) -> Result<(), Alloc
     }
 }
 
-/// Appends the line that says a step; a tick's names the nodes that miss it.
+/// Appends the line of a step; the line of a tick lists the nodes that miss it.
 #[tactic(auto, unfolding(crate::specs::ScheduleTexts::step_text))]
 pub(crate) fn push_step(alloc: Global, text: &mut Vec<u8>, step: &Step) -> Result<(), AllocError>
     ensures { OnOk result (AppendsText text.old.items text.new.items (step_text step.now)) }
@@ -151,7 +151,7 @@ pub(crate) fn push_step(alloc: Global, text: &mut Vec<u8>, step: &Step) -> Resul
     Ok(())
 }
 
-/// Appends the words that say so many ticks.
+/// Appends the words of `count` ticks.
 fn push_tick_words(alloc: Global, text: &mut Vec<u8>, count: u16) -> Result<(), AllocError>
     ensures { OnOk result (AppendsText text.old.items text.new.items (words_with_spaces (words_for_ticks count))) }
 {
@@ -163,7 +163,7 @@ fn push_tick_words(alloc: Global, text: &mut Vec<u8>, count: u16) -> Result<(), 
     Ok(())
 }
 
-/// Appends the line that says so many ticks that nobody misses, and nothing of none.
+/// Appends the line of `count` ticks that no node misses, or nothing for 0.
 pub(crate) fn push_ticks(alloc: Global, text: &mut Vec<u8>, count: u16) -> Result<(), AllocError>
     ensures { OnOk result (AppendsText text.old.items text.new.items (ticks_text count)) }
 {

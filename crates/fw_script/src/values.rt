@@ -1,4 +1,4 @@
-//! The values of fields.
+//! Parses the values of fields.
 
 ghost use Rattle.std.specs.Prelude.{◌≡◌, ◌≤◌, ◌<◌, ◌^◌, ◌&&◌, IfOk, Some, None, Ok, Err, if◌then◌else◌, nat_lt};
 ghost use Rattle.std.specs.List.{list_all};
@@ -12,7 +12,7 @@ use hex::FromHexError;
 use std::alloc::Global;
 use uuid::Uuid;
 
-/// The number that digits write, if they are digits and it fits.
+/// The number in decimal digits, if the word is digits only and the number fits 64 bits.
 fn digits(word: &[u8]) -> Option<u64>
     ensures { result ≡ (if list_all is_ascii_digit word.now && nat_lt (digits_value 10 word.now) (2 ^ 64) then Some (digits_value 10 word.now) else None) }
 {
@@ -26,14 +26,14 @@ fn digits(word: &[u8]) -> Option<u64>
     Some(value)
 }
 
-/// Whether a word has nothing but digits.
+/// Whether a word is digits only.
 pub(crate) fn is_number(word: &[u8]) -> bool
     ensures { result ≡ list_all is_ascii_digit word.now }
 {
     word.iter().all(|byte| byte.is_ascii_digit())
 }
 
-/// A decimal number from `least` to `most`.
+/// Parses a decimal number from `least` to `most`.
 #[tactic(auto, unfolding(crate::specs::Values::number_in))]
 pub fn number_in(word: &[u8], least: u64, most: u64) -> Result<u64, ScriptCause>
     ensures value { result ≡ number_within least most word.now }
@@ -48,7 +48,7 @@ pub fn number_in(word: &[u8], least: u64, most: u64) -> Result<u64, ScriptCause>
     }
 }
 
-/// An endpoint identifier.
+/// Parses an endpoint identifier.
 pub fn eid(word: &[u8]) -> Result<u8, ScriptCause>
     ensures { result ≡ eid_of word.now }
 {
@@ -58,7 +58,7 @@ pub fn eid(word: &[u8]) -> Result<u8, ScriptCause>
     }
 }
 
-/// A number of one byte.
+/// Parses a number of one byte.
 pub fn number_u8(word: &[u8]) -> Result<u8, ScriptCause>
     ensures { result ≡ number_within 0 255 word.now }
 {
@@ -68,7 +68,7 @@ pub fn number_u8(word: &[u8]) -> Result<u8, ScriptCause>
     }
 }
 
-/// A number of two bytes.
+/// Parses a number of two bytes.
 pub fn number_u16(word: &[u8]) -> Result<u16, ScriptCause>
     ensures { result ≡ number_within 0 65535 word.now }
 {
@@ -78,7 +78,7 @@ pub fn number_u16(word: &[u8]) -> Result<u16, ScriptCause>
     }
 }
 
-/// A number of four bytes.
+/// Parses a number of four bytes.
 pub fn number_u32(word: &[u8]) -> Result<u32, ScriptCause>
     ensures { result ≡ number_within 0 4294967295 word.now }
 {
@@ -88,7 +88,7 @@ pub fn number_u32(word: &[u8]) -> Result<u32, ScriptCause>
     }
 }
 
-/// A UUID.
+/// Parses a UUID.
 #[tactic(auto, unfolding(crate::specs::Values::uuid_of))]
 pub fn uuid(word: &[u8]) -> Result<Uuid, ScriptCause>
     ensures { result ≡ uuid_of word.now }
@@ -99,14 +99,14 @@ pub fn uuid(word: &[u8]) -> Result<Uuid, ScriptCause>
     }
 }
 
-/// Whether a field stands for nothing.
+/// Whether a field is a dash, which is an empty value.
 pub(crate) fn is_dash(word: &[u8]) -> bool
     ensures { result ≡ stands_for_nothing word.now }
 {
     word == b"-".as_slice()
 }
 
-/// A text's bytes.
+/// Returns the bytes of a text field.
 #[tactic(auto, unfolding(crate::specs::Values::text_of))]
 pub fn text(word: &[u8]) -> &[u8]
     ensures { result.now ≡ text_of word.now }
@@ -114,7 +114,7 @@ pub fn text(word: &[u8]) -> &[u8]
     if is_dash(word) { &[] } else { word }
 }
 
-/// Bytes.
+/// Parses bytes in hexadecimal digits.
 #[tactic(auto, unfolding(crate::specs::Values::bytes_of))]
 pub fn bytes(alloc: Global, word: &[u8]) -> Result<Vec<u8>, ScriptCause>
     ensures { AnswersUnlessMemory (λ v. v.items) result (bytes_of word.now) }
@@ -129,7 +129,7 @@ pub fn bytes(alloc: Global, word: &[u8]) -> Result<Vec<u8>, ScriptCause>
     }
 }
 
-/// A descriptor's type.
+/// Parses a descriptor's type.
 #[tactic(auto, unfolding(crate::specs::Values::kind_of))]
 pub fn kind(word: &[u8]) -> Result<u16, ScriptCause>
     ensures { result ≡ kind_of word.now }
@@ -141,7 +141,7 @@ pub fn kind(word: &[u8]) -> Result<u16, ScriptCause>
     }
 }
 
-/// A value, and bytes behind it.
+/// A value, then bytes.
 pub fn with_bytes<T: Drop>(
     alloc: Global,
     value: Result<T, ScriptCause>,

@@ -4,13 +4,13 @@ use Rattle.std.proofs.lemmas.List.{take_more}
 use Rattle.std.specs.Prelude.{slice_index}
 use Rattle.hex.specs.Hex.{encode_with, encode_upper, upper_digits}
 
--- what is encoded of two lists is encoded one after the other
+-- encoding two lists one after the other encodes the joined list
 encode_with-append : (t xs ys : List ℕ) → encode_with t (xs ++ ys) ≡ encode_with t xs ++ encode_with t ys
 unfolding encode_with
 encode_with-append t [] ys = refl
 encode_with-append t (x ∷ xs) ys = rw (encode_with-append t xs ys) refl
 
--- a byte more of a list
+-- one more byte of a list
 pub encode_upper-more : (xs : List ℕ) (i : ℕ) → i < length xs → encode_upper (take (i + 1) xs) ≡ encode_upper (take i xs) ++ encode_upper (get_or xs i 0 ∷ [])
 encode_upper-more xs i below = rw (take_more xs i 0 below) (encode_with-append upper_digits (take i xs) (get_or xs i 0 ∷ []))
 

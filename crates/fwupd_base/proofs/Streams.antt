@@ -1,4 +1,4 @@
--- Lemmas on lines, and on what is answered of a text so far.
+-- Lemmas on lines, and on the answered part of a text.
 use Rattle.std.proofs.Common.{IsOk, is_ok, if◌then◌else◌, ◌-◌, min, get_or, OnErr, IfErr, zero, suc, ◌≡◌, ◌≢◌, ◌<◌, ◌≤◌, ◌+◌, ◌∙◌, ℕ, List, [], ◌∷◌, ◌++◌, length, refl, sym, ap, subst, take, drop, append_assoc, append-nil, length-append, arith, OnOk, Result, Ok, Err, Option, Some, None}
 use Rattle.std.proofs.lemmas.Bool.{eqb-true, ne_eqb}
 use Rattle.std.proofs.lemmas.List.{take_more, drop_more, take_all, take-append-drop, length-drop, length-take-le}
@@ -17,7 +17,7 @@ IsOneLine-append : (xs ys : List ℕ) → IsOneLine xs → IsOneLine ys → IsOn
 IsOneLine-append [] ys h n = n
 IsOneLine-append (x ∷ xs) ys h n = (h.0, IsOneLine-append xs ys h.1 n)
 
--- before the first line feed there is none
+-- there is no line feed before the first line feed
 pub IsOneLine-before : (xs : List ℕ) (n : ℕ) → Nowhere (Passes (is_byte 10) xs) 0 n → IsOneLine (take n xs)
 IsOneLine-before xs zero none = tt
 IsOneLine-before [] (suc n) none = tt
@@ -41,12 +41,12 @@ lines_of-ended : (ls : List (List ℕ)) (t : List ℕ) → AreLines ls → lines
 lines_of-ended [] t h = refl
 lines_of-ended (l ∷ ls) t h = rw (append_assoc (l ++ 10 ∷ []) (lines_with_ends ls) t, lines_of-line l (lines_with_ends ls ++ t) h.0, lines_of-ended ls t h.1)
 
--- what follows the last line feed is a line
+-- the bytes after the last line feed are a line
 lines_of-part : (b : ℕ) (l : List ℕ) → IsOneLine (b ∷ l) → lines_of (b ∷ l) ≡ (b ∷ l) ∷ []
 lines_of-part b [] h = rw (ne_eqb b 10 h.0)
 lines_of-part b (x ∷ l) h = rw (ne_eqb b 10 h.0, lines_of-part x l h.1)
 
--- one more line is printed after the others, and finds the identifier that they left
+-- one more line is printed after the others, with the identifier after them
 lines_text-push : (e : Endpoint) (tid : ℕ) (ls : List (List ℕ)) (l : List ℕ) → lines_text e tid (ls ++ l ∷ []) ≡ lines_text e tid ls ++ text_for_line e (tid_along e tid ls) l
 lines_text-push e tid [] l = append-nil (text_for_line e tid l)
 lines_text-push e tid (x ∷ ls) l =
@@ -57,7 +57,7 @@ tid_along-push : (e : Endpoint) (tid : ℕ) (ls : List (List ℕ)) (l : List ℕ
 tid_along-push e tid [] l = refl
 tid_along-push e tid (x ∷ ls) l = tid_along-push e (tid_after_line e tid x) ls l
 
--- what is printed for whole lines, and for a part that follows them
+-- the output for whole lines, and for a part after them
 answers_of-ended : (e : Endpoint) (ls : List (List ℕ)) → AreLines ls → answers_of e (lines_with_ends ls ++ []) ≡ lines_text e 0 ls
 answers_of-ended e ls h = ap (lines_text e 0) (lines_of-ended ls [] h ∙ append-nil ls)
 
@@ -125,11 +125,11 @@ slice_rest i xs = take_all (length xs - i) (drop i xs) (rw (length-drop i xs) (o
 pub within_more : (i n : ℕ) (xs : List ℕ) → i ≤ length xs → n ≤ length (take (length xs - i) (drop i xs)) → i + n ≤ length xs
 within_more i n xs le more = let here : n ≤ length xs - i = rw (slice_rest i xs, length-drop i xs) at more in omega (arith, here)
 
--- so much more of a piece is written
+-- one more piece is written
 pub appends_more : (a b c : Option (List ℕ)) (xs : List ℕ) (i n : ℕ) → Appends a b (take i xs) → Appends b c (take n (drop i xs)) → Appends a c (take (i + n) xs)
 appends_more a b c xs i n first second = subst (Appends a c) (sym (take-add i n xs)) (Appends-trans a b c (take i xs) (take n (drop i xs)) first second)
 
--- the first line feed of a list, where there is one
+-- the first line feed of a list, if there is one
 line_feed : (xs : List ℕ) (n : ℕ) → Passes (is_byte 10) xs n → get_or xs n 0 ≡ 10
 line_feed xs n found = eqb-true (get_or xs n 0) 10 found
 
@@ -142,15 +142,15 @@ line_taken text piece i n below found =
     ∙ sym (append_assoc text (take i piece) (take n rest ++ 10 ∷ []))
     ∙ sym (append_assoc (text ++ take i piece) (take n rest) (10 ∷ []))
 
--- so many of a list's rest
+-- a part of a list's rest
 pub span : (i n : ℕ) (xs : List ℕ) → take (i + n - i) (drop i xs) ≡ take n (drop i xs)
 span i n xs = ap (λ k. take k (drop i xs)) (omega arith)
 
--- the byte behind the first line feed of a list's rest is one of the list's
+-- the byte after the first line feed of a list's rest is at most the list's end
 pub found_within : (i n : ℕ) (xs : List ℕ) → i ≤ length xs → IsFirstByte (is_byte 10) (drop i xs) (Some n) → i + (n + 1) ≤ length xs
 found_within i n xs within found = let below : n < length xs - i = rw (length-drop i xs) at found.0.high in omega (arith, below)
 
--- a piece ends a line at its first line feed from a place on
+-- a piece ends a line at its first line feed after a place
 pub piece_line : (e : Endpoint) (tid : ℕ) (text piece : List ℕ) (i n : ℕ) (a w u : Option (List ℕ)) (part : List ℕ) → HasAnsweredLines e tid (text ++ take i piece) a w part
     → IsFirstByte (is_byte 10) (drop i piece) (Some n)
     → Appends w u (text_for_line e tid (part ++ take n (drop i piece))) → HasAnsweredLines e (tid_after_line e tid (part ++ take n (drop i piece))) (text ++ take (i + (n + 1)) piece) a u []
@@ -173,7 +173,7 @@ piece_broken e tid text piece i n a w u part h found began =
     subst (λ t. BreaksOffAnswer e t a u) whole
     (broken_line e tid ((text ++ take i piece) ++ more) (drop n rest) a w u (part ++ more) line began (subst IsAtLineEnd (sym (drop_more rest n 0 found.0.high)) (line_feed rest n found.1)))
 
--- what follows the last line feed of a piece
+-- the bytes after the last line feed of a piece
 pub piece_part : (e : Endpoint) (tid : ℕ) (text piece : List ℕ) (i : ℕ) (a w : Option (List ℕ)) (part : List ℕ) → HasAnsweredLines e tid (text ++ take i piece) a w part
     → IsFirstByte (is_byte 10) (drop i piece) None → HasAnsweredLines e tid (text ++ piece) a w (part ++ drop i piece)
 piece_part e tid text piece i a w part h none =
@@ -181,12 +181,12 @@ piece_part e tid text piece i a w part h none =
     subst (λ t. HasAnsweredLines e tid t a w (part ++ drop i piece)) (append_assoc text (take i piece) (drop i piece) ∙ ap (λ t. text ++ t) (take-append-drop i piece))
     (stands_part e tid (text ++ take i piece) a w part (drop i piece) h one)
 
--- nothing follows the last line feed
+-- there are no bytes after the last line feed
 pub finish_empty : (e : Endpoint) (tid : ℕ) (text : List ℕ) (a w : Option (List ℕ)) (part : List ℕ) → HasAnsweredLines e tid text a w part → length part ≡ 0 → Appends a w (answers_of e text)
 finish_empty e tid text a w [] h none = subst (λ t. Appends a w (answers_of e t)) (sym h.is) (subst (Appends a w) (sym (answers_of-ended e h.lines h.each)) h.written)
 finish_empty e tid text a w (x ∷ part) h none = absurd (omega arith)
 
--- what follows it is answered
+-- the bytes after it are answered
 pub finish_line : {T : Type 0} (r : Result T AnswerFault) (e : Endpoint) (tid : ℕ) (text : List ℕ) (a w u v : Option (List ℕ)) (part : List ℕ) → HasAnsweredLines e tid text a w part → length part ≢ 0 → Appends w u (text_for_line e tid part) → Keeps u v
     → OnOk r (Appends a v (answers_of e text))
 finish_line (Err f) e tid text a w u v part h some wrote kept = tt
@@ -196,7 +196,7 @@ finish_line (Ok f) e tid text a w u v (x ∷ part) h some wrote kept =
     (subst (Appends a u) (sym (answers_of-part e h.lines (x ∷ part) h.each h.one (omega arith)))
     (Appends-trans a w u (lines_text e 0 h.lines) (text_for_line e (tid_along e 0 h.lines) (x ∷ part)) h.written (subst (λ t. Appends w u (text_for_line e t (x ∷ part))) h.terminus wrote)))) kept
 
--- it is written and not flushed
+-- they are written and not flushed
 pub finish_unflushed : {T : Type 0} (r : Result T AnswerFault) (e : Endpoint) (tid : ℕ) (text : List ℕ) (a w u v : Option (List ℕ)) (part : List ℕ) → HasAnsweredLines e tid text a w part → Appends w u (text_for_line e tid part) → Keeps u v → OnErr r (BreaksOffAnswer e text a v)
 finish_unflushed (Ok f) e tid text a w u v part h wrote kept = tt
 finish_unflushed (Err f) e tid text a w u v part h wrote kept =
@@ -260,7 +260,7 @@ stopped_past e tid count a b w v part r = record {
   written = r.stands.written;
 }
 
--- a reader at its end gave all that was read
+-- a reader at its end gave all bytes that were read
 pub finished : {T : Type 0} (e : Endpoint) (tid count : ℕ) (a b c w v u : Option (List ℕ)) (part : List ℕ) (f : Result T AnswerFault) (r : ReadsPart e tid count a b w v part) → count ≤ 16777216 → Consumes b c [] → IsAtEnd c
     → OnOk f (Appends w u (answers_of e r.text)) → OnOk f (AnswerOk e a c w u)
 finished e tid count a b c w v u part (Err x) r within read end h = tt
@@ -278,7 +278,7 @@ finish_broken e tid count a b c w v u part (Ok x) r within read h = tt
 finish_broken e tid count a b c w v u part (Err x) r within read h =
     λ _. record { text = r.text; past = []; within = r.within; most = omega arith; read = read_text e tid count a b c w v part [] r within read; off = h }
 
--- so much was read of which so much is within the limit
+-- `n` bytes were read, of which `m` are within the limit
 read_on : (e : Endpoint) (tid count : ℕ) (a b c w v : Option (List ℕ)) (part got : List ℕ) (n m : ℕ) (r : ReadsPart e tid count a b w v part) → count ≤ 16777216 → Consumes b c (take n got) → m ≤ n
     → Consumes a c ((r.text ++ take m got) ++ drop m (take n got))
 read_on e tid count a b c w v part got n m r within read le =
@@ -293,7 +293,7 @@ nonempty : (xs : List ℕ) → xs ≢ [] → 1 ≤ length xs
 nonempty [] some = absurd (some refl)
 nonempty (x ∷ xs) some = omega arith
 
--- a turn ends: so much more was read and is answered
+-- a turn ends: `n` more bytes were read and are answered
 pub reads_more : (e : Endpoint) (tid next count : ℕ) (a b c w v u : Option (List ℕ)) (part after got : List ℕ) (n m : ℕ) (r : ReadsPart e tid count a b w v part) → count ≤ 16777216 → Consumes b c (take n got)
     → n + count ≤ 16777217 → m ≡ min n (16777216 - count) → n ≤ length got → HasAnsweredLines e next (r.text ++ take m got) w u after → ReadsPart e next (count + n) a c w u after
 reads_more e tid next count a b c w v u part after got n m r within read most is room stands =
@@ -328,7 +328,7 @@ turn_broken e tid count a b c w v u part got n m r within read most is room off 
       off = off;
     }
 
--- what is appended where there is room
+-- the appended bytes, if there is room
 pub joined : {T E : Type 0} (r : Result T E) (old new more : List ℕ) → IsOk r → new ≡ (if is_ok r then old ++ more else old) → new ≡ old ++ more
 joined (Ok x) old new more ok is = is
 joined (Err e) old new more ok is = absurd (cc)

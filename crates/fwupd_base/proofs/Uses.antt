@@ -1,4 +1,4 @@
--- The uses of a record, as they are printed.
+-- The uses of a record, as printed.
 use Rattle.std.proofs.Common.{◌≡◌, ◌≢◌, ℕ, List, [], ◌∷◌, length, codes, refl, arith}
 use Rattle.std.specs.List.{flat_map}
 use Rattle.fwupd_base.specs.Inspection.{use_text, uses_text}

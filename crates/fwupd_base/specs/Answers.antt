@@ -1,4 +1,4 @@
--- What an endpoint without a device prints for each line that it reads.
+-- The output of an endpoint without a device for each input line.
 use Rattle.std.specs.Prelude.{ℕ, ◌==◌, ◌&&◌, not, true, false, if◌then◌else◌, List, [], ◌∷◌, ◌++◌, Option, Some, None, Result, Ok, Err, codes}
 use Rattle.hex.specs.Hex.{decode_of, encode_upper}
 use Rattle.hex.specs.declared.error.FromHexError.{FromHexError}
@@ -19,7 +19,7 @@ use Rattle.fwupd_base.specs.declared.drops.LineDropCause.{LineDropCause}
 use Rattle.fwupd_base.specs.declared.drops.LineDropCause.TheVariants as drops
 use Rattle.fwupd_base.specs.Lines.{lines_of}
 
--- the word that names a cause
+-- the name of a cause
 abbrev pub name_of : LineDropCause → List ℕ
 name_of drops.Hex = codes "Hex"
 name_of (drops.Wire faults.Short) = codes "Short"
@@ -33,7 +33,8 @@ name_of drops.NotRequest = codes "NotRequest"
 name_of drops.Kind = codes "Type"
 name_of drops.Message = codes "Message"
 
--- What comes of a line: the packet that answers it, or why there is none, and the terminus identifier afterwards.
+-- The outcome of a line: the packet that answers it, or why there is none, and the terminus
+-- identifier afterwards.
 pub record LineOutcome : Type 0 where
   pub reply : Result (List ℕ) LineDropCause
   pub tid : ℕ
@@ -41,7 +42,7 @@ pub record LineOutcome : Type 0 where
 abbrev pub dropped_line : ℕ → LineDropCause → LineOutcome
 dropped_line tid cause = record { reply = Err cause; tid = tid }
 
--- the head of an answer: the ends change places, and the sender doesn't own the tag
+-- the head of an answer: source and destination are exchanged, and TO is clear
 abbrev pub answer_head : Endpoint → Head → Head
 answer_head e h =
     record { dest = h.source; source = e.eid; som = true; eom = true; seq = 0; to = false; tag = h.tag }
@@ -50,20 +51,20 @@ answer_head e h =
 abbrev pub answered_line : Endpoint → Head → ℕ → List ℕ → LineOutcome
 answered_line e h tid message = record { reply = Ok (packet_bytes (answer_head e h) message); tid = tid }
 
--- a control message gets what its table says
+-- a control message gets the answer of its table
 abbrev pub control_reply : Endpoint → Head → ℕ → Option (List ℕ) → LineOutcome
 control_reply e h tid None = dropped_line tid drops.Message
 control_reply e h tid (Some message) = answered_line e h tid message
 
--- The code and fields that answer a PLDM request: base commands by their table. Firmware updates wait for a device,
--- which isn't there, and there is no other type.
+-- The completion code and fields that answer a PLDM request. Base commands have their table.
+-- Firmware update needs a device, which there isn't, and no other type is supported.
 abbrev pub completion_of : ℕ → PldmHead → List ℕ → List ℕ
 completion_of tid m fields =
     if m.pldm_type == 0 then base_reply Device tid m.command fields
     else if m.pldm_type == 5 then not_ready ∷ []
     else invalid_pldm_type ∷ []
 
--- the identifier that a PLDM request leaves: only a base command can set it
+-- the terminus identifier after a PLDM request: only a base command can set it
 abbrev pub tid_after_pldm : ℕ → PldmHead → List ℕ → ℕ
 tid_after_pldm tid m fields = if m.pldm_type == 0 then tid_after tid m.command fields else tid
 
@@ -71,7 +72,7 @@ tid_after_pldm tid m fields = if m.pldm_type == 0 then tid_after tid m.command f
 abbrev pub pldm_answer_head : PldmHead → PldmHead
 pldm_answer_head m = record m { rq = false }
 
--- a PLDM message is answered where it is a request
+-- a PLDM message is answered if it is a request
 abbrev pub pldm_reply : Endpoint → Head → ℕ → Result (PldmHead × List ℕ) PldmFault → LineOutcome
 pldm_reply e h tid (Err fault) = dropped_line tid drops.Message
 pldm_reply e h tid (Ok (m, fields)) =
@@ -86,7 +87,7 @@ body_reply e h tid (kind ∷ rest) =
     else if kind == 1 then pldm_reply e h tid (pldm_of (kind ∷ rest))
     else dropped_line tid drops.Kind
 
--- the answer to a packet: it is the endpoint's, a whole message and a request
+-- the answer to a packet, if it is to this endpoint, a whole message, and a request
 abbrev pub packet_reply : Endpoint → ℕ → Head → List ℕ → LineOutcome
 packet_reply e tid h body =
     if not (h.dest == e.eid) then dropped_line tid drops.Destination
@@ -103,11 +104,11 @@ abbrev pub hex_reply : Endpoint → ℕ → Result (List ℕ) FromHexError → L
 hex_reply e tid (Err _) = dropped_line tid drops.Hex
 hex_reply e tid (Ok bytes) = wire_reply e tid (packet_of U64 bytes)
 
--- what comes of a line of hexadecimal digits
+-- the outcome of a line of hexadecimal digits
 abbrev pub outcome_of : Endpoint → ℕ → List ℕ → LineOutcome
 outcome_of e tid line = hex_reply e tid (decode_of line)
 
--- what is printed for a reply: the packet in digits, or the cause why there is none
+-- the output of a reply: the packet in digits, or the cause why there is none
 abbrev pub reply_text : Result (List ℕ) LineDropCause → List ℕ
 reply_text (Err cause) = codes "drop " ++ name_of cause
 reply_text (Ok packet) = encode_upper packet
@@ -116,26 +117,26 @@ reply_text (Ok packet) = encode_upper packet
 abbrev pub line_text_of : Result (List ℕ) LineDropCause → List ℕ
 line_text_of reply = reply_text reply ++ 10 ∷ []
 
--- what is printed for a line
+-- the output for a line
 unfoldable pub text_for_line : Endpoint → ℕ → List ℕ → List ℕ
 text_for_line e tid line = line_text_of (outcome_of e tid line).reply
 
--- the terminus identifier that a line leaves
+-- the terminus identifier after a line
 unfoldable pub tid_after_line : Endpoint → ℕ → List ℕ → ℕ
 tid_after_line e tid line = (outcome_of e tid line).tid
 
--- what is printed for lines, in their order: each finds the identifier that the line before it left
+-- the output for lines, in order; each line gets the identifier after the line before it
 abbrev pub lines_text : Endpoint → ℕ → List (List ℕ) → List ℕ
 lines_text e tid [] = []
 lines_text e tid (line ∷ lines) =
     text_for_line e tid line ++ lines_text e (tid_after_line e tid line) lines
 
--- the identifier that lines leave
+-- the terminus identifier after all lines
 abbrev pub tid_along : Endpoint → ℕ → List (List ℕ) → ℕ
 tid_along e tid [] = tid
 tid_along e tid (line ∷ lines) = tid_along e (tid_after_line e tid line) lines
 
--- what is printed for a text, by an endpoint whose terminus identifier isn't set
+-- the output for a text, of an endpoint whose terminus identifier isn't set
 abbrev pub answers_of : Endpoint → List ℕ → List ℕ
 answers_of e text = lines_text e 0 (lines_of text)
 

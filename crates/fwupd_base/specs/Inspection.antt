@@ -1,4 +1,5 @@
--- What `fwupd inspect` prints of a package: a line for the package, its records with their descriptors, its components.
+-- The output of `fwupd inspect`: a line for the package, for each record and its descriptors, and
+-- for each component.
 use Rattle.std.specs.Prelude.{ℕ, ◌+◌, List, [], ◌∷◌, ◌++◌, codes, length}
 use Rattle.std.specs.List.{flat_map}
 use Rattle.fw_package.specs.Components.{PlaceOf}
@@ -27,31 +28,31 @@ record_line n r =
     word_and_number (codes "record ") n ++ in_eight (codes " flags ") r.flags ++ word_and_quoted (codes " set ") r.set_text.bytes
     ++ codes " uses" ++ uses_text r.uses ++ codes "\n"
 
--- a record's line, and those of its descriptors
+-- a record's line, and the lines of its descriptors
 unfoldable pub record_text : ℕ → RecordOf → List ℕ
 record_text n r = record_line n r ++ flat_map descriptor_line r.descriptors
 
--- records from number n on
+-- records numbered from n
 abbrev pub records_text : ℕ → List RecordOf → List ℕ
 records_text n [] = []
 records_text n (r ∷ rs) = record_text n r ++ records_text (n + 1) rs
 
--- a component's line, which names its image by length and place
+-- a component's line, with its image's length and position
 unfoldable pub component_line : ℕ → PlaceOf → List ℕ
 component_line n c =
     word_and_number (codes "component ") n ++ word_and_number (codes " class ") c.classification ++ word_and_number (codes " ident ") c.identifier
     ++ in_eight (codes " stamp ") c.stamp ++ in_four (codes " options ") c.options ++ word_and_number (codes " offset ") c.offset
     ++ word_and_number (codes " size ") c.size ++ word_and_quoted (codes " version ") c.text.bytes ++ codes "\n"
 
--- components from number n on
+-- components numbered from n
 abbrev pub components_text : ℕ → List PlaceOf → List ℕ
 components_text n [] = []
 components_text n (c ∷ cs) = component_line n c ++ components_text (n + 1) cs
 
--- what is printed of a package without its images
+-- the output for a package without its images
 abbrev pub outline_text : OutlineOf → List ℕ
 outline_text o = package_line o ++ records_text 1 o.records ++ components_text 1 o.places
 
--- what is printed of a package
+-- the output for a package
 abbrev pub inspect_of : PackageText → List ℕ
 inspect_of p = outline_text (outline_of_package p)

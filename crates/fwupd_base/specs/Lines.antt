@@ -1,4 +1,5 @@
--- A text as lines, each ended by a line feed. What follows the last line feed is a line too, unless it is empty.
+-- Splits a text into lines, each ended by a line feed. The bytes after the last line feed are a
+-- line too, unless they are empty.
 use Rattle.std.specs.Prelude.{ℕ, ◌≢◌, List, [], ◌∷◌, ◌++◌, ◌==◌, if◌then◌else◌}
 
 -- a byte in front of the first line
@@ -16,12 +17,12 @@ abbrev pub IsOneLine : List ℕ → Type 0
 IsOneLine [] = Unit {0}
 IsOneLine (b ∷ bytes) = (b ≢ 10) × IsOneLine bytes
 
--- each of these is one line
+-- each item is one line
 abbrev pub AreLines : List (List ℕ) → Type 0
 AreLines [] = Unit {0}
 AreLines (line ∷ lines) = IsOneLine line × AreLines lines
 
--- these lines, each with its line feed
+-- the lines, each with its line feed
 abbrev pub lines_with_ends : List (List ℕ) → List ℕ
 lines_with_ends [] = []
 lines_with_ends (line ∷ lines) = (line ++ 10 ∷ []) ++ lines_with_ends lines

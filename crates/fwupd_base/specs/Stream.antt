@@ -1,4 +1,4 @@
--- What an answering program does with a text that it reads piece by piece.
+-- The behavior of `fwupd answer` on a text that it reads in pieces.
 use Rattle.std.specs.Prelude.{ℕ, ◌≡◌, ◌≢◌, ◌≤◌, ◌<◌, ◌+◌, ◌*◌, ◌⊎◌, List, [], ◌∷◌, ◌++◌, length, take, Option}
 use Rattle.std.specs.Io.KnownBytes.{Appends, Consumes, IsAtEnd}
 use Rattle.mctp_ctl.specs.declared.answers.Endpoint.{Endpoint}
@@ -7,7 +7,7 @@ use Rattle.fwupd_base.specs.Lines.{lines_with_ends, AreLines, IsOneLine}
 use Rattle.fwupd_base.specs.declared.stream.AnswerFault.{AnswerFault}
 use Rattle.fwupd_base.specs.declared.stream.AnswerFault.TheVariants.{Read}
 
--- Of a text each of these lines is answered, and this part of the next line follows them.
+-- The whole lines of a text are answered, and `part` is the beginning of the next line.
 pub record HasAnsweredLines (e : Endpoint) (tid : ℕ) (text : List ℕ) (before now : Option (List ℕ)) (part : List ℕ) : Type 0 where
   pub lines : List (List ℕ)
   pub each : AreLines lines
@@ -16,7 +16,8 @@ pub record HasAnsweredLines (e : Endpoint) (tid : ℕ) (text : List ℕ) (before
   pub written : Appends before now (lines_text e 0 lines)
   pub terminus : tid ≡ tid_along e 0 lines
 
--- The reader gave this text and is at its end, and the answers to it are written. A reader whose bytes aren't known gave some text.
+-- The reader is at its end, and the answers to its text are written. If a reader's bytes aren't
+-- known, it gave some text.
 pub record AnswerOk (e : Endpoint) (read_before read_now written_before written_now : Option (List ℕ)) : Type 0 where
   pub text : List ℕ
   pub most : length text ≤ 16777216
@@ -24,8 +25,9 @@ pub record AnswerOk (e : Endpoint) (read_before read_now written_before written_
   pub end : IsAtEnd read_now
   pub written : Appends written_before written_now (answers_of e text)
 
--- A run stopped for this fault, which isn't the writer's. Of what it read each of these lines is answered, and all else is
--- less than one line: a part without a line feed, and the byte past the limit where that one stopped the run.
+-- A run stopped for this fault, which isn't the writer's. The whole lines of the text that it read
+-- are answered. The rest is less than a line: a part without a line feed, and the byte past the
+-- limit if that stopped the run.
 pub record AnswerErr (e : Endpoint) (fault : AnswerFault) (read_before read_now written_before written_now : Option (List ℕ)) : Type 0 where
   pub lines : List (List ℕ)
   pub each : AreLines lines
@@ -37,7 +39,7 @@ pub record AnswerErr (e : Endpoint) (fault : AnswerFault) (read_before read_now 
   pub read : Consumes read_before read_now ((lines_with_ends lines ++ part) ++ past)
   pub written : Appends written_before written_now (lines_text e 0 lines)
 
--- a beginning of this piece was written
+-- a beginning of the piece was written
 pub record WritesBeginning (before now : Option (List ℕ)) (piece : List ℕ) : Type 0 where
   pub count : ℕ
   pub written : Appends before now (take count piece)
@@ -47,7 +49,8 @@ abbrev pub IsAtLineEnd : List ℕ → Type 0
 IsAtLineEnd [] = Unit {0}
 IsAtLineEnd (b ∷ _) = b ≡ 10
 
--- A write failed. Of a text each of these lines is answered, and a beginning of the answer to the next one is written.
+-- A write failed. The lines of a text up to some line are answered, and a beginning of the next
+-- answer is written.
 pub record BreaksOffAnswer (e : Endpoint) (text : List ℕ) (before now : Option (List ℕ)) : Type 0 where
   pub lines : List (List ℕ)
   pub each : AreLines lines
@@ -59,7 +62,7 @@ pub record BreaksOffAnswer (e : Endpoint) (text : List ℕ) (before now : Option
   pub count : ℕ
   pub written : Appends before now (lines_text e 0 lines ++ take count (text_for_line e (tid_along e 0 lines) line))
 
--- A write failed, and this is so of the text that was read, but for the byte past the limit.
+-- A write failed, and this holds for the text that was read, without the byte past the limit.
 pub record AnswerWriteErr (e : Endpoint) (read_before read_now written_before written_now : Option (List ℕ)) : Type 0 where
   pub text : List ℕ
   pub past : List ℕ
@@ -68,7 +71,8 @@ pub record AnswerWriteErr (e : Endpoint) (read_before read_now written_before wr
   pub read : Consumes read_before read_now (text ++ past)
   pub off : BreaksOffAnswer e text written_before written_now
 
--- So many bytes were read. Of all but the one past the limit each whole line is answered, and this part follows them.
+-- `count` bytes were read. Each whole line of them, without the byte past the limit, is answered,
+-- and `part` follows the lines.
 pub record ReadsPart (e : Endpoint) (tid count : ℕ) (read_before read_now written_before written_now : Option (List ℕ)) (part : List ℕ) : Type 0 where
   pub text : List ℕ
   pub past : List ℕ
@@ -78,6 +82,7 @@ pub record ReadsPart (e : Endpoint) (tid count : ℕ) (read_before read_now writ
   pub read : Consumes read_before read_now (text ++ past)
   pub stands : HasAnsweredLines e tid text written_before written_now part
 
--- There was no room for so many bytes more than the digits that are held, or none for the bytes that they spell together.
+-- There was no room for `most` more digits than are held, or none for the bytes that they encode
+-- together.
 abbrev pub LacksDigitRoom : (digits most room spelled : ℕ) → Type 0
 LacksDigitRoom digits most room spelled = (room < digits + most) ⊎ (2 * spelled < digits + most + 2)

@@ -1,10 +1,10 @@
-//! The form in which something is written.
+//! The format of output.
 
-/// The form in which something is written.
+/// The format of output.
 #[derive(Clone, Copy, PartialEq, Eq)]
 pub enum Form {
-    /// Lines of text, for a reader.
+    /// Lines of text, for readers.
     Text,
-    /// One line of JSON, for a program.
+    /// One line of JSON, for programs.
     Json,
 }

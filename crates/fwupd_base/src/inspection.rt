@@ -1,4 +1,4 @@
-//! The text of `fwupd inspect`.
+//! The output of `fwupd inspect`.
 
 ghost use Rattle.std.specs.Prelude.{◌≡◌, ◌≢◌, ◌++◌, ◌+◌, IfErr, IfOk, IsOk, List, OnOk, length, ℕ};
 ghost use Rattle.std.specs.List.{flat_map};
@@ -121,7 +121,7 @@ fn push_descriptors(
     Ok(())
 }
 
-/// Appends a record's line and those of its descriptors.
+/// Appends a record's line and the lines of its descriptors.
 fn push_record(
     alloc: Global,
     text: &mut Vec<u8>,
@@ -171,10 +171,10 @@ fn push_components(
     Ok(())
 }
 
-/// What `fwupd inspect` prints of a package.
+/// The output of `fwupd inspect` for a package.
 ///
 /// # Errors
-/// Memory was refused.
+/// `AllocError` if memory is refused.
 fn inspection(alloc: Global, contents: &Outline<'_>) -> Result<Vec<u8>, AllocError>
     ensures { IfOk result (λ text. text.items ≡ outline_text contents.now) }
 {
@@ -185,26 +185,29 @@ fn inspection(alloc: Global, contents: &Outline<'_>) -> Result<Vec<u8>, AllocErr
     Ok(text)
 }
 
-/// Why a package isn't inspected.
+/// Why a package can't be inspected.
 #[derive(Clone, Copy, PartialEq, Eq)]
 pub enum InspectFault {
-    /// The bytes are no package.
+    /// The bytes aren't a package.
     Package(PackageFault),
     /// Memory was refused.
     Memory,
 }
 
-/// The bytes of a whole file that `inspect_beginning` takes: the first 65,535, or all where there are no more.
+/// Returns the part of a file that `inspect_beginning` takes: the first 65,535 bytes, or all if
+/// there are fewer.
 pub fn beginning_of(bytes: &[u8]) -> &[u8]
     ensures { IsBeginning bytes.now result.now (length bytes.now) }
 {
     &bytes[..BEGINNING_SIZE.min(bytes.len())]
 }
 
-/// Inspects a firmware package: what its records name, and its components, a line each.
+/// Returns the lines of a firmware package: the package, its records with their descriptors, and
+/// its components.
 ///
 /// # Errors
-/// Bytes that are no package are refused by the first fault that holds; `Memory` only where memory was refused.
+/// `Package`, with the first fault, if the bytes aren't a package; `Memory` only if memory is
+/// refused.
 pub fn inspect(alloc: Global, bytes: &[u8]) -> Result<Vec<u8>, InspectFault>
     ensures text { IfOk result (λ text. result_map_both inspect_of (λ e. e) (package_of bytes.now) ≡ Ok text.items) }
     ensures fault { IfErr result (λ e. e ≢ InspectFault.Memory → result_map_both (λ p. p) InspectFault.Package (package_of bytes.now) ≡ Err e) }
@@ -213,11 +216,12 @@ pub fn inspect(alloc: Global, bytes: &[u8]) -> Result<Vec<u8>, InspectFault>
     inspect_beginning(alloc, beginning_of(bytes), bytes.len())
 }
 
-/// Inspects the firmware package whose file has this length and begins with these bytes, which are its first 65,535, or all
-/// where it has no more.
+/// Returns the lines of the firmware package in a file of `file_length` bytes. `beginning` is the
+/// first 65,535 of them, or all if there are fewer.
 ///
 /// # Errors
-/// A file that is no package is refused by the first fault that holds; `Memory` only where memory was refused.
+/// `Package`, with the first fault, if the file isn't a package; `Memory` only if memory is
+/// refused.
 pub fn inspect_beginning(
     alloc: Global,
     beginning: &[u8],

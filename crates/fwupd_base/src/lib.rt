@@ -1,4 +1,4 @@
-//! What stands on no world: the answers to packets, line by line, and the text of a package.
+//! The jobs without a world: answering packets line by line, and the text of a package.
 #![tactic(auto)]
 
 mod drops;

@@ -1,4 +1,4 @@
-//! An endpoint without a device behind it: what it answers to a packet.
+//! An endpoint without a device: the answers to packets.
 
 ghost use Rattle.std.specs.Prelude.{◌≡◌, ◌+◌, ◌<◌, ◌≤◌, [], ◌∷◌, length};
 ghost use Rattle.std.specs.Result.{result_map_both};
@@ -16,23 +16,23 @@ use pldm_base::{
     answer_base, code_alone, completion,
 };
 
-/// The transmission unit of the packets that are answered: the baseline (DSP0236, section 8.3).
+/// The transmission unit of the packets: the baseline (DSP0236, section 8.3).
 const UNIT: Unit = Unit::U64;
 
-/// An MCTP endpoint and PLDM terminus that holds no firmware device.
+/// An MCTP endpoint and PLDM terminus without a firmware device.
 #[derive(Clone, Copy)]
 pub struct Responder {
-    /// Its identifier and UUID.
+    /// The endpoint's identifier and UUID.
     pub endpoint: Endpoint,
-    /// Its terminus identifier, which SetTID sets.
+    /// The terminus identifier, which SetTID sets (DSP0240).
     pub tid: Tid,
 }
 
 impl Responder {
-    /// Answers a packet that holds a whole request, by a packet, which is put into the place of `packet`.
+    /// Answers a packet that holds a whole request. The answer replaces the content of `packet`.
     ///
     /// # Errors
-    /// A packet that gets no answer is dropped for the first cause that holds; the terminus keeps its identifier.
+    /// The first cause why the packet gets no answer; the terminus identifier is then unchanged.
     pub fn answer(&mut self, bytes: &[u8], packet: &mut RawPacket) -> Result<(), LineDropCause>
         ensures reply { result_map_both (λ _. packet.new.items) (λ e. e) result ≡ (wire_reply self.old.endpoint self.old.tid (packet_of UNIT bytes.now)).reply }
         ensures after { self.new ≡ record self.old { tid = (wire_reply self.old.endpoint self.old.tid (packet_of UNIT bytes.now)).tid } }
@@ -41,7 +41,7 @@ impl Responder {
         self.answer_packet(&heard.head, heard.body, packet)
     }
 
-    /// Answers a packet of this head and body, if it is a whole request to this endpoint.
+    /// Answers a packet with this head and body, if it is a whole request to this endpoint.
     fn answer_packet(
         &mut self,
         head: &Head,
@@ -67,7 +67,7 @@ impl Responder {
         self.answer_message(head, body, packet)
     }
 
-    /// Answers a message that came under this head, by its type.
+    /// Answers a message that was received under this head, by its type.
     fn answer_message(
         &mut self,
         head: &Head,
@@ -118,7 +118,7 @@ impl Responder {
         Ok(())
     }
 
-    /// The code and fields that answer a PLDM request.
+    /// The completion code and fields that answer a PLDM request.
     fn complete(&mut self, request: &PldmHead, fields: &[u8]) -> Reply
         ensures reply { result.items ≡ completion_of self.old.tid request.now fields.now }
         ensures one_packet { length result.items + HEADER_SIZE ≤ bytes_of UNIT }
@@ -131,7 +131,7 @@ impl Responder {
         }
     }
 
-    /// Makes the packet that carries an answer to a packet with this head.
+    /// Encodes the packet that carries an answer to a packet with this head.
     fn carry(&self, head: &Head, answer: &[u8], packet: &mut RawPacket)
         requires head { head.now.tag < 8 }
         requires answer { (1 ≤ length answer.now) × (length answer.now ≤ bytes_of UNIT) }

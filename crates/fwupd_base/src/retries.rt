@@ -1,4 +1,4 @@
-//! Reads and writes that are tried again where they are interrupted, as the standard library's are.
+//! Reads and writes that are retried if they are interrupted, as in the standard library.
 
 ghost use Rattle.std.specs.Prelude.{◌≡◌, ◌≢◌, ◌<◌, ◌≤◌, length, take, IfErr, IfOk, OnErr, OnOk};
 ghost use Rattle.std.specs.Io.KnownBytes.{Appends, Consumes, IsAtEnd, Keeps};
@@ -7,10 +7,11 @@ ghost use Rattle.fwupd_base.specs.Stream.{WritesBeginning};
 
 use std::io::{self, ErrorKind, Read, Write};
 
-/// Reads once, at most so many bytes into the front of a buffer, and gives how many came: 0 at the end.
+/// Reads once, at most `most` bytes into the front of `buffer`. Returns the number of bytes; 0 is
+/// the end.
 ///
 /// # Errors
-/// Why the reader failed, which isn't that it was interrupted: nothing is read.
+/// The reader's error, other than an interruption; nothing is read then.
 pub fn read_some<R: Read>(reader: &mut R, buffer: &mut [u8], most: usize) -> io::Result<usize>
     requires room { most ≤ length buffer.old }
     ensures within { IfOk result (λ n. n ≤ most) }
@@ -33,11 +34,11 @@ pub fn read_some<R: Read>(reader: &mut R, buffer: &mut [u8], most: usize) -> io:
     Err(io::Error::from(ErrorKind::TimedOut))
 }
 
-/// Writes all these bytes.
+/// Writes all bytes.
 ///
 /// # Errors
-/// Why the writer failed, which isn't that it was interrupted; or `WriteZero` where it takes no more bytes. A beginning of them is
-/// written.
+/// The writer's error, other than an interruption, or `WriteZero` if it takes no more bytes. A
+/// beginning of the bytes is written.
 pub fn write_whole<W: Write>(writer: &mut W, bytes: &[u8]) -> io::Result<()>
     ensures ok { OnOk result (Appends (W.contents writer.old) (W.contents writer.new) bytes.now) }
     ensures begun { OnErr result (WritesBeginning (W.contents writer.old) (W.contents writer.new) bytes.now) }

@@ -2,16 +2,16 @@
 
 ghost use Rattle.std.specs.Prelude.{◌≡◌};
 
-/// How a link loses, repeats and delays packets.
+/// The probabilities and limits of a rough link.
 #[derive(Clone, Copy, Debug, PartialEq, Eq)]
 pub struct Roughness {
-    /// The packets that are lost, in percent on average: 0 to 100.
+    /// The percentage of packets that are lost, on average: 0 to 100.
     pub loss: u8,
-    /// The packets that arrive twice, in percent of those that aren't lost: 0 to 100.
+    /// The percentage of the other packets that are duplicated: 0 to 100.
     pub duplicate: u8,
-    /// The greatest delay of a packet, in turns.
+    /// The largest delay of a packet, in turns.
     pub delay: u8,
-    /// The seed of the generator. The same seed gives the same run.
+    /// The seed of the random numbers: the same seed gives the same fates.
     pub seed: u64,
 }
 

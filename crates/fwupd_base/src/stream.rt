@@ -1,4 +1,4 @@
-//! Lines in, answers out: the engine of `fwupd answer`.
+//! The engine of `fwupd answer`: reads lines and writes answers.
 
 ghost use Rattle.std.specs.Prelude.{[], ◌≡◌, ◌≢◌, ◌≤◌, ◌+◌, ◌*◌, ◌++◌, List, ℕ, Option, length, vec_capacity, IfErr, OnErr, OnOk};
 ghost use Rattle.std.specs.Io.KnownBytes.{Appends, Keeps};
@@ -16,22 +16,22 @@ use std::io::{Read, Write};
 use thiserror::Error;
 use uuid::Uuid;
 
-/// The most bytes that one run reads, so that it returns whatever the reader gives.
+/// The most bytes that one run reads; it makes every run end.
 const LIMIT: usize = 16_777_216;
 
-/// The most bytes that are asked for at once.
+/// The most bytes of one read.
 const PIECE: usize = 65_536;
 
 /// Why a run of answers stopped.
 #[derive(Clone, Copy, Debug, PartialEq, Eq, Error)]
 pub enum AnswerFault {
-    /// The reader failed, or gave more bytes than a run reads.
+    /// The reader failed, or had more bytes than a run reads.
     #[error("input")]
     Read,
     /// The writer failed.
     #[error("output")]
     Write,
-    /// There was no memory for a line.
+    /// Memory for a line was refused.
     #[error("memory")]
     Memory,
 }
@@ -57,7 +57,7 @@ fn write_answer<W: Write>(
     }
 }
 
-/// Answers the line that these digits end, behind those that are held of it, and holds none.
+/// Answers the line made of the held digits and then `digits`; afterwards no digits are held.
 fn answer_ended<W: Write>(
     responder: &mut Responder,
     held: &mut Vec<u8>,
@@ -83,8 +83,8 @@ fn answer_ended<W: Write>(
     end
 }
 
-/// Answers the lines that end in a piece of what was read, and holds what follows them. A line that lies whole in the piece
-/// isn't copied.
+/// Answers the lines that end in a piece of the input, and holds the bytes after them. A line that
+/// is whole in the piece isn't copied.
 fn answer_piece<W: Write>(
     responder: &mut Responder,
     held: &mut Vec<u8>,
@@ -112,7 +112,7 @@ fn answer_piece<W: Write>(
     Ok(())
 }
 
-/// Flushes what was written.
+/// Flushes the writer.
 fn flush<W: Write>(writer: &mut W) -> Result<(), AnswerFault>
     ensures kept { Keeps (W.contents writer.old) (W.contents writer.new) }
     ensures fault { IfErr result (λ e. e ≡ AnswerFault.Write) }
@@ -123,7 +123,8 @@ fn flush<W: Write>(writer: &mut W) -> Result<(), AnswerFault>
     }
 }
 
-/// Makes room, before so many bytes are read, for them and for the bytes that the digits held then spell.
+/// Reserves room for `most` more digits in `held`, and in `bytes` for the bytes that the held
+/// digits then encode.
 fn make_room(held: &mut Vec<u8>, bytes: &mut Vec<u8>, most: usize) -> Result<(), AnswerFault>
     ensures same { held.new.items ≡ held.old.items }
     ensures holds { OnOk result (length held.new.items + most ≤ vec_capacity held.new) }
@@ -141,7 +142,7 @@ fn make_room(held: &mut Vec<u8>, bytes: &mut Vec<u8>, most: usize) -> Result<(),
     Ok(())
 }
 
-/// Answers what follows the last line feed: a line, unless it is empty.
+/// Answers the bytes after the last line feed: a line, unless they are empty.
 fn finish<W: Write>(
     responder: &mut Responder,
     held: &[u8],
@@ -164,18 +165,21 @@ fn finish<W: Write>(
     }
 }
 
-/// Reads lines of hexadecimal digits and writes one line for each: the packet by which an endpoint without a device
-/// answers the packet that the line spells, or why it doesn't answer. A line feed ends a line; what follows the last
-/// one is a line too, unless it is empty. The terminus identifier is kept from line to line; at first it is 0.
+/// Reads lines of hexadecimal digits and writes one line for each: the packet by which an endpoint
+/// without a device answers the packet in the line, or why there is no answer. A line feed ends a
+/// line; the bytes after the last one are a line too, unless they are empty. The terminus
+/// identifier is kept from line to line; at first it is 0.
 ///
-/// All whole lines of what one read gave are answered, and the answers flushed, before the next read: a partner over a
-/// pipe never waits for an answer to a line that it has sent. Work is linear in the input. Reads and writes that are
-/// interrupted are tried again.
+/// Before the next read, all whole lines of the last read are answered and the answers flushed. So
+/// a peer over a pipe never waits for an answer to a line that it has sent. Work is linear in the
+/// input. Interrupted reads and writes are retried.
 ///
 /// # Errors
-/// - `Read` where the reader failed, and at the first byte past 16,777,216;
-/// - `Memory` where there was none for a line; in both cases each whole line before is answered, and nothing else;
-/// - `Write` where the writer failed: the lines before are answered, and a beginning of the answer to the next.
+/// - `Read` if the reader fails, or at the first byte past 16,777,216;
+/// - `Memory` if memory for a line is refused; in both cases exactly the whole lines before are
+/// answered;
+/// - `Write` if the writer fails: the lines before are answered, and a beginning of the next answer
+/// may be written.
 pub fn answer_stream<R: Read, W: Write>(
     alloc: Global,
     reader: &mut R,

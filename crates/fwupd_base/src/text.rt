@@ -11,7 +11,7 @@ use arrayvec::ArrayVec;
 use hex::FromHexError;
 use mctp_wire::{MAX_PACKET, RawPacket};
 
-/// The most digits of a packet: two a byte.
+/// The most digits of a packet: two for each byte.
 const MAX_DIGITS: usize = 2 * MAX_PACKET;
 
 /// The most bytes of a line of output: a packet in digits, and a line feed.
@@ -20,13 +20,13 @@ const MAX_LINE: usize = MAX_DIGITS + 1;
 /// One line of output: a packet in digits, and a line feed.
 pub type LineText = ArrayVec<u8, MAX_LINE>;
 
-/// What a line that gets no answer begins with.
+/// The beginning of the output line for a line without an answer.
 const DROP: &[u8] = b"drop ";
 
-/// Decodes digits, two a byte, into `bytes`, which has their size afterwards.
+/// Decodes digits, two for each byte, into `bytes`, which is resized.
 ///
 /// # Errors
-/// The digits aren't well formed.
+/// The digits are malformed.
 fn decode_digits(digits: &[u8], bytes: &mut Vec<u8>) -> Result<(), FromHexError>
     requires room { length digits.now ≤ 2 * vec_capacity bytes.old }
     ensures value { result_map_both (λ _. bytes.new.items) (λ e. e) result ≡ decode_of digits.now }
@@ -36,7 +36,7 @@ fn decode_digits(digits: &[u8], bytes: &mut Vec<u8>) -> Result<(), FromHexError>
     hex::decode_to_slice(digits, bytes.as_mut_slice())
 }
 
-/// The upper-case digits, each at the place of its value.
+/// The upper-case digits, indexed by their value.
 const DIGITS: &[u8; 16] = b"0123456789ABCDEF";
 
 /// Appends a byte in two upper-case digits.
@@ -60,7 +60,7 @@ fn push_digits(packet: &[u8], text: &mut LineText)
     }
 }
 
-/// Makes the line that is printed for a reply: the packet in digits, or the cause why there is none.
+/// Writes the output line of a reply: the packet in digits, or the cause why there is none.
 fn write_line(reply: Result<(), LineDropCause>, packet: &RawPacket, text: &mut LineText)
     ensures { text.new.items ≡ line_text_of (result_map_both (λ _. packet.now.items) (λ e. e) reply) }
 {
@@ -75,7 +75,8 @@ fn write_line(reply: Result<(), LineDropCause>, packet: &RawPacket, text: &mut L
     text.push(b'\n');
 }
 
-/// Answers one line of digits: its text, which is put into the place of `text`. `bytes` is room that is used again for each line.
+/// Answers one line of digits. The output line replaces the content of `text`; `bytes` is a buffer
+/// that is reused for each line.
 #[tactic(auto, unfolding(crate::specs::Answers::text_for_line, crate::specs::Answers::tid_after_line))]
 pub fn answer_line(
     responder: &mut Responder,

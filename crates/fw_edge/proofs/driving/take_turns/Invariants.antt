@@ -6,7 +6,7 @@ use Rattle.fw_edge.specs.Outcomes.{LinksDriveOk}
 use Rattle.fw_edge.specs.Turns.{DrivesTurns}
 use Rattle.fw_edge.proofs.driving.take_turns.Given as goal
 
--- so many turns were taken
+-- `count` turns were taken
 abbrev pub invariant-loop-count : goal.invariant-loop-count
 invariant-loop-count g l = record {
   drives : Drives l.fn.world l.fn.steps.items l.world l.steps.items;

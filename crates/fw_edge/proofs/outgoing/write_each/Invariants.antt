@@ -4,7 +4,7 @@ use Rattle.fw_edge.specs.Outgoing.{LinkTakesAll}
 use Rattle.fw_edge.proofs.Taking.{bytes_in}
 use Rattle.fw_edge.proofs.outgoing.write_each.Given as goal
 
--- so many packets were taken, and nothing was given
+-- the packets before the place were taken, and nothing was given
 abbrev pub invariant-loop-place : goal.invariant-loop-place
 invariant-loop-place g l = record {
   wrote : LinkWriteOk g.L.Link.tally g.L.Link.gave l.place l.fn.link l.link;

@@ -5,7 +5,8 @@ use Rattle.fw_edge.proofs.Sending.{WrittenBefore}
 use Rattle.fw_edge.proofs.Taking.{TookBefore}
 use Rattle.fw_edge.proofs.outgoing.write_out.Given as goal
 
--- none failed, was asked, or gave, those before the place took what wasn't written, and the others are as they were
+-- No link failed, was asked, or gave a frame. The links before the place took the unwritten
+-- packets, and the others are unchanged.
 abbrev pub invariant-loop-place : goal.invariant-loop-place
 invariant-loop-place g l = record {
   took : TookBefore l.place l.world.sites l.fn.written l.written (map g.L.Link.taken l.fn.links) (map g.L.Link.taken l.links);

@@ -7,7 +7,8 @@ use Rattle.fw_edge.specs.Links.{links_at}
 use Rattle.fw_edge.specs.Turns.{ReadsAllEnds}
 use Rattle.fw_edge.proofs.rounds.read_round.Given as goal
 
--- none failed, at most two frames came over each, and those behind the place are as they were
+-- no link failed, at most two frames were received over each, and the links after the place are
+-- unchanged
 abbrev pub invariant-loop-place : goal.invariant-loop-place
 invariant-loop-place g l = record {
   goes : DrivesCounted l.fn.world l.fn.steps.items l.world l.steps.items 0 l.frames.known;

@@ -7,7 +7,7 @@ use Rattle.fw_edge.specs.Outcomes.{LinksExchangeOk}
 use Rattle.fw_edge.specs.Turns.{RoundsOn}
 use Rattle.fw_edge.proofs.rounds.rounds.Given as goal
 
--- none failed, and few frames came
+-- no link failed, and few frames were received
 abbrev pub invariant-loop : goal.invariant-loop
 invariant-loop g l = record {
   goes : DrivesCounted l.fn.world l.fn.steps.items l.world l.steps.items 0 l.frames.known;

@@ -4,7 +4,7 @@ use Rattle.fw_json.specs.Inspections.{descriptor_value}
 use Rattle.fw_json.specs.Values.{items}
 use Rattle.fw_json.proofs.inspection.push_descriptors.Given as goal
 
--- what is written, and what is left to write
+-- the items so far, then the rest to write
 abbrev pub invariant-loop-descriptor : goal.invariant-loop-descriptor
 invariant-loop-descriptor l =
     (goal.iterator-loop-descriptor).can_next l.descriptor-iterator × (goal.iterator-loop-descriptor).is_finite l.descriptor-iterator

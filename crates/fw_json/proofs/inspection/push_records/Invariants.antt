@@ -4,7 +4,7 @@ use Rattle.fw_json.specs.Inspections.{record_value}
 use Rattle.fw_json.specs.Values.{numbered_items}
 use Rattle.fw_json.proofs.inspection.push_records.Given as goal
 
--- what is written, and what is left to write
+-- the items so far, then the rest to write
 abbrev pub invariant-loop-number : goal.invariant-loop-number
 invariant-loop-number l = record {
   counted : l.number + length l.records ≡ length l.fn.records;

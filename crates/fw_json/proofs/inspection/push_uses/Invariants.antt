@@ -4,7 +4,7 @@ use Rattle.fw_json.specs.Inspections.{use_value}
 use Rattle.fw_json.specs.Values.{items}
 use Rattle.fw_json.proofs.inspection.push_uses.Given as goal
 
--- what is written, and what is left to write
+-- the items so far, then the rest to write
 abbrev pub invariant-loop-component : goal.invariant-loop-component
 invariant-loop-component l =
     (goal.iterator-loop-component).can_next l.component-iterator × (goal.iterator-loop-component).is_finite l.component-iterator

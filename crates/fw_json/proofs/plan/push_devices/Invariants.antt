@@ -5,7 +5,7 @@ use Rattle.fw_json.specs.Plans.{configured_value}
 use Rattle.fw_json.specs.Values.{items}
 use Rattle.fw_json.proofs.plan.push_devices.Given as goal
 
--- what is written, and what is left to write
+-- the items so far, then the rest to write
 abbrev pub invariant-loop-device : goal.invariant-loop-device
 invariant-loop-device l =
     (l.writer.before ≡ l.fn.writer.before)

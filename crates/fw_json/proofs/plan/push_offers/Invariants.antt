@@ -5,7 +5,7 @@ use Rattle.fw_setup.specs.Nodes.{row_made}
 use Rattle.fw_json.specs.Plans.{offer_items}
 use Rattle.fw_json.proofs.plan.push_offers.Given as goal
 
--- what is written, and what is left to write
+-- the items so far, then the rest to write
 abbrev pub invariant-loop-number : goal.invariant-loop-number
 invariant-loop-number l =
     (l.writer.before ≡ l.fn.writer.before)

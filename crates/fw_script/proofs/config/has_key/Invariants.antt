@@ -3,6 +3,6 @@ use Rattle.fw_script.specs.Configs.{has_key}
 use Rattle.fw_script.specs.Seen.{component_of}
 use Rattle.fw_script.proofs.config.has_key.Given as goal
 
--- the answer of what is left is the answer of all
+-- the result for the remaining components is the result for all
 abbrev pub invariant-loop-other : goal.invariant-loop-other
 invariant-loop-other l = has_key (map component_of (drop l.other-index l.components)) l.key ≡ has_key (map component_of l.components) l.key

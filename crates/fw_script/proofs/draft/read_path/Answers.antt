@@ -10,7 +10,7 @@ is_path : (word : List ℕ) → IsUtf8 word → path_of word ≡ Ok word
 unfolding path_of
 is_path word h = rw (is_utf8-from_IsUtf8 word h) refl
 
--- what is none isn't
+-- other bytes are not
 by_test : (word : List ℕ) (b : Bool) → is_utf8 word ≡ b → ¬ (IsUtf8 word) → path_of word ≡ Err causes.Number
 unfolding path_of
 by_test word true e h = absurd (h (IsUtf8-from_is_utf8 word e))

@@ -3,7 +3,7 @@ use Rattle.std.specs.List.{list_any}
 use Rattle.fw_script.specs.Lines.{is_nothing, words_from}
 use Rattle.fw_script.proofs.lines.fields_after.Given as goal
 
--- the words that are left, behind those that were passed, are those of all
+-- the words so far, then the remaining words, are all words
 abbrev pub invariant-loop-left : goal.invariant-loop-left
 invariant-loop-left g l = record {
   passed : map (λ f. f.now) l.fields.items ++ words_from (option_map (λ r. r.now) l.left) ≡ words_from (option_map (λ r. r.now) l.fn.rest);

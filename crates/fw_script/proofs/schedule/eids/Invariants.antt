@@ -3,7 +3,7 @@ use Rattle.fw_script.specs.Schedules.{eids_from}
 use Rattle.fw_script.specs.Seen.{seen_eids}
 use Rattle.fw_script.proofs.schedule.eids.Given as goal
 
--- what was read, with those that are left, is what all are
+-- the identifiers so far, then those of the remaining words, are those of all
 abbrev pub invariant-loop-word : goal.invariant-loop-word
 invariant-loop-word l =
     record {

@@ -4,7 +4,7 @@ use Rattle.fw_script.specs.ScheduleLines.{all_steps}
 use Rattle.fw_script.specs.Schedules.{steps_then, script_from, script_of}
 use Rattle.fw_script.proofs.schedule.read_lines.Given as goal
 
--- the steps so far, and what is left, are those of all
+-- the steps so far, then those of the remaining lines, are those of all
 abbrev pub invariant-loop-rest : goal.invariant-loop-rest
 invariant-loop-rest l = record {
   counted : l.line + length l.rest ≤ length l.text;

@@ -3,7 +3,7 @@ use Rattle.fw_script.specs.SpecFields.{unescaped_word}
 use Rattle.fw_script.proofs.Specs.{behind}
 use Rattle.fw_script.proofs.spec_fields.unescape.Given as goal
 
--- the bytes so far, and those of what is left, are those of all
+-- the bytes so far, then those of the remaining word, are those of the whole word
 abbrev pub invariant-loop-rest : goal.invariant-loop-rest
 invariant-loop-rest l = behind l.bytes.items (unescaped_word l.rest) ≡ unescaped_word l.word
 

@@ -3,7 +3,7 @@ use Rattle.fw_script.specs.Lines.{lines_of}
 use Rattle.fw_script.specs.PackageSpecs.{package_spec_of, spec_from}
 use Rattle.fw_script.proofs.spec_lines.read_package_spec.Given as goal
 
--- what is left makes of the draft what all makes
+-- reading the remaining lines gives the result of reading all
 abbrev pub invariant-loop-rest : goal.invariant-loop-rest
 invariant-loop-rest l = record {
   counted : l.line + length l.rest ≤ length l.text;

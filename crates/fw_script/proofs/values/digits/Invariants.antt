@@ -4,7 +4,7 @@ use Rattle.std.specs.Char.{is_ascii_digit}
 use Rattle.std.specs.Str.Parse.{digits_value}
 use Rattle.fw_script.proofs.values.digits.Given as goal
 
--- the digits that were passed write the value
+-- the digits before the index encode the value
 abbrev pub invariant-loop-byte : goal.invariant-loop-byte
 invariant-loop-byte l = record {
   written : l.value ≡ digits_value 10 (take l.byte-index l.word);

@@ -3,7 +3,7 @@ use Rattle.std.specs.List.{flat_map}
 use Rattle.fwupd_base.specs.Inspection.{descriptor_line}
 use Rattle.fwupd_base.proofs.inspection.push_descriptors.Given as goal
 
--- what is appended, and what is left to append
+-- the text so far, then the rest to append
 abbrev pub invariant-loop-descriptor : goal.invariant-loop-descriptor
 invariant-loop-descriptor l =
     (goal.iterator-loop-descriptor).can_next l.descriptor-iterator × (goal.iterator-loop-descriptor).is_finite l.descriptor-iterator

@@ -3,7 +3,7 @@ use Rattle.std.specs.List.{flat_map}
 use Rattle.fwupd_base.specs.Inspection.{use_text}
 use Rattle.fwupd_base.proofs.inspection.push_each_use.Given as goal
 
--- what is appended, and what is left to append
+-- the text so far, then the rest to append
 abbrev pub invariant-loop-component : goal.invariant-loop-component
 invariant-loop-component l =
     (goal.iterator-loop-component).can_next l.component-iterator × (goal.iterator-loop-component).is_finite l.component-iterator

@@ -2,7 +2,7 @@ use Rattle.std.proofs.Common.{◌≡◌, ◌+◌, ◌++◌, length}
 use Rattle.fwupd_base.specs.Inspection.{records_text}
 use Rattle.fwupd_base.proofs.inspection.push_records.Given as goal
 
--- what is appended, and what is left to append
+-- the text so far, then the rest to append
 abbrev pub invariant-loop-number : goal.invariant-loop-number
 invariant-loop-number l = record {
   counted : l.number + length l.records ≡ length l.fn.records;

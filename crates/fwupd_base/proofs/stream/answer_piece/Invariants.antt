@@ -2,7 +2,7 @@ use Rattle.std.proofs.Common.{◌≡◌, ◌≤◌, ◌-◌, ◌+◌, ◌*◌, �
 use Rattle.fwupd_base.specs.Stream.{HasAnsweredLines}
 use Rattle.fwupd_base.proofs.stream.answer_piece.Given as goal
 
--- each whole line so far is answered, what follows is held, and there is room for what is left
+-- each whole line so far is answered, the bytes after them are held, and there is room for the rest
 abbrev pub invariant-loop-count : goal.invariant-loop-count
 invariant-loop-count g l = record {
   within : l.from ≤ length l.piece;

@@ -3,7 +3,7 @@ use Rattle.fwupd_base.specs.Answers.{endpoint_of}
 use Rattle.fwupd_base.specs.Stream.{ReadsPart}
 use Rattle.fwupd_base.proofs.stream.answer_stream.Given as goal
 
--- each whole line so far is answered, and what follows is held
+-- each whole line so far is answered, and the bytes after them are held
 abbrev pub invariant-loop-count : goal.invariant-loop-count
 invariant-loop-count g l = record {
   small : l.count ≤ 16777217;
