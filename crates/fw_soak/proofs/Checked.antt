@@ -1,4 +1,4 @@
--- The checker's answer says whether a world is clean.
+-- The checker's answer is whether a world is clean.
 use Rattle.std.proofs.Common.{◌≡◌, ◌∙◌, ◌⊎◌, ◌==◌, ◌&&◌, ◌||◌, ◌++◌, ℕ, nat_eq, Bool, true, false, List, [], ◌∷◌, Option, Some, None, inl, inr, refl, sym, ap, subst, map}
 use Rattle.std.specs.Cmp.Lexicographic.{pointwise}
 use Rattle.std.specs.List.{AllByRecursion, list_all}
@@ -158,7 +158,7 @@ them_complete history d (Some x) h =
     all_complete (runs_it history d.endpoint.eid x.node.half.core.device.rows) (RunsImage history d.endpoint.eid x.node.half.core.device.rows)
     (λ c e. running_complete (active_of (row_of x.node.half.core.device.rows c.component.key)) (runs_after history d.endpoint.eid c.component.key c.image) e) d.components h
 
--- the device that is there
+-- the device exists
 pub runs_there : (history : List NotedOf) (d : DeviceConfigOf) (o : Option SiteOf) (node : DeviceNodeOf) → option_map (λ x. x.node) o ≡ Some node
     → runs_them history d o ≡ list_all (runs_it history d.endpoint.eid node.half.core.device.rows) d.components
 runs_there history d None node e = absurd (cc)

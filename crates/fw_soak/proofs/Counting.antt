@@ -1,4 +1,4 @@
--- What is counted of a run.
+-- The counts of a run.
 use Rattle.std.proofs.Common.{◌≡◌, ◌≤◌, ◌+◌, ◌++◌, ◌∙◌, ℕ, zero, suc, Bool, true, false, List, [], ◌∷◌, Option, Some, None, ap, arith, drop, filter, length, map, not, refl, replicate, slice_get, slice_set, subst, sym, take}
 use Rattle.std.proofs.Math.Seq.{set_out}
 use Rattle.std.proofs.lemmas.List.Sums.{sum_by-append}
@@ -14,7 +14,7 @@ use Rattle.fw_soak.specs.Counts.{capped_count, greater, greatest, longest_at, lo
 pub unmarked_past : (marks : List Bool) (place : ℕ) → length marks ≤ place → slice_set marks place true ≡ marks
 unmarked_past marks place h = set_out marks place true h
 
--- what stands at a place, behind those before it and before those behind it
+-- the item at a place comes after those before it
 longer : {A : Type 0} (x : A) (xs : List A) (n : ℕ) → slice_get xs n ≡ Some x → take (suc n) xs ≡ take n xs ++ x ∷ []
 longer x [] n e = absurd (cc)
 longer x (y ∷ ys) zero e = let same : y ≡ x = cc in ap (λ z. z ∷ []) same

@@ -1,4 +1,4 @@
--- A run goes on.
+-- A run continues.
 use Rattle.std.proofs.Common.{◌≡◌, ◌++◌, List, [], ◌∷◌, refl, subst, sym}
 use Rattle.fw_steps.specs.Headline.{StepsTo, Run}
 use Rattle.fw_steps.specs.Worlds.{WorldOf}
@@ -17,7 +17,7 @@ goes_step c d s l e = record {
   goes = λ o run. subst (λ ss. Run o ss d.world) (sym e) (run_append o c.world d.world c.steps (s ∷ []) run (d.world, l, refl));
 }
 
--- a run that goes on from no step at all
+-- a run that continues from no steps
 pub goes_from : (s : SetupOf) (c d : CourseOf) → c.steps ≡ [] → c.world ≡ opening_of s → ContinuesRun c d → IsCourse s d
 goes_from s c d none opening h = h.goes (opening_of s) (subst (λ ss. Run (opening_of s) ss c.world) (sym none) opening)
 

@@ -1,4 +1,4 @@
--- One run more in a summary.
+-- One more run in the totals.
 use Rattle.std.proofs.Common.{◌≡◌, ◌∙◌, ◌+◌, ◌++◌, ℕ, Bool, true, false, List, [], ◌∷◌, Option, Some, None, arith, ap, if◌then◌else◌, length, map, refl, subst, sym}
 use Rattle.std.proofs.lemmas.List.{map-append}
 use Rattle.std.proofs.lemmas.List.Sums.{sum_by-append}
@@ -34,7 +34,7 @@ all_more : (P : CourseOf → Type 0) (cs : List CourseOf) (c : CourseOf) → All
 all_more P [] c h k = (k, tt)
 all_more P (x ∷ cs) c h k = (h.0, all_more P cs c h.1 k)
 
--- the first that doesn't end clean
+-- the first run that doesn't end clean
 first_if : (b clean : Bool) (x c : CourseOf) (before after : Option (List Step)) → after ≡ first_kept_with clean before c
     → (if b then after else Some x.steps) ≡ first_kept_with clean (if b then before else Some x.steps) c
 first_if true clean x c before after h = h
@@ -44,7 +44,7 @@ first_more : (s : SetupOf) (cs : List CourseOf) (c : CourseOf) → first_violati
 first_more s [] c = refl
 first_more s (x ∷ cs) c = first_if (ends_clean s x) (ends_clean s c) x c (first_violation s cs) (first_violation s (cs ++ c ∷ [])) (first_more s cs c)
 
--- none is kept where none goes wrong
+-- no run is kept if all end clean
 none_if : (b : Bool) (steps : List Step) (rest : Option (List Step)) (n : ℕ) → (if b then rest else Some steps) ≡ None → (rest ≡ None → n ≡ 0) → (if b then 0 else 1) + n ≡ 0
 none_if true steps rest n e h = let zero_rest = h e in omega arith
 none_if false steps rest n e h = absurd (let k : Some steps ≡ None = e in cc)

@@ -1,4 +1,4 @@
--- The checker's answer, by the parts that it is asked in.
+-- The checker's answer, part by part.
 use Rattle.std.specs.Prelude.{ℕ, ◌==◌, ◌&&◌, ◌||◌, ◌++◌, Bool, true, false, nat_eq, List, [], ◌∷◌, Option, Some, None, map}
 use Rattle.std.specs.Cmp.Lexicographic.{pointwise}
 use Rattle.std.specs.List.{list_all}
@@ -12,12 +12,12 @@ use Rattle.fw_script.specs.Configs.{ComponentConfigOf, DeviceConfigOf}
 use Rattle.fw_soak.specs.Checks.{device_for, recorded_image, runs_after}
 use Rattle.fw_soak.specs.Naming.{is_named}
 
--- some package names it for a device, if that is configured
+-- some package has the image for a device, if that is configured
 abbrev pub is_named_for : List PackageText → KeyedImage → Option DeviceConfigOf → Bool
 is_named_for packages p None = false
 is_named_for packages p (Some d) = is_named packages (map package_descriptor d.descriptors) p
 
--- an entry says that this was applied
+-- an entry is that this image was applied
 abbrev pub applies : KeyedImage → EntryOf → Bool
 applies p (EntryOf.Applied q) = same_image p.key p.bytes q.key q.bytes
 applies p e = false
@@ -36,7 +36,7 @@ are_right packages devices before [] = true
 are_right packages devices before (x ∷ xs) =
     is_right packages devices before x.device x.entry && are_right packages devices (before ++ x ∷ []) xs
 
--- these bytes run
+-- the active image has these bytes
 abbrev pub is_running : Option ImageOf → List ℕ → Bool
 is_running None bytes = false
 is_running (Some i) bytes = pointwise nat_eq i.bytes bytes
@@ -51,6 +51,6 @@ runs_them history d (Some x) = list_all (runs_it history d.endpoint.eid x.node.h
 abbrev pub runs_what_it_may : WorldOf → DeviceConfigOf → Bool
 runs_what_it_may w d = runs_them w.history d (site_for w.sites d.endpoint.eid)
 
--- nothing is wrong
+-- the world is clean
 abbrev pub is_clean : List PackageText → List DeviceConfigOf → WorldOf → Bool
 is_clean packages devices w = are_right packages devices [] w.history && list_all (runs_what_it_may w) devices

@@ -1,4 +1,4 @@
--- A run: the world that it begins with, the steps that it took, and the world that they led to.
+-- A run: its first world, its steps, and the world after them.
 use Rattle.std.specs.Prelude.{ℕ, ◌≡◌, List}
 use Rattle.mctp_ctl.specs.declared.answers.Endpoint.{Endpoint}
 use Rattle.mctp_wire.specs.declared.unit.Unit.{«Unit»}
@@ -9,7 +9,8 @@ use Rattle.fw_steps.specs.Headline.{Run, new_world}
 use Rattle.fw_steps.specs.Worlds.{WorldOf}
 use Rattle.fw_steps.specs.declared.step.Step.{Step}
 
--- what runs begin with: the agent, the transmission unit of its network, its devices as they are configured, and the packages
+-- the setup of the runs: the agent, the transmission unit of its network, its devices as
+-- configured, and the packages
 pub record SetupOf : Type 0 where
   pub agent : Endpoint
   pub unit : «Unit»
@@ -20,15 +21,15 @@ pub record SetupOf : Type 0 where
 abbrev pub opening_of : SetupOf → WorldOf
 opening_of s = new_world s.agent (nodes_made s.unit s.agent.eid s.devices) s.packages
 
--- the steps that a run took, in order, and where they led
+-- the steps of a run, in order, and the world after them
 pub record CourseOf : Type 0 where
   pub steps : List Step
   pub world : WorldOf
 
--- The steps lead there from the world before the first step.
+-- The steps lead to the world from the world before the first step.
 abbrev pub IsCourse : SetupOf → CourseOf → Type 0
 IsCourse s c = Run (opening_of s) c.steps c.world
 
--- A run goes on from one moment to another: what leads to the one leads on to the other.
+-- A run continues: a run from any world to the first state continues to the second.
 pub record ContinuesRun (c d : CourseOf) : Type 0 where
   pub goes : (o : WorldOf) → Run o c.steps c.world → Run o d.steps d.world

@@ -1,4 +1,4 @@
--- What runs begin with, as it is lent.
+-- The setup of the runs, borrowed.
 use Rattle.std.specs.Prelude.{map}
 use Rattle.fw_script.specs.Seen.{device_of}
 use Rattle.fw_soak.specs.Courses.{SetupOf}

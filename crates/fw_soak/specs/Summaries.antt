@@ -1,4 +1,4 @@
--- What is said of many runs.
+-- The totals of many runs.
 use Rattle.std.specs.Prelude.{ℕ, ◌≡◌, ◌+◌, Bool, if◌then◌else◌, List, [], ◌∷◌, Option, Some, None, length, map}
 use Rattle.std.specs.List.{AllByRecursion, sum_by}
 use Rattle.fw_steps.specs.declared.step.Step.{Step}
@@ -7,7 +7,7 @@ use Rattle.fw_soak.specs.Counts.{activations_in, capped_count, greater, greatest
 use Rattle.fw_soak.specs.Courses.{CourseOf, IsCourse, SetupOf}
 use Rattle.fw_soak.specs.declared.summary.Summary.{Summary}
 
--- the checker finds nothing wrong where a run ended
+-- the checker finds the last world of a run clean
 abbrev pub ends_clean : SetupOf → CourseOf → Bool
 ends_clean s c = is_clean s.packages s.devices c.world
 
@@ -17,7 +17,7 @@ violates_if clean = if clean then 0 else 1
 abbrev pub violation_count : SetupOf → CourseOf → ℕ
 violation_count s c = violates_if (ends_clean s c)
 
--- the steps of the first run that doesn't end so
+-- the steps of the first run that doesn't end clean
 abbrev pub first_violation : SetupOf → List CourseOf → Option (List Step)
 first_violation s [] = None
 first_violation s (c ∷ cs) = if ends_clean s c then first_violation s cs else Some c.steps
@@ -26,7 +26,7 @@ first_violation s (c ∷ cs) = if ends_clean s c then first_violation s cs else 
 abbrev pub no_runs : Summary
 no_runs = record { runs = 0; activations = 0; losses = 0; restarts = 0; longest = 0; violations = 0 }
 
--- with one more, which ends clean or doesn't
+-- with one more run, which ends clean or not
 abbrev pub with_run : (clean : Bool) → Summary → CourseOf → Summary
 with_run clean sum c =
     record {
@@ -42,7 +42,7 @@ abbrev pub first_kept_with : (clean : Bool) → Option (List Step) → CourseOf 
 first_kept_with clean (Some steps) c = Some steps
 first_kept_with clean None c = if clean then None else Some c.steps
 
--- These runs were made, each from the world before the first step, and this is what is counted of them.
+-- These runs were made, each from the world before the first step, and `sum` are their totals.
 pub record AreSummed (s : SetupOf) (cs : List CourseOf) (sum : Summary) : Type 0 where
   pub each : AllByRecursion (IsCourse s) cs
   pub runs : sum.runs ≡ capped_count (length cs)
@@ -52,7 +52,7 @@ pub record AreSummed (s : SetupOf) (cs : List CourseOf) (sum : Summary) : Type 0
   pub longest : sum.longest ≡ greatest 0 (map longest_in cs)
   pub violations : sum.violations ≡ capped_count (sum_by (violation_count s) cs)
 
--- So many runs were made, and this is what is said of them, and kept of the first violation.
+-- `runs` runs were made, `sum` are their totals, and `kept` are the steps of the first violation.
 pub record SoakOk (s : SetupOf) (runs : ℕ) (sum : Summary) (kept : Option (List Step)) : Type 0 where
   pub courses : List CourseOf
   pub made : length courses ≡ runs

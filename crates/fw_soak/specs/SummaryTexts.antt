@@ -1,4 +1,4 @@
--- The text of a summary: a line for each number.
+-- The text of the totals: a line for each number.
 use Rattle.std.specs.Prelude.{ℕ, List, [], ◌∷◌, ◌++◌, codes}
 use Rattle.fw_text.specs.Printing.{word_and_number}
 use Rattle.fw_soak.specs.declared.summary.Summary.{Summary}

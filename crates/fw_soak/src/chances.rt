@@ -1,4 +1,4 @@
-//! Chances, which a seed says again.
+//! The random numbers of a run, which a seed reproduces.
 
 ghost use Rattle.std.specs.Prelude.{◌<◌};
 
@@ -7,21 +7,21 @@ use fwupd_base::Roughness;
 use rand_core::utils::NextWord;
 use rand_pcg::Pcg32;
 
-/// Chances of a run.
+/// The random numbers of a run.
 #[derive(Drop)]
 pub(crate) struct Chances {
     generator: Pcg32,
 }
 
 impl Chances {
-    /// The chances of a run among those of a seed.
+    /// Creates the generator of run `run` for a seed.
     pub(crate) fn new(seed: u64, run: u64) -> Chances {
         Chances {
             generator: Pcg32::new(seed, run),
         }
     }
 
-    /// A number below this one.
+    /// A random number below `bound`.
     pub(crate) fn below(&mut self, bound: u32) -> u32
         requires { 0 < bound }
         ensures { result < bound }
@@ -29,14 +29,15 @@ impl Chances {
         self.generator.next_word() % bound
     }
 
-    /// Once in so many times.
+    /// True with a probability of 1 in `times`.
     pub(crate) fn one_in(&mut self, times: u32) -> bool
         requires { 0 < times }
     {
         self.below(times) == 0
     }
 
-    /// What becomes of a packet on a link that is so rough: it is lost, or comes so many turns late, once or twice.
+    /// The fate of a packet on a link of this roughness: it is lost, or arrives once or twice, each
+    /// time with a delay in turns.
     pub(crate) fn fate(&mut self, roughness: Roughness) -> Fate {
         let late = u32::from(roughness.delay) + 1;
         if self.below(100) < u32::from(roughness.loss) {

@@ -1,4 +1,5 @@
-//! A checker of worlds that knows what the packages name and what was configured, and nothing of how updates go.
+//! A checker of worlds. It knows the images of the packages and of the configuration, and nothing
+//! of the update protocol.
 
 ghost use Rattle.std.specs.Prelude.{[], ◌≡◌, ◌==◌, ◌&&◌, IfOk, map, option_map, true};
 ghost use Rattle.std.specs.List.{list_all};
@@ -19,20 +20,20 @@ use fw_world::World;
 use std::alloc::{AllocError, Global};
 use ua_core::Recorded;
 
-/// The key of what isn't there.
+/// A placeholder key for a missing component.
 const NO_KEY: Key = Key {
     classification: 0,
     identifier: 0,
 };
 
-/// A component's image, lent.
+/// A component's image, borrowed.
 #[derive(Clone, Copy)]
 struct Lent<'a> {
     key: Key,
     bytes: &'a [u8],
 }
 
-/// The device of this identifier, as it is configured.
+/// The configuration of the device with this identifier.
 fn device_for(devices: &[DeviceConfig], eid: u8) -> Option<&DeviceConfig>
     ensures { option_map (λ d. device_of d.now) result ≡ device_for (map device_of devices.now) eid }
 {
@@ -44,7 +45,7 @@ fn device_for(devices: &[DeviceConfig], eid: u8) -> Option<&DeviceConfig>
     None
 }
 
-/// Whether some package names an image that a device activated for it, as it is configured.
+/// Whether some package has an image for the configured device that equals one it activated.
 fn is_named_for(
     alloc: Global,
     packages: &[Package<'_>],
@@ -66,7 +67,8 @@ fn is_named_for(
     ))
 }
 
-/// The image of a package's component that the agent recorded, under its key. What isn't there has no bytes.
+/// The image of a package's component that the agent recorded, under its key. A missing component
+/// has an empty image.
 fn recorded_image<'a>(packages: &[Package<'a>], recorded: Recorded) -> Lent<'a>
     ensures { record { key = result.key; bytes = result.bytes.now } ≡ recorded_image packages.now recorded }
 {
@@ -87,7 +89,7 @@ fn recorded_image<'a>(packages: &[Package<'a>], recorded: Recorded) -> Lent<'a>
     }
 }
 
-/// Whether an entry of the history says that a device applied an image.
+/// Whether an entry of the history is that `device` applied `image`.
 fn applies(entry: &Entry<'_>, device: u8, image: Lent<'_>) -> bool
     ensures { result ≡ ((entry.now.device == device) && applies (record { key = image.entry.key; bytes = image.entry.bytes.now }) (event_of entry.now.event)) }
 {
@@ -113,7 +115,7 @@ fn has_applied(history: &[Entry<'_>], device: u8, image: Lent<'_>) -> bool
     false
 }
 
-/// Whether an entry of the history is right, where these stand before it.
+/// Whether an entry of the history is lawful after the entries `before`.
 fn is_right(
     alloc: Global,
     packages: &[Package<'_>],
@@ -139,7 +141,7 @@ fn is_right(
     }
 }
 
-/// Whether a history is right.
+/// Whether every entry of a history is lawful.
 fn are_right(
     alloc: Global,
     packages: &[Package<'_>],
@@ -156,12 +158,13 @@ fn are_right(
     Ok(true)
 }
 
-/// Whether a history is right, as far as the packages and the configured devices tell: each image that a device activated is, byte
-/// for byte, one that a package names for it; and each component that the agent recorded as applied, that device had applied with
-/// those very bytes.
+/// Returns whether a history is lawful, judged by the packages and the configured devices. Each
+/// image that a device activated must equal, byte for byte, one that a package has for it. Each
+/// component that the agent recorded as applied must have been applied by that device with the same
+/// bytes.
 ///
 /// # Errors
-/// `AllocError` where memory for a device's descriptors is refused.
+/// `AllocError` if memory is refused.
 #[tactic(auto, using(crate::proofs::Checked::checked))]
 pub fn is_right_history(
     alloc: Global,
@@ -178,8 +181,8 @@ pub fn is_right_history(
     }
 }
 
-/// The image that runs for a component of a device after what happened: the last that it activated, or else the one that it began
-/// with.
+/// The active image of a device's component after a history: the last one activated, or the
+/// configured one.
 fn runs_after<'a>(history: &'a [Entry<'_>], device: u8, component: &'a ComponentConfig) -> &'a [u8]
     ensures { result.now ≡ runs_after (map entry_of history.now) device component.now.component.key component.now.image.items }
 {
@@ -196,7 +199,8 @@ fn runs_after<'a>(history: &'a [Entry<'_>], device: u8, component: &'a Component
     runs
 }
 
-/// Whether a device's bank runs for a component what it may, where this is the device's identifier.
+/// Whether the active image of a component is the last one activated, or the configured one. `eid`
+/// is the device's identifier.
 fn runs_it<B: Bank>(
     history: &[Entry<'_>],
     node: &DeviceNode<B>,
@@ -212,7 +216,7 @@ fn runs_it<B: Bank>(
     }
 }
 
-/// Whether a device's bank runs for each of these components what it may.
+/// Whether this holds for each component of a device.
 fn runs_them<B: Bank>(
     history: &[Entry<'_>],
     node: &DeviceNode<B>,
@@ -229,7 +233,7 @@ fn runs_them<B: Bank>(
     true
 }
 
-/// Whether a device is there, and its bank runs what it may.
+/// Whether a device exists, and its active images are allowed.
 #[tactic(auto, using(crate::proofs::Checked::runs_there))]
 fn runs_what_it_may<B: Bank + Drop>(world: &World<'_, B>, device: &DeviceConfig) -> bool
     ensures { result ≡ runs_what_it_may world.now (device_of device.now) }
@@ -241,7 +245,7 @@ fn runs_what_it_may<B: Bank + Drop>(world: &World<'_, B>, device: &DeviceConfig)
     }
 }
 
-/// Whether each of these devices is there, and its bank runs what it may.
+/// Whether this holds for each device.
 fn all_run<B: Bank + Drop>(world: &World<'_, B>, devices: &[DeviceConfig]) -> bool
     ensures { result ≡ list_all (runs_what_it_may world.now) (map device_of devices.now) }
 {
@@ -253,7 +257,7 @@ fn all_run<B: Bank + Drop>(world: &World<'_, B>, devices: &[DeviceConfig]) -> bo
     true
 }
 
-/// Whether nothing is wrong with a world.
+/// Whether a world is clean.
 fn answer<B: Bank + Drop>(
     alloc: Global,
     world: &World<'_, B>,
@@ -268,13 +272,14 @@ fn answer<B: Bank + Drop>(
     Ok(all_run(world, devices))
 }
 
-/// Whether nothing is wrong with a world, as far as the packages and the configured devices tell: each image that a device
-/// activated is, byte for byte, one that a package names for it; each component that the agent recorded as applied, that device had
-/// applied with those very bytes; and each bank runs what was activated last, or else what was configured. It rests on nothing
-/// that is promised of worlds.
+/// Returns whether a world is clean, judged by the packages and the configured devices. Each image
+/// that a device activated must equal, byte for byte, one that a package has for it. Each component
+/// that the agent recorded as applied must have been applied by that device with the same bytes.
+/// Each bank's active images must be the last ones activated, or the configured ones. The check
+/// relies on no property that is proved of worlds.
 ///
 /// # Errors
-/// `AllocError` where memory for a device's descriptors is refused.
+/// `AllocError` if memory is refused.
 #[tactic(auto, using(crate::proofs::Checked::checked))]
 pub fn is_clean<B: Bank + Drop>(
     alloc: Global,

@@ -1,4 +1,4 @@
-//! What is counted of a run.
+//! The counts of a run.
 
 ghost use Rattle.std.specs.Prelude.{◌≡◌, ◌+◌, IfOk, false, filter, length, map, not, option_map, replicate, true};
 ghost use Rattle.fw_message.specs.Entries.{entry_of};
@@ -9,7 +9,7 @@ use fw_message::{Entry, HistoryEvent};
 use fw_world::{Step, World};
 use std::alloc::{AllocError, Global};
 
-/// How many images devices activated.
+/// The number of images that devices activated.
 pub(crate) fn activations(history: &[Entry<'_>]) -> usize
     ensures { result ≡ activations_in (map entry_of history.now) }
 {
@@ -22,7 +22,7 @@ pub(crate) fn activations(history: &[Entry<'_>]) -> usize
     count
 }
 
-/// How often a node started anew.
+/// The number of restarts of nodes.
 pub(crate) fn restarts(steps: &[Step]) -> usize
     ensures { result ≡ restarts_in steps.now }
 {
@@ -35,7 +35,7 @@ pub(crate) fn restarts(steps: &[Step]) -> usize
     count
 }
 
-/// Marks the packet of a device that a step brings, if it brings one.
+/// Marks the packet of a device that a step delivers, if any.
 #[tactic(auto, using(crate::proofs::Counting::unmarked_past))]
 fn mark(marks: &mut [bool], device: u8, step: &Step)
     ensures { marks.new ≡ marked_by device marks.old step.now }
@@ -52,7 +52,7 @@ fn mark(marks: &mut [bool], device: u8, step: &Step)
     }
 }
 
-/// Marks the packets of a device that these steps bring.
+/// Marks the packets of a device that the steps deliver.
 fn mark_all(marks: &mut [bool], device: u8, steps: &[Step])
     ensures { marks.new ≡ marked_along device marks.old steps.now }
 {
@@ -61,7 +61,7 @@ fn mark_all(marks: &mut [bool], device: u8, steps: &[Step])
     }
 }
 
-/// How many aren't marked.
+/// The number of unmarked packets.
 fn unmarked(marks: &[bool]) -> usize
     ensures { result ≡ length (filter not marks.now) }
 {
@@ -74,7 +74,7 @@ fn unmarked(marks: &[bool]) -> usize
     count
 }
 
-/// How many of so many packets of a device these steps don't bring.
+/// The number of the device's `packets` packets that no step delivers.
 fn lost(alloc: Global, steps: &[Step], device: u8, packets: usize) -> Result<usize, AllocError>
     ensures { IfOk result (λ lost. lost ≡ length (filter not (marked_along device (replicate packets false) steps.now))) }
 {
@@ -84,10 +84,11 @@ fn lost(alloc: Global, steps: &[Step], device: u8, packets: usize) -> Result<usi
     Ok(unmarked(marks.as_slice()))
 }
 
-/// How many packets never came, of a run of these steps to this world. The count stops at its last value.
+/// The number of packets that were never delivered in a run of the steps to the world. The count
+/// stops at 2^64 - 1.
 ///
 /// # Errors
-/// `AllocError` where memory for them is refused.
+/// `AllocError` if memory is refused.
 #[tactic(auto, using(crate::proofs::Counting::counting))]
 pub(crate) fn losses<B: Bank + Drop>(
     alloc: Global,
@@ -110,24 +111,24 @@ pub(crate) fn losses<B: Bank + Drop>(
     Ok(losses)
 }
 
-/// An update that goes on, and the longest that ended.
+/// The current update of a device, and the longest of those that ended.
 #[derive(Clone, Copy)]
 pub(crate) struct SoakUpdate {
-    /// The ticks since its start.
+    /// The ticks since the update's start, if one is running.
     since: Option<u64>,
-    /// The ticks of the longest.
+    /// The duration of the longest update in ticks.
     longest: u64,
 }
 
 impl SoakUpdate {
-    /// It begins.
+    /// Starts an update.
     fn start(&mut self)
         ensures { self.new ≡ starts_if true self.old }
     {
         self.since = Some(0);
     }
 
-    /// It ends.
+    /// Ends the update.
     fn end(&mut self)
         ensures { self.new ≡ ends_if true self.old }
     {
@@ -139,7 +140,7 @@ impl SoakUpdate {
         self.since = None;
     }
 
-    /// A tick passes.
+    /// Counts a tick.
     fn tick(&mut self)
         ensures since { self.new.since ≡ option_map (λ t. capped_count (t + 1)) self.old.since }
         ensures longest { self.new.longest ≡ self.old.longest }
@@ -149,7 +150,7 @@ impl SoakUpdate {
         }
     }
 
-    /// A step is taken.
+    /// Applies a step of the run.
     fn follow(&mut self, device: u8, step: &Step)
         ensures { self.new ≡ update_after device self.old step.now }
     {
@@ -162,7 +163,7 @@ impl SoakUpdate {
     }
 }
 
-/// The ticks of a device's longest update.
+/// The duration of a device's longest update in ticks.
 fn longest_of(steps: &[Step], device: u8) -> u64
     ensures { result ≡ (update_along device no_update steps.now).longest }
 {
@@ -183,7 +184,7 @@ fn greater(one: u64, other: u64) -> u64
     if one < other { other } else { one }
 }
 
-/// The ticks of the longest update of a run of these steps to this world.
+/// The duration of the longest update in a run of the steps to the world, in ticks.
 #[tactic(auto, using(crate::proofs::Counting::counting))]
 pub(crate) fn longest<B: Bank + Drop>(world: &World<'_, B>, steps: &[Step]) -> u64
     ensures { result ≡ longest_in (record { steps = steps.now; world = world.now }) }

@@ -1,4 +1,4 @@
-//! A run: the steps that it takes, and where they lead.
+//! A run: its steps, and the world after them.
 
 ghost use Rattle.std.specs.Prelude.{[], ◌≡◌, IfOk, map};
 ghost use Rattle.fw_script.specs.Seen.{device_of};
@@ -13,7 +13,7 @@ use fw_world::{Step, StepFault, World};
 use std::alloc::{AllocError, Global};
 use std::marker::Model;
 
-/// A run. Its steps lead to its world.
+/// A run: its steps, and the world after them.
 #[derive(Drop)]
 pub(crate) struct SoakCourse<'a> {
     world: World<'a, FailBank>,
@@ -29,10 +29,10 @@ impl<'a> Model for SoakCourse<'a> {
 }
 
 impl<'a> SoakCourse<'a> {
-    /// A run of no step. Of the calls of each device's bank one fails by chance, or none.
+    /// Creates a run without steps. At random, one call of each device's bank fails, or none.
     ///
     /// # Errors
-    /// `AllocError` where memory for its world is refused.
+    /// `AllocError` if memory is refused.
     pub(crate) fn begin(
         alloc: Global,
         setup: &Setup<'a>,
@@ -49,24 +49,24 @@ impl<'a> SoakCourse<'a> {
         })
     }
 
-    /// The world that the steps led to.
+    /// Returns the world after the steps.
     pub(crate) fn world(&self) -> &World<'a, FailBank>
         ensures { result.now ≡ self.now.world }
     {
         &self.world
     }
 
-    /// The steps that were taken, in order.
+    /// Returns the steps taken, in order.
     pub(crate) fn steps(&self) -> &[Step]
         ensures { result.now ≡ self.now.steps }
     {
         self.steps.as_slice()
     }
 
-    /// Takes a step, if it may be taken, and says whether it was.
+    /// Takes a step if the world allows it, and returns whether it was taken.
     ///
     /// # Errors
-    /// `AllocError` where memory is refused. Nothing has changed then.
+    /// `AllocError` if memory is refused; nothing has changed then.
     #[tactic(auto, using(crate::proofs::Coursing::going))]
     pub(crate) fn take(&mut self, step: Step) -> Result<bool, AllocError>
         ensures { ContinuesRun self.old self.new }
@@ -83,7 +83,7 @@ impl<'a> SoakCourse<'a> {
         Ok(true)
     }
 
-    /// The steps that were taken, in order.
+    /// Returns the steps taken, in order.
     pub(crate) fn into_steps(self) -> Vec<Step>
         ensures { result.items ≡ self.entry.steps }
     {

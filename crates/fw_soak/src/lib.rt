@@ -1,4 +1,4 @@
-//! Many rough runs of an update, each checked by what the packages name.
+//! Many runs of an update over rough links, each checked against the packages.
 #![tactic(auto)]
 
 mod chances;

@@ -1,4 +1,4 @@
-//! Which image a package names for a device.
+//! The image that a package has for a device.
 
 ghost use Rattle.std.specs.Prelude.{◌≡◌, ◌<◌, All, filter, length, map, option_map};
 ghost use Rattle.fw_package.specs.Choice.{component_at, has_key, image_for, sole_image};
@@ -16,7 +16,8 @@ fn is_of(component: Component<'_>, key: Key) -> bool
     component.classification == key.classification && component.identifier == key.identifier
 }
 
-/// The image of the one component among these with a key, if there is one and no other.
+/// The image of the only component with a key among the given ones, or none if there is no such
+/// component or more than one.
 fn sole_image<'a>(package: &Package<'a>, uses: Uses<'_>, key: Key) -> Option<&'a [u8]>
     requires { All (λ n. n < length «package».now.components) uses }
     ensures { option_map (λ i. i.now) result ≡ sole_image (filter (has_key key.classification key.identifier) (map (component_at «package».now) uses.entry)) }
@@ -34,7 +35,7 @@ fn sole_image<'a>(package: &Package<'a>, uses: Uses<'_>, key: Key) -> Option<&'a
     found
 }
 
-/// The image that a package names for a device with these descriptors under a key.
+/// The image that a package has for a device with these descriptors and a key.
 fn image_for<'a>(
     package: &Package<'a>,
     descriptors: &[Descriptor<'_>],
@@ -47,7 +48,7 @@ fn image_for<'a>(
     sole_image(package, record.uses, key)
 }
 
-/// Whether some package names these very bytes for a device with these descriptors under a key.
+/// Whether some package has exactly these bytes for a device with these descriptors and a key.
 pub(crate) fn is_named(
     packages: &[Package<'_>],
     descriptors: &[Descriptor<'_>],

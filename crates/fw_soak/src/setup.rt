@@ -1,4 +1,4 @@
-//! What runs begin with.
+//! The setup of the runs.
 
 ghost use Rattle.std.specs.Prelude.{◌≡◌, IfOk, map};
 ghost use Rattle.fw_script.specs.Seen.{device_of};
@@ -17,20 +17,20 @@ use mctp_ctl::Endpoint;
 use mctp_wire::Unit;
 use std::alloc::{AllocError, Global};
 
-/// What runs begin with.
+/// The setup of the runs.
 #[derive(Clone, Copy)]
 pub struct Setup<'a> {
-    /// The agent's end of the links.
+    /// The agent's endpoint.
     pub agent: Endpoint,
     /// The transmission unit of its network.
     pub unit: Unit,
-    /// Its devices, as they are configured.
+    /// Its devices, as configured.
     pub devices: &'a [DeviceConfig],
-    /// The packages that updates start with; the first has number 1.
+    /// The packages of the updates; the first has number 1.
     pub packages: &'a [Package<'a>],
 }
 
-/// Of the calls of each bank one fails by chance, or none.
+/// At random, one call of each bank fails, or none.
 impl Banks<FailBank> for Chances {
     fn make(
         &mut self,
@@ -47,10 +47,11 @@ impl Banks<FailBank> for Chances {
     }
 }
 
-/// The world before the first step of a run. Of the calls of each device's bank one fails by chance, or none.
+/// Creates the world before the first step of a run. At random, one call of each device's bank
+/// fails, or none.
 ///
 /// # Errors
-/// `AllocError` where memory for it is refused.
+/// `AllocError` if memory is refused.
 pub(crate) fn opening<'a>(
     alloc: Global,
     setup: &Setup<'a>,

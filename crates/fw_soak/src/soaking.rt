@@ -1,4 +1,4 @@
-//! Many rough runs, each checked.
+//! Many runs over rough links, each checked.
 
 ghost use Rattle.std.specs.Prelude.{◌≡◌, IfOk, None, OnOk, map, option_map};
 ghost use Rattle.fw_script.specs.Seen.{device_of};
@@ -16,22 +16,22 @@ use fw_world::Step;
 use fwupd_base::Roughness;
 use std::alloc::{AllocError, Global};
 
-/// What many runs came to.
+/// The result of many runs.
 #[derive(Drop)]
 pub struct Soaked {
-    /// What is said of them.
+    /// The totals of the runs.
     pub summary: Summary,
-    /// The steps of the first run in which the checker found something wrong, if there is one.
+    /// The steps of the first run with a violation, if any.
     pub kept: Option<Vec<Step>>,
 }
 
-/// Looks on while runs are made.
+/// An observer of the runs.
 pub trait SoakObserver {
-    /// Sees what is said of the runs so far.
+    /// Observes the totals of the runs so far.
     fn see(&mut self, summary: &Summary);
 }
 
-/// What is said of runs with one more, which ended clean or not.
+/// The totals with one more run, which ended clean or not.
 fn with_run(
     alloc: Global,
     summary: Summary,
@@ -65,7 +65,7 @@ fn with_run(
 }
 
 impl Soaked {
-    /// Before the first run.
+    /// Creates the result before the first run.
     fn new() -> Soaked
         ensures summary { result.summary ≡ no_runs }
         ensures kept { result.kept ≡ None }
@@ -84,7 +84,7 @@ impl Soaked {
         }
     }
 
-    /// One more run was made.
+    /// Adds a run.
     fn add(&mut self, alloc: Global, course: SoakCourse<'_>, clean: bool) -> Result<(), AllocError>
         ensures summary { OnOk result (self.new.summary ≡ with_run clean self.old.summary course.entry) }
         ensures kept { OnOk result (option_map (λ k. k.items) self.new.kept ≡ first_kept_with clean (option_map (λ k. k.items) self.old.kept) course.entry) }
@@ -97,12 +97,12 @@ impl Soaked {
     }
 }
 
-/// Makes so many runs of a setup over links that are so rough, with restarts of each node, cancels, bad verdicts and failing banks at
-/// random moments, and looks after each whether the checker finds something wrong. The same roughness, which has a seed, gives the
-/// same again.
+/// Makes `runs` runs of a setup over rough links, and checks each. Nodes restart, updates are
+/// canceled, verdicts are bad and banks fail, all at random moments. The same roughness, which
+/// contains the seed, gives the same result.
 ///
 /// # Errors
-/// `AllocError` where memory is refused.
+/// `AllocError` if memory is refused.
 #[tactic(auto, using(crate::proofs::Summing::summing))]
 pub fn soak<V: SoakObserver>(
     alloc: Global,

@@ -1,4 +1,4 @@
-//! What is said of many runs.
+//! The totals of many runs.
 
 ghost use Rattle.std.specs.Prelude.{◌≡◌, IfOk, OnOk};
 ghost use Rattle.fw_text.specs.Printing.{AppendsText, word_and_number};
@@ -7,20 +7,20 @@ ghost use Rattle.fw_soak.specs.SummaryTexts.{line_of, summary_text};
 use fw_text::{push_number, push_words};
 use std::alloc::{AllocError, Global};
 
-/// What is said of many runs. A count stops at its last value.
+/// The totals of many runs. Each count stops at 2^64 - 1.
 #[derive(Clone, Copy, PartialEq, Eq)]
 pub struct Summary {
-    /// The runs.
+    /// The number of runs.
     pub runs: u64,
-    /// The images that devices activated.
+    /// The number of images that devices activated.
     pub activations: u64,
-    /// The packets that never came.
+    /// The number of packets that were never delivered.
     pub losses: u64,
-    /// How often a node started anew.
+    /// The number of restarts of nodes.
     pub restarts: u64,
-    /// The ticks of the longest update, from its start until the operator had the device activate.
+    /// The duration of the longest update in ticks, from its start to the operator's activation.
     pub longest: u64,
-    /// The runs in which the checker found something wrong.
+    /// The number of runs that the checker found not clean.
     pub violations: u64,
 }
 
@@ -33,10 +33,10 @@ fn push_line(alloc: Global, text: &mut Vec<u8>, word: &str, number: u64) -> Resu
     Ok(())
 }
 
-/// The lines of a summary.
+/// Returns the lines of the totals.
 ///
 /// # Errors
-/// `AllocError` where memory for them is refused.
+/// `AllocError` if memory is refused.
 pub fn summary_text(alloc: Global, summary: &Summary) -> Result<Vec<u8>, AllocError>
     ensures { IfOk result (λ text. text.items ≡ summary_text summary.now) }
 {

@@ -1,4 +1,4 @@
-//! The packets of a run, and what becomes of them.
+//! The packets of a run, and their fates.
 
 ghost use Rattle.fw_soak.specs.Courses.{ContinuesRun};
 
@@ -11,10 +11,10 @@ use fwupd_base::Roughness;
 use std::alloc::{AllocError, Global};
 use std::collections::VecDeque;
 
-/// How often each link is looked at in a turn: what two nodes have to say to each other in one takes far less.
+/// The number of rounds in a turn; two nodes need far fewer to finish an exchange.
 const ROUNDS: u16 = 1024;
 
-/// A packet, by its pair, its number, and the node that it comes to.
+/// A packet, by its pair, its number, and the node that receives it.
 #[derive(Clone, Copy)]
 struct Arrival {
     pair: u8,
@@ -26,20 +26,20 @@ struct Arrival {
 #[derive(Clone, Copy)]
 struct Late {
     arrival: Arrival,
-    /// The unit of time at which it comes.
+    /// The tick at which it is delivered.
     due: u32,
 }
 
-/// The links of a run: which packets have met their fate, and which are held back.
+/// The links of a run: how many packets have a fate, and the packets held back.
 #[derive(Drop)]
 pub(crate) struct Traffic {
     roughness: Roughness,
-    /// How many packets of each pair have met their fate, in configured order.
+    /// The number of packets of each pair that have a fate, in configured order.
     met: Vec<usize>,
     late: VecDeque<Late>,
 }
 
-/// The packet of the pair at a place that stands behind so many.
+/// The packet of the pair at `place` after the first `met`.
 fn next_of(world: &World<'_, FailBank>, place: usize, met: usize) -> Option<Arrival> {
     let device = world.device_at(place)?.eid();
     let packets = world.packets_at(place)?;
@@ -56,7 +56,7 @@ fn next_of(world: &World<'_, FailBank>, place: usize, met: usize) -> Option<Arri
     })
 }
 
-/// A packet comes.
+/// Delivers a packet, if it is allowed.
 #[tactic(auto, using(crate::proofs::Coursing::going))]
 fn arrive(course: &mut SoakCourse<'_>, arrival: Arrival) -> Result<(), AllocError>
     ensures { ContinuesRun course.old course.new }
@@ -66,10 +66,10 @@ fn arrive(course: &mut SoakCourse<'_>, arrival: Arrival) -> Result<(), AllocErro
 }
 
 impl Traffic {
-    /// The links of so many devices on which nothing was sent.
+    /// Creates the links of `devices` devices, without packets.
     ///
     /// # Errors
-    /// `AllocError` where memory for them is refused.
+    /// `AllocError` if memory is refused.
     pub(crate) fn new(
         alloc: Global,
         roughness: Roughness,
@@ -84,7 +84,7 @@ impl Traffic {
         })
     }
 
-    /// A copy of a packet comes at once, or is held back for so many turns.
+    /// Delivers a copy of a packet at once, or holds it back for some turns.
     #[tactic(auto, using(crate::proofs::Coursing::going))]
     fn send(
         &mut self,
@@ -104,7 +104,7 @@ impl Traffic {
         Ok(())
     }
 
-    /// A packet that is sent meets its fate.
+    /// Gives a sent packet its fate.
     #[tactic(auto, using(crate::proofs::Coursing::going))]
     fn meet(
         &mut self,
@@ -124,7 +124,7 @@ impl Traffic {
         }
     }
 
-    /// The next packet of the pair at a place meets its fate, if there is one.
+    /// Gives the next packet of the pair at `place` its fate, if there is one.
     #[tactic(auto, using(crate::proofs::Coursing::going))]
     fn meet_next(
         &mut self,
@@ -145,7 +145,7 @@ impl Traffic {
         Ok(true)
     }
 
-    /// The next packet of each pair meets its fate. Whether there was one.
+    /// Gives the next packet of each pair its fate. Returns whether there was one.
     #[tactic(auto, using(crate::proofs::Coursing::going))]
     fn meet_round(
         &mut self,
@@ -163,7 +163,7 @@ impl Traffic {
         Ok(any)
     }
 
-    /// What is held back and due comes.
+    /// Delivers the held-back packets that are due.
     #[tactic(auto, using(crate::proofs::Coursing::going))]
     fn release(&mut self, course: &mut SoakCourse<'_>) -> Result<(), AllocError>
         ensures { ContinuesRun course.old course.new }
@@ -184,10 +184,11 @@ impl Traffic {
         Ok(())
     }
 
-    /// What is due comes, and what is sent meets its fate, until nothing more is sent.
+    /// Delivers the packets that are due, and gives sent packets their fate, until nothing more is
+    /// sent.
     ///
     /// # Errors
-    /// `AllocError` where memory is refused.
+    /// `AllocError` if memory is refused.
     #[tactic(auto, using(crate::proofs::Coursing::going))]
     pub(crate) fn exchange(
         &mut self,
@@ -205,10 +206,10 @@ impl Traffic {
         Ok(())
     }
 
-    /// A packet that was sent comes once more, whichever it is. It isn't taken where it is too old.
+    /// Delivers a random packet once more. It isn't delivered if it is too old.
     ///
     /// # Errors
-    /// `AllocError` where memory is refused.
+    /// `AllocError` if memory is refused.
     #[tactic(auto, using(crate::proofs::Coursing::going))]
     pub(crate) fn repeat(
         &self,

@@ -1,4 +1,4 @@
-//! The turns of a run, in which all goes wrong that may.
+//! The turns of a run, with every kind of fault.
 
 ghost use Rattle.std.specs.Prelude.{◌<◌, IfOk, map};
 ghost use Rattle.fw_script.specs.Seen.{device_of};
@@ -17,32 +17,34 @@ use fwupd_base::Roughness;
 use std::alloc::{AllocError, Global};
 use ua_core::SessionState;
 
-/// How many turns a run has at most: three images of the largest size take about 66,000.
+/// The most turns of a run; three images of the largest size take about 66,000.
 const TURNS: u32 = 80_000;
 
 /// A run has fewer upsets than this.
 const UPSETS: u32 = 8;
 
-/// How many powers of two there are from 16 to 2,048: so many turns pass between two upsets, on the average.
+/// The number of powers of two from 16 to 2,048. One of them is the average number of turns between
+/// two upsets.
 const RARENESS: u32 = 8;
 
-/// How many turns pass until the operator starts an update again that the agent doesn't know any more, on the average.
+/// The average number of turns until the operator restarts an update that a restarted agent has
+/// forgotten.
 const PAUSE: u32 = 8;
 
-/// Among how many verdicts one is bad.
+/// One verdict in this number is bad, on average.
 const BAD: u32 = 16;
 
-/// What upsets a run.
+/// The upsets of a run.
 #[derive(Clone, Copy)]
 struct Upsets {
-    /// How many are left.
+    /// The number of remaining upsets.
     left: u32,
-    /// One turn among so many has one.
+    /// One turn in this number has an upset, on average.
     among: u32,
 }
 
 impl Upsets {
-    /// Those of a run, by chance.
+    /// Draws the upsets of a run.
     fn new(chances: &mut Chances) -> Upsets {
         Upsets {
             left: chances.below(UPSETS),
@@ -50,7 +52,7 @@ impl Upsets {
         }
     }
 
-    /// Whether one comes now.
+    /// Whether an upset occurs in this turn.
     fn comes(&mut self, chances: &mut Chances) -> bool {
         if self.left == 0 || self.among == 0 || !chances.one_in(self.among) {
             return false;
@@ -60,7 +62,7 @@ impl Upsets {
     }
 }
 
-/// How the session with the device at a place stands.
+/// The state of the session with the device at `place`.
 fn state_at(world: &World<'_, FailBank>, place: usize) -> Option<SessionState> {
     let device = world.device_at(place)?.eid();
     Some(world.agent().session(device)?.state())
@@ -77,7 +79,7 @@ fn all_over(world: &World<'_, FailBank>) -> bool {
     true
 }
 
-/// The operator starts the update of the device at a place with some package, if the session is free.
+/// Starts the update of the device at `place` with a random package, if the session is free.
 #[tactic(auto, using(crate::proofs::Coursing::going))]
 fn start(
     course: &mut SoakCourse<'_>,
@@ -97,7 +99,7 @@ fn start(
     Ok(())
 }
 
-/// The operator starts the update of each device, each by one chance in so many.
+/// Starts the update of each device, each with a probability of 1 in `times`.
 #[tactic(auto, using(crate::proofs::Coursing::going))]
 fn start_some(
     course: &mut SoakCourse<'_>,
@@ -117,7 +119,8 @@ fn start_some(
     Ok(())
 }
 
-/// The operator starts the updates of which the agent knows nothing any more, since it started anew, each by one chance in so many.
+/// Starts each update that a restarted agent has forgotten, each with a probability of 1 in
+/// `PAUSE`.
 #[tactic(auto, using(crate::proofs::Coursing::going))]
 fn start_idle(
     course: &mut SoakCourse<'_>,
@@ -135,7 +138,7 @@ fn start_idle(
     Ok(())
 }
 
-/// The verdict that the device at a place waits for: mostly that all is well.
+/// The verdict that the device at `place` waits for; most are successes.
 fn verdict_at(world: &World<'_, FailBank>, place: usize, chances: &mut Chances) -> Option<Step> {
     let node = world.device_at(place)?;
     let device = node.device();
@@ -150,7 +153,7 @@ fn verdict_at(world: &World<'_, FailBank>, place: usize, chances: &mut Chances) 
     Some(Step::Verdict(node.eid(), verdict))
 }
 
-/// The activation that the session with the device at a place waits for.
+/// The activation that the session with the device at `place` waits for.
 fn activation_at(world: &World<'_, FailBank>, place: usize) -> Option<Step> {
     match state_at(world, place)? {
         SessionState::AllApplied => Some(Step::Activate(world.device_at(place)?.eid())),
@@ -158,7 +161,7 @@ fn activation_at(world: &World<'_, FailBank>, place: usize) -> Option<Step> {
     }
 }
 
-/// Each device has the verdict that it waits for, and each session that waits for that has its device activate.
+/// Gives each waiting device its verdict, and activates each waiting session.
 #[tactic(auto, using(crate::proofs::Coursing::going))]
 fn attend(course: &mut SoakCourse<'_>, chances: &mut Chances) -> Result<(), AllocError>
     ensures { ContinuesRun course.old course.new }
@@ -174,7 +177,7 @@ fn attend(course: &mut SoakCourse<'_>, chances: &mut Chances) -> Result<(), Allo
     Ok(())
 }
 
-/// The agent or a device starts anew, an update is cancelled, or a packet comes once more.
+/// Restarts the agent or a device, cancels an update, or repeats a packet.
 #[tactic(auto, using(crate::proofs::Coursing::going))]
 fn upset(
     course: &mut SoakCourse<'_>,
@@ -198,7 +201,7 @@ fn upset(
     Ok(())
 }
 
-/// A turn: a tick, packets, verdicts and activations; and by chance an upset.
+/// A turn: a tick, packets, verdicts and activations, and at random an upset.
 #[tactic(auto, using(crate::proofs::Coursing::going))]
 fn turn(
     course: &mut SoakCourse<'_>,
@@ -217,7 +220,8 @@ fn turn(
     Ok(())
 }
 
-/// Takes turns until each session is Done or Failed and the operator lets it be. Without a package there is nothing to do.
+/// Takes turns until each session is Done or Failed and the operator starts no more. Without a
+/// package there are none.
 #[tactic(auto, using(crate::proofs::Coursing::going))]
 fn take_turns(
     course: &mut SoakCourse<'_>,
@@ -245,10 +249,11 @@ fn take_turns(
     Ok(())
 }
 
-/// A run of a setup over links that are so rough: its seed and its number say all its chances.
+/// Makes a run of a setup over rough links. The seed and the run's number determine all random
+/// numbers.
 ///
 /// # Errors
-/// `AllocError` where memory is refused.
+/// `AllocError` if memory is refused.
 #[tactic(auto, using(crate::proofs::Coursing::goes_from))]
 pub(crate) fn run<'a>(
     alloc: Global,

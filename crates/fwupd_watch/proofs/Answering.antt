@@ -1,4 +1,4 @@
--- How far answers are.
+-- The state of the answers.
 use Rattle.std.proofs.Common.{◌≡◌, ◌≢◌, ◌++◌, ◌∙◌, ℕ, List, [], false, true, Option, Some, None, Result, Ok, Err, inl, inr, append-nil, ap, take, subst, sym, refl}
 use Rattle.std.specs.Prelude.{IfErr, OnOk}
 use Rattle.std.specs.Io.KnownBytes.{Appends, Keeps, append_known}
@@ -11,12 +11,12 @@ use Rattle.fwupd_watch.specs.Answering.{AnswerEnds, IsAnswered}
 use Rattle.fwupd_watch.specs.Outputs.{OutputOf}
 use Rattle.fwupd_watch.specs.declared.faults.RunFault.TheVariants as faults
 
--- what is held back, of nothing
+-- nothing is held back
 pub held_none : (known : Option (List ℕ)) (held : List ℕ) → held ≡ [] → append_known known held ≡ known
 held_none None held e = refl
 held_none (Some xs) held e = ap Some (ap (λ ys. xs ++ ys) e ∙ append-nil xs)
 
--- what is appended stays so where it is kept
+-- appended bytes stay if they are kept
 appends_kept : (before w v : Option (List ℕ)) (text : List ℕ) → Appends before w text → Keeps w v → Appends before v text
 appends_kept None w v text h k = tt
 appends_kept (Some xs) None v text h k = absurd h
@@ -62,14 +62,14 @@ broken_kept e rb rn before w v h k = record {
   off = off_kept e h.text before w v h.off k;
 }
 
--- how far the answers are, where what is written is kept
+-- the state of the answers stays if the written bytes are kept
 answered_kept : (e : Endpoint) (end : Result Unit AnswerFault) (rb rn before w v : Option (List ℕ)) → IsAnswered e end rb rn before w → Keeps w v → IsAnswered e end rb rn before v
 answered_kept e (Ok u) rb rn before w v h k = all_kept e rb rn before w v h k
 answered_kept e (Err answers.Read) rb rn before w v h k = stopped_kept e answers.Read rb rn before w v h k
 answered_kept e (Err answers.Write) rb rn before w v h k = broken_kept e rb rn before w v h k
 answered_kept e (Err answers.Memory) rb rn before w v h k = stopped_kept e answers.Memory rb rn before w v h k
 
--- the clauses of a run of answers, in one
+-- the clauses of a run of answers, joined
 pub answered_so : (e : Endpoint) (end : Result Unit AnswerFault) (rb rn before w : Option (List ℕ))
     → OnOk end (AnswerOk e rb rn before w)
     → IfErr end (λ f. f ≢ answers.Write → AnswerErr e f rb rn before w)
@@ -95,7 +95,7 @@ answers_break e end rb rn known w before now kept held intact is none failed h k
       (subst (λ o. IsAnswered e end rb rn o w) (held_none known kept none ∙ sym is) h) k;
 }))
 
--- none did
+-- no write failed
 answers_stop : (e : Endpoint) (fault : AnswerFault) (rb rn known w : Option (List ℕ)) (before now : OutputOf) (kept held : List ℕ)
     → before.is_broken ≡ false → before.written ≡ known → kept ≡ [] → held ≡ [] → now.is_broken ≡ false → AnswerErr e fault rb rn (append_known known kept) w
     → Keeps w (append_known now.written held) → fault ≢ answers.Write → AnswerEnds e rb rn (faults.Answer fault) before now

@@ -1,4 +1,4 @@
--- Of files of which nothing is known anything may be so.
+-- Any fact may hold of files that are unknown.
 use Rattle.std.proofs.Common.{[], None, inl, refl}
 use Rattle.fwupd_watch.specs.Files.{IsInFolder, IsOnePlace, FilePlaceOf, any_file}
 use Rattle.fwupd_watch.specs.declared.files.FileIdentity.{FileIdentity}

@@ -1,4 +1,4 @@
--- With what a file may begin of which nothing is known.
+-- The beginnings that an unknown file may have.
 use Rattle.std.proofs.Common.{◌≡◌, ◌≤◌, ◌<◌, ◌-◌, ◌+◌, ◌++◌, ◌∙◌, ℕ, zero, suc, List, None, Some, Option, IfSome, [], ◌∷◌, length, take, arith, ap, refl, sym}
 use Rattle.std.specs.List.{repeat}
 use Rattle.std.proofs.lemmas.List.{length-append, take_all}
@@ -11,11 +11,11 @@ many : (n : ℕ) → length {A = ℕ} (repeat n (0 ∷ [])) ≡ n
 many zero = refl
 many (suc n) = ap suc (many n)
 
--- it has no other bytes
+-- the file has no other bytes
 pub may_begin_whole : (bytes : List ℕ) → length bytes ≤ 65535 → MayBegin any_file bytes (length bytes)
 may_begin_whole bytes few = record { bytes = bytes; held = tt; is = record { begins = sym (take_all 65535 bytes few); long = refl } }
 
--- or has others
+-- or it has others
 pub may_begin_longer : (bytes : List ℕ) (size : ℕ) → length bytes ≡ 65535 → 65535 < size → MayBegin any_file bytes size
 may_begin_longer bytes size is longer =
     let rest : List ℕ = repeat (size - 65535) (0 ∷ []) in
@@ -26,7 +26,7 @@ may_begin_longer bytes size is longer =
       is = record { begins = sym (ap (λ n. take n (bytes ++ rest)) (sym is) ∙ take-append_seam bytes rest); long = long };
     }
 
--- the first bytes of what a reader gave, which are all
+-- the first bytes of a reader, which are all
 pub first_all : (before now : Option (List ℕ)) (bytes : List ℕ) (most : ℕ) → length bytes ≤ most → Consumes before now bytes → IsAtEnd now → IfSome before (λ given. bytes ≡ take most given)
 first_all None now bytes most few came end = tt
 first_all (Some given) None bytes most few came end = absurd came
@@ -34,7 +34,7 @@ first_all (Some given) (Some rest) bytes most few came end =
     let whole : given ≡ bytes = came ∙ ap (λ l. bytes ++ l) end ∙ append-nil bytes in
     sym (ap (take most) whole ∙ take_all most bytes few)
 
--- or as many as were asked for
+-- or as many as were requested
 pub first_full : (before now : Option (List ℕ)) (bytes : List ℕ) (most : ℕ) → length bytes ≡ most → Consumes before now bytes → IfSome before (λ given. bytes ≡ take most given)
 first_full None now bytes most full came = tt
 first_full (Some given) None bytes most full came = absurd came

@@ -1,4 +1,4 @@
--- Steps that are noted, portion by portion.
+-- Steps that are recorded in portions.
 use Rattle.std.proofs.Common.{◌≡◌, ◌++◌, ◌∙◌, ℕ, List, [], ◌∷◌, Option, Some, None, Result, Ok, Err, OnOk, ap, subst, sym, refl}
 use Rattle.std.specs.Prelude.{IfErr, IfSome}
 use Rattle.std.specs.Io.KnownBytes.{Appends}
@@ -14,12 +14,12 @@ use Rattle.fw_steps.specs.declared.step.Step.{Step}
 use Rattle.fwupd_watch.specs.Recordings.{WritesHeldTicksIfAny, WritesHeldTicks, IsNewRecording, HasRecordedSteps, RecordsStepsIfAny, RecordsRun, RecordingOf, RecordsSteps, recording_of}
 use Rattle.fwupd_watch.specs.declared.running.ObserverFault.{ObserverFault}
 
--- steps of two lists can be said
+-- steps of two lists can be encoded
 both_sayable : (front back : List Step) → StepsRoundTrip front → StepsRoundTrip back → StepsRoundTrip (front ++ back)
 both_sayable [] back h k = k
 both_sayable (step ∷ front) back h k = (h.0, both_sayable front back h.1 k)
 
--- one portion behind another
+-- one portion after another
 writes_on : PortionsAreTheWhole → (r s t : RecordingOf) (ss ts : List Step) → RecordsSteps r s ss → RecordsSteps s t ts → RecordsSteps r t (ss ++ ts)
 writes_on law r s t ss ts h k =
     let parts = law r.idle ss ts in
@@ -39,11 +39,11 @@ notes_on law (Some r) None c ss ts h k = absurd h
 notes_on law (Some r) (Some s) None ss ts h k = absurd k
 notes_on law (Some r) (Some s) (Some t) ss ts h k = writes_on law r s t ss ts h k
 
--- those of the starts
+-- the starts
 pub run_begun : (w v : WorldOf) (a b : Option RecordingOf) (listed slice ss : List Step) → slice ≡ listed → listed ≡ ss → Run w ss v → RecordsStepsIfAny a b slice → RecordsRun w v a b
 run_begun w v a b listed slice ss is same run noted = record { steps = ss; run = run; noted = subst (RecordsStepsIfAny a b) (is ∙ same) noted }
 
--- and those of a turn
+-- and the steps of a turn
 pub run_noted : PortionsAreTheWhole → (w v u : WorldOf) (a b c : Option RecordingOf) (before after slice : List Step) → RecordsRun w v a b → before ≡ [] → Drives v before u after → slice ≡ after → RecordsStepsIfAny b c slice
     → RecordsRun w u a c
 run_noted law w v u a b c before after slice h none k is noted = record {
@@ -52,13 +52,13 @@ run_noted law w v u a b c before after slice h none k is noted = record {
   noted = notes_on law a b c h.steps k.steps h.noted (subst (RecordsStepsIfAny b c) (is ∙ k.appended ∙ ap (λ ss. ss ++ k.steps) none) noted);
 }
 
--- those of starts of which not all were allowed
+-- and the starts of which not all were allowed
 pub run_broken : (w v : WorldOf) (a b : Option RecordingOf) (listed slice : List Step) (r : Result (Prim.Unit {0}) ObserverFault) (fault : Option ObserverFault) → slice ≡ listed → Run w listed v → OnOk r (RecordsStepsIfAny a b slice)
     → IfErr r (λ e. fault ≡ Some e) → fault ≡ None → RecordsRun w v a b
 run_broken w v a b listed slice (Ok u) fault is run noted bad none = record { steps = listed; run = run; noted = subst (RecordsStepsIfAny a b) is noted }
 run_broken w v a b listed slice (Err e) fault is run noted bad none = absurd (let had : Some e ≡ None = sym bad ∙ none in cc)
 
--- what looks on had no fault before it was let end
+-- the observer had no fault before its end
 pub none_before : (r : Result (Prim.Unit {0}) ObserverFault) (before now : Option ObserverFault) → IfSome before (λ f. r ≡ Err f) → IfErr r (λ e. now ≡ Some e) → now ≡ None → before ≡ None
 none_before r None now first bad none = refl
 none_before (Ok u) (Some f) now first bad none = absurd (let other : Ok u ≡ Err f = first in cc)
@@ -68,11 +68,11 @@ pub well_ended : (r : Result (Prim.Unit {0}) ObserverFault) (now : Option Observ
 well_ended (Ok u) now P bad none h = h
 well_ended (Err e) now P bad none h = absurd (let had : Some e ≡ None = sym bad ∙ none in cc)
 
--- none was taken
+-- no step was taken
 pub run_still : (w v u : WorldOf) (a b : Option RecordingOf) → RecordsRun w v a b → u ≡ v → RecordsRun w u a b
 run_still w v u a b h is = subst (λ x. RecordsRun w x a b) (sym is) h
 
--- where so many turns were taken
+-- if no turn was taken
 pub none_driven : (turns : ℕ) (w : WorldOf) (before : List Step) (old : LinksOf) (v : WorldOf) (after : List Step) (new : LinksOf) (foreign : ℕ) → turns ≡ 0 → DrivesTurns turns w before old v after new foreign → v ≡ w
 none_driven turns w before old v after new foreign none h = (subst (λ n. Turns n w before old v after new h.count) none h.turned).0
 
@@ -97,7 +97,7 @@ recorded_whole law w v (Some r) None c h k new = absurd h.noted
 recorded_whole law w v (Some r) (Some s) None h k new = absurd k
 recorded_whole law w v (Some r) (Some s) (Some t) h k new = whole law w v r s t h.steps h.run h.noted k new
 
--- into a file, of whose bytes nothing is known
+-- in a file of unknown content
 pub ended_in : (r : Result (Prim.Unit {0}) ObserverFault) (w v : Option (List ℕ)) (idle left : ℕ) (a : Option RecordingOf) (F : Type 0) → a ≡ Some (recording_of None None idle)
     → OnOk r (WritesHeldTicks (recording_of None w idle) (recording_of None v left)) → OnOk r (F → WritesHeldTicksIfAny a (Some (recording_of None None left)))
 ended_in (Ok u) w v idle left a F is h = λ given. rw is (record { begun = refl; text = tt; none_held = h.none_held })

@@ -1,9 +1,9 @@
--- What is written over one of several files.
+-- Outputs that may overwrite one of several files.
 use Rattle.std.proofs.Common.{◌≡◌, ◌<◌, ◌∙◌, ℕ, zero, suc, List, [], ◌∷◌, inl, inr, length, map, get_or, String, Global, ap, subst, arith}
 use Rattle.std.specs.Prelude.{string_bytes}
 use Rattle.fwupd_watch.specs.Files.{FileOf, IsOver, IsOverOne}
 
--- what is written is over the file of a path among texts
+-- an output may overwrite the file of a path among strings
 pub over_item : (files : List ℕ → FileOf) (written : List ℕ) (others : List (String Global)) (i : ℕ) (other : String Global) (name : List ℕ) → i < length others → other ≡ get_or others i other
     → name ≡ string_bytes other → IsOver files written name → IsOverOne files written (map (λ p. string_bytes p) others)
 over_item files written [] i other name lt is called h = absurd (omega arith)

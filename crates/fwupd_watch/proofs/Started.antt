@@ -1,4 +1,4 @@
--- Updates that are started one by one, and the steps that follow.
+-- Updates that are started one by one, and the steps after them.
 use Rattle.std.proofs.Common.{◌≡◌, ◌≢◌, ◌≤◌, ◌⊎◌, ◌+◌, ◌-◌, ◌^◌, ◌++◌, ◌∙◌, ℕ, zero, suc, List, [], ◌∷◌, Some, None, true, Result, Err, inl, inr, append_assoc, append-nil, arith, length, map, refl, sym, ap, subst, take}
 use Rattle.std.specs.Prelude.{IfErr, IfSome, Option, option_map, slice_get}
 use Rattle.std.proofs.Math.Seq.{take-length}
@@ -30,7 +30,7 @@ take_next [] i x e = absurd cc
 take_next (y ∷ ys) zero x e = ap (λ z. z ∷ []) (let same : Some y ≡ Some x = e in cc)
 take_next (y ∷ ys) (suc i) x e = ap (λ zs. y ∷ zs) (take_next ys i x e)
 
--- The updates of so many devices are started. A start changes no device.
+-- The updates of the first `place` devices are started. A start changes no device.
 pub record Begun (number : ℕ) (w : WorldOf) (place : ℕ) (v : WorldOf) : Type 0 where
   pub run : Run w (starts_of number (take place w.sites)) v
   pub same : v.sites ≡ w.sites
@@ -55,7 +55,7 @@ begun_more number w v u place x h e l = record {
   still = ap (λ y. y.history) l.after ∙ h.still;
 }
 
--- the device that stands at a place
+-- the device at a place
 pub node_there : (o : Option SiteOf) (n : DeviceNodeOf) → option_map (λ x. x.node) o ≡ Some n → (x : SiteOf) × (o ≡ Some x) × (x.node ≡ n)
 node_there None n e = absurd cc
 node_there (Some x) n e = (x, refl, (let same : Some x.node ≡ Some n = e in cc))
@@ -82,7 +82,7 @@ refused_at number w v place device n fault h at is refused =
       refused = subst (λ d. may_step v (steps.Start d number) ≡ Some fault) own refused;
     }
 
--- it isn't refused, but for want of memory
+-- it isn't refused, except for lack of memory
 not_other : (o : Option StepFault) (fault : StepFault) → (o ≡ Some refusals.Memory) ⊎ (o ≡ None) → fault ≢ refusals.Memory → o ≡ Some fault → ⊥
 not_other o fault (inl memory) other is = other (let same : Some fault ≡ Some refusals.Memory = sym is ∙ memory in cc)
 not_other o fault (inr none) other is = absurd (let bad : None ≡ Some fault = sym none ∙ is in cc)
@@ -107,7 +107,7 @@ allowed_at number w v place device n h at is refused =
           other;
     }
 
--- the steps that are listed led there
+-- the listed steps lead to the world
 pub begun_listed : (number : ℕ) (w v : WorldOf) (place : ℕ) (ss : List Step) → Begun number w place v → ss ≡ starts_of number (take place w.sites) → Run w ss v
 begun_listed number w v place ss h listed = subst (λ xs. Run w xs v) (sym listed) h.run
 
@@ -137,7 +137,7 @@ begun_reached number w v place h = record {
   all = inl refl;
 }
 
--- steps that are taken once all are started
+-- steps that are taken when all updates are started
 led : (number : ℕ) (w v : WorldOf) (ss : List Step) → Run w (starts_of number w.sites ++ ss) v → AreDriven ss → RunsSteps number w v
 led number w v ss run driven = record {
   started = length w.sites;
@@ -151,7 +151,7 @@ led number w v ss run driven = record {
 pub updates_none : (number : ℕ) (w v : WorldOf) → Run w (starts_of number w.sites) v → UpdatesDevices number w v 0
 updates_none number w v h = record { steps = []; run = subst (λ ss. Run w ss v) (sym (append-nil (starts_of number w.sites))) h; driven = refl; ticks_are = refl }
 
--- steps are taken over links, with so many ticks
+-- steps are taken over links, with `more` ticks
 pub updates_more : (number : ℕ) (w v u : WorldOf) (ticks more : ℕ) (before after : List Step) → UpdatesDevices number w v ticks → before ≡ [] → Drives v before u after → ticks_in after ≡ ticks_in before + more → UpdatesDevices number w u (ticks + more)
 updates_more number w v u ticks more before after h none k counts = record {
   steps = h.steps ++ k.steps;
@@ -167,7 +167,7 @@ updates_more number w v u ticks more before after h none k counts = record {
       sum_by-append tick_in h.steps k.steps ∙ omega arith;
 }
 
--- whatever was done, steps led there
+-- in each case, steps lead to the world
 pub updates_reached : (number : ℕ) (w v : WorldOf) (ticks : ℕ) → UpdatesDevices number w v ticks → RunsSteps number w v
 updates_reached number w v ticks h = led number w v h.steps h.run h.driven
 
@@ -178,14 +178,14 @@ updates_off number w v u ticks before after h k =
     (run_append w v u (starts_of number w.sites ++ h.steps) k.steps h.run k.run))
     (driven_append h.steps k.steps h.driven k.driven)
 
--- what looks on saw each tick
+-- the observer saw each tick
 pub updates_seen : (number : ℕ) (w v : WorldOf) (ticks seen : ℕ) → UpdatesDevices number w v ticks → seen ≡ ticks → RunsStepsSeen number w v seen
 unfolding updates_reached led
 updates_seen number w v ticks seen h is =
     let all : ticks_in (updates_reached number w v ticks h).steps ≡ ticks = h.ticks_are in
     record { lead = updates_reached number w v ticks h; each = omega arith; few = omega arith }
 
--- also of a turn that stopped, or was over before it began
+-- also a turn that stopped, or was over before it began
 pub updates_seen_off : (number : ℕ) (w v u : WorldOf) (ticks seen : ℕ) (before after : List Step) → UpdatesDevices number w v ticks → before ≡ [] → Drives v before u after → ticks_in after ≤ ticks_in before + 1
     → seen ≡ ticks + 1 → RunsStepsSeen number w u seen
 unfolding updates_off led
@@ -197,14 +197,14 @@ updates_seen_off number w v u ticks seen before after h none k few is =
     let sum : ticks_in (updates_off number w v u ticks before after h k).steps ≡ ticks_in h.steps + ticks_in k.steps = sum_by-append tick_in h.steps k.steps in
     record { lead = updates_off number w v u ticks before after h k; each = omega arith; few = omega arith }
 
--- before all are started, none
+-- no turn was observed before all updates are started
 pub begun_seen : (number : ℕ) (w v : WorldOf) (place : ℕ) → Begun number w place v → RunsStepsSeen number w v 0
 unfolding begun_reached
 begun_seen number w v place h =
     let none : ticks_in (begun_reached number w v place h).steps ≡ 0 = refl in
     record { lead = begun_reached number w v place h; each = omega arith; few = omega arith }
 
--- what ends the watch is told otherwise than what ends a turn
+-- an observer's fault differs from that of a turn
 pub watched_apart : (f : ObserverFault) (e : EdgeFault) → run_fault_of_observer f ≡ told.Edge e → ⊥
 watched_apart watches.Unwritten e h = cc
 watched_apart watches.Unlogged e h = cc
@@ -217,18 +217,18 @@ turned_apart edges.Frame fault seen e = rw e tt
 turned_apart edges.Step fault seen e = rw e tt
 turned_apart edges.Memory fault seen e = rw e tt
 
--- a link's fault is told as one, behind turns in which none failed
+-- a link's fault is reported as one, after turns in which none failed
 pub told_links : (e : EdgeFault) (fault : RunFault) (os ms ns : List ℕ) → fault ≡ run_fault_of e → ms ≡ os
     → (e ≡ edges.Frame → OneFailed ms ns) × (e ≢ edges.Frame → ns ≡ ms) → ReportsLinkFailures fault os ns
 told_links edges.Frame fault os ms ns e same h = (λ is. subst (λ xs. OneFailed xs ns) same (h.0 refl), λ other. absurd (other e))
 told_links edges.Step fault os ms ns e same h = (λ is. absurd (let no = sym e ∙ is in cc), λ other. h.1 (λ no. cc) ∙ same)
 told_links edges.Memory fault os ms ns e same h = (λ is. absurd (let no = sym e ∙ is in cc), λ other. h.1 (λ no. cc) ∙ same)
 
--- a fault of no watch
+-- a fault that isn't an observer's
 pub none_unwritten : (fault : RunFault) (seen : Option ObserverFault) → observer_fault_of fault ≡ None → HasObserverFault fault seen
 none_unwritten fault seen e = rw e tt
 
--- what looks on can't be written
+-- an output of the observer can't be written
 pub unwritten_by : (f : ObserverFault) (seen : Option ObserverFault) (fault : RunFault) → fault ≡ run_fault_of_observer f → seen ≡ Some f → HasObserverFault fault seen
 unwritten_by watches.Unwritten seen fault e is = rw e is
 unwritten_by watches.Unlogged seen fault e is = rw e is
@@ -236,7 +236,7 @@ unwritten_by watches.Unrecorded seen fault e is = rw e is
 unwritten_by watches.Unkept seen fault e is = rw e is
 unwritten_by watches.Memory seen fault e is = rw e tt
 
--- and its first fault stays
+-- and its first fault is kept
 first_still : (r : Result (Prim.Unit {0}) ObserverFault) (old new : Option ObserverFault) (f : ObserverFault) → old ≡ Some f → IfSome old (λ g. r ≡ Err g) → IfErr r (λ g. new ≡ Some g) → new ≡ Some f
 first_still r old new f e first after =
     let is : r ≡ Err f = subst (λ o. IfSome o (λ g. r ≡ Err g)) e first in
@@ -259,11 +259,11 @@ pub caused_unwritten : (number : ℕ) (w v : WorldOf) (fault : RunFault) (watche
 caused_unwritten number w v fault watched (inl e) = rw e tt
 caused_unwritten number w v fault watched (inr h) = h.unwritten
 
--- as many counts as there are links, one a pair
+-- as many counts as there are links, one for each pair
 pub counted_alike : {A : Type 0} (sites : List SiteOf) (f : A → ℕ) (xs : List A) → length xs ≡ length sites → length (packet_counts sites) ≡ length (map f xs)
 counted_alike sites f xs e = map_length (λ x. length x.packets) sites ∙ sym e ∙ sym (map_length f xs)
 
--- a turn more is seen
+-- one more turn is observed
 pub seen_next : (old new n : ℕ) → n ≤ 80000 → old ≡ n → CountsOne old new → new ≡ n + 1
 seen_next old new n few is (inl more) = omega (arith, is, more)
 seen_next old new n few is (inr last) = absurd (omega (arith, is, last.0))

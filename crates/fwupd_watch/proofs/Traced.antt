@@ -14,7 +14,7 @@ use Rattle.fwupd_watch.proofs.Started.{take_next}
 use Rattle.fwupd_watch.specs.Traces.{packet_text, pair_text, pairs_text, reader_for, reader_next, reader_of_pair, reader_past, trace_text, written_at}
 use Rattle.fwupd_words.specs.declared.asked.TraceForm.{TraceForm}
 
--- the packets of a pair behind so many
+-- the packets of a pair after the first `written`
 pub pair_at : (form : TraceForm) (r : ReaderOf) (o : Option SiteOf) (n : DeviceNodeOf) (ps : List Sent) (written device : ℕ) → option_map (λ x. x.node) o ≡ Some n → option_map (λ x. x.packets) o ≡ Some ps
     → device ≡ n.endpoint.eid → pair_text form (Some r) o written ≡ trace_text form r device (written + 1) (drop written ps)
 pair_at form r None n ps written device at has is = absurd cc
@@ -28,7 +28,7 @@ reader_at form r None ps written has = absurd cc
 reader_at form r (Some x) ps written has =
     let packets : x.packets ≡ ps = (let h : Some x.packets ≡ Some ps = has in cc) in ap (λ qs. reader_past form r (drop written qs)) packets
 
--- one packet more
+-- one more packet
 text_next : (form : TraceForm) (r : ReaderOf) (device number place : ℕ) (ps : List Sent) (p : Sent) → slice_get ps place ≡ Some p
     → trace_text form r device number (drop place ps) ≡ packet_text form r device number p ++ trace_text form (reader_next form r p) device (number + 1) (drop (suc place) ps)
 text_next form r device number place [] p at = absurd (cc)
@@ -55,14 +55,14 @@ pub past_more : (form : TraceForm) (r s : ReaderOf) (place : ℕ) (ps : List Sen
 past_more form r s place ps p all at h next =
     let further : place + 1 ≡ suc place = omega arith in rw (further, next) (sym (past_next form r place ps p at) ∙ h)
 
--- and how many there are
+-- and the number of packets
 pub pair_size : (o : Option SiteOf) (ps : List Sent) (n : ℕ) → option_map (λ x. x.packets) o ≡ Some ps → n ≡ length ps → IfSome o (λ x. n ≡ length x.packets)
 pair_size None ps n has is = absurd cc
 pair_size (Some x) ps n has is =
     let packets : x.packets ≡ ps = (let h : Some x.packets ≡ Some ps = has in cc) in
     is ∙ ap length (sym packets)
 
--- one pair more
+-- one more pair
 pub pairs_more : (form : TraceForm) (readers : List ReaderOf) (before now after : Option (List ℕ)) (written : List ℕ) (sites : List SiteOf) (place : ℕ) → Appends before now (pairs_text form readers written sites place)
     → Appends now after (pair_text form (slice_get readers place) (slice_get sites place) (written_at written place)) → Appends before after (pairs_text form readers written sites (place + 1))
 pairs_more form readers before now after written sites place h k =
@@ -97,7 +97,7 @@ pair_done form r known o n ps written past at has =
 pub read_done : (form : TraceForm) (r : ReaderOf) (o : Option SiteOf) (ps : List Sent) (written : ℕ) → length ps ≤ written → option_map (λ x. x.packets) o ≡ Some ps → r ≡ reader_of_pair form r o written
 read_done form r o ps written past has = ap (reader_past form r) (sym (drop_beyond written ps past)) ∙ sym (reader_at form r o ps written has)
 
--- one pair more is counted
+-- one more pair is counted
 site_there : (xs : List SiteOf) (i : ℕ) → i < length xs → (x : SiteOf) × (slice_get xs i ≡ Some x)
 site_there [] i h = absurd (omega arith)
 site_there (x ∷ xs) zero h = (x, refl)
@@ -113,7 +113,7 @@ counts_more counts after sites place n lt e h is =
     ∙ sym (map-append (λ x. length x.packets) (take place sites) (there.0 ∷ []))
     ∙ ap packet_counts (sym (take_next sites place there.0 there.1)) ∙ ap (λ m. packet_counts (take m sites)) next
 
--- the readers of the pairs that aren't written yet are as they were
+-- the readers of the pairs that aren't written yet are unchanged
 get_drop : {A : Type 0} (n : ℕ) (xs : List A) → slice_get (drop n xs) zero ≡ slice_get xs n
 get_drop zero xs = refl
 get_drop (suc n) [] = refl
@@ -132,7 +132,7 @@ others_kept place now first r same =
     let further : place + 1 ≡ suc place = omega arith in
     drop-set-lt (place + 1) now place r (omega arith) ∙ rw further (drop_next place now ∙ ap (drop 1) same ∙ sym (drop_next place first))
 
--- one reader more
+-- one more reader
 made_next : (f : SiteOf → ReaderOf) (place : ℕ) (xs : List SiteOf) (x : SiteOf) → slice_get xs place ≡ Some x → map f (drop place xs) ≡ f x ∷ map f (drop (suc place) xs)
 made_next f place [] x at = absurd (cc)
 made_next f zero (y ∷ ys) x at = let same : y ≡ x = cc in ap (λ z. f z ∷ map f ys) same
@@ -149,6 +149,6 @@ readers_more w place n before after all r lt at is pushed h =
     rw (pushed, further) (append_assoc before (r ∷ []) (map (reader_for w) (drop (suc place) w.sites))
     ∙ ap (λ it. before ++ it) (ap (λ z. z ∷ map (reader_for w) (drop (suc place) w.sites)) made ∙ sym (made_next (reader_for w) place w.sites there.0 there.1)) ∙ h)
 
--- all are there
+-- each pair has a reader
 pub readers_all : (w : WorldOf) (place : ℕ) (now all : List ReaderOf) → length w.sites ≤ place → now ++ map (reader_for w) (drop place w.sites) ≡ all → now ≡ all
 readers_all w place now all past h = sym (append-nil now) ∙ ap (λ xs. now ++ map (reader_for w) xs) (sym (drop_beyond place w.sites past)) ∙ h

@@ -1,4 +1,4 @@
--- What a trace that has seen worlds writes of the next.
+-- The text that a trace that has observed worlds writes for the next.
 use Rattle.std.proofs.Common.{◌≡◌, ◌⊎◌, ◌<◌, ◌≤◌, ◌+◌, ◌++◌, inl, inr, ◌∙◌, ℕ, zero, suc, List, [], ◌∷◌, Option, None, Some, append_assoc, append-nil, arith, ap, drop, length, map, refl, subst, sym, take}
 use Rattle.std.specs.Prelude.{slice_get}
 use Rattle.std.specs.Io.KnownBytes.{Appends}
@@ -16,7 +16,7 @@ use Rattle.fwupd_watch.specs.Traces.{AreReaders, AreReadersOf, ContinuesPairs, C
 use Rattle.fwupd_words.specs.declared.asked.TraceForm.{TraceForm}
 use Rattle.fwupd_words.specs.declared.asked.TraceForm.TheVariants as forms
 
--- a reader that has read packets, and then others
+-- a reader that has read some packets, and then others
 past_all : (form : TraceForm) (r : ReaderOf) (ps qs : List Sent) → reader_past form r (ps ++ qs) ≡ reader_past form (reader_past form r ps) qs
 past_all form r [] qs = refl
 past_all form r (p ∷ ps) qs = past_all form (reader_next form r p) ps qs
@@ -26,7 +26,7 @@ behind_all form w x read =
     sym (past_all form (reader_for w x) (take read x.packets) (drop read x.packets))
     ∙ ap (reader_past form (reader_for w x)) (take-append-drop read x.packets ∙ sym (take_all (length x.packets) x.packets (omega arith)))
 
--- how many packets a pair has
+-- the number of packets of a pair
 count_at : (xs : List SiteOf) (place : ℕ) (x : SiteOf) → slice_get xs place ≡ Some x → written_at (packet_counts xs) place ≡ length x.packets
 count_at [] place x at = absurd (cc)
 count_at (y ∷ ys) zero x at = let same : y ≡ x = cc in ap (λ z. length z.packets) same
@@ -50,7 +50,7 @@ new_readers form w = record {
   each = λ place x at. new_at w w.sites place x at;
 }
 
--- none is added where each pair has one
+-- none is added if each pair has one
 drop_beyond : {A : Type 0} (n : ℕ) (xs : List A) → length xs ≤ n → drop n xs ≡ []
 drop_beyond zero [] h = refl
 drop_beyond (suc n) [] h = refl
@@ -60,7 +60,7 @@ drop_beyond (suc n) (x ∷ xs) h = drop_beyond n xs (omega arith)
 readers_kept : (w : WorldOf) (readers : List ReaderOf) → length readers ≡ length w.sites → readers_for readers w ≡ readers
 readers_kept w readers h = ap (λ xs. readers ++ map (reader_for w) xs) (drop_beyond (length readers) w.sites (omega arith)) ∙ append-nil readers
 
--- the readers of a world are those of the next, whose packets they haven't read yet
+-- the readers of a world are those of the next, whose new packets they haven't read
 same_reader : (v w : WorldOf) (x y : SiteOf) → w.agent.endpoint.eid ≡ v.agent.endpoint.eid → ContinuesPair x y → reader_for v x ≡ reader_for w y
 same_reader v w x y agent pair =
     ap (λ u. new_reader u v.agent.endpoint.eid x.node.endpoint.eid) (sym pair.unit)
@@ -91,7 +91,7 @@ readers_before form (v ∷ vs) w readers goes are =
     let on = readers_go_on form v w readers goes are in
     subst (AreReaders form w (packet_counts v.sites)) (sym (readers_kept w readers on.size)) on
 
--- what they tell of it
+-- the text that they give
 news_at : (form : TraceForm) (w : WorldOf) (written : ℕ) (o : Option ReaderOf) (s : Option SiteOf) → ((x : SiteOf) → s ≡ Some x → o ≡ Some (reader_after_packets form w x written)) → pair_text form o s written ≡ pair_news form w s written
 news_at form w written None None h = refl
 news_at form w written (Some r) None h = refl
@@ -114,7 +114,7 @@ readers_after form w written old new are on = record {
       ∙ ap (λ n. Some (reader_after_packets form w x n)) (sym (count_at w.sites place x at));
 }
 
--- so a trace goes on
+-- so a trace continues
 pub read_on : (form : TraceForm) (seen : List WorldOf) (w : WorldOf) (written counts : List ℕ) (readers new : List ReaderOf) → HasReadWorlds form seen written readers → ContinuesPairsIfAny seen w → counts ≡ packet_counts w.sites
     → ReadOn form written w.sites (length w.sites) (readers_for readers w) new → HasReadWorlds form (w ∷ seen) counts new
 read_on form seen w written counts readers new has goes are on = record {
@@ -138,7 +138,7 @@ traced_on form seen w written counts readers new before mid now has goes news ar
           (subst (Appends mid now) (told_news form w written (readers_for readers w) (length w.sites) here ∙ ap (λ ns. news_text form w ns (length w.sites)) has.read.counts) news);
     }
 
--- one pair more is read
+-- one more pair is read
 set_here : {A : Type 0} (xs : List A) (place : ℕ) (y : A) → place < length xs → slice_get (set xs place y) place ≡ Some y
 set_here [] place y h = absurd (omega arith)
 set_here (x ∷ xs) zero y h = refl
@@ -186,7 +186,7 @@ text_all form r device number (p ∷ ps) qs =
     ∙ sym (append_assoc (packet_text form r device number p) (trace_text form (reader_next form r p) device (number + 1) ps) (trace_text form (reader_past form (reader_next form r p) ps) device (length ps + (number + 1)) qs))
     ∙ ap (λ n. trace_text form r device number (p ∷ ps) ++ trace_text form (reader_past form (reader_next form r p) ps) device n qs) same
 
--- that of one device
+-- the text of one device
 news_one : (form : TraceForm) (w : WorldOf) (x : SiteOf) (written : List ℕ) → w.sites ≡ x ∷ [] → news_text form w written (length w.sites) ≡ pair_news form w (Some x) (written_at written 0)
 news_one form w x written one =
     ap (λ xs. news_text form w written (length xs)) one ∙ ap (λ xs. pair_news form w (slice_get xs 0) (written_at written 0)) one
@@ -223,7 +223,7 @@ told_alone w (v ∷ vs) x one go =
 pub texts_are_lines : TextsAreLines
 texts_are_lines w before x one go = told_alone w before x one go ∙ text_lines (reader_for w x) x.node.endpoint.eid 1 x.packets
 
--- what was lent is given back
+-- what was borrowed is returned
 pub lent_back : {A : Type 0} (len : ℕ) (lent new items : List A) → length new ≡ length lent → length lent ≡ len → take len (new ++ drop (length new) items) ≡ new
 lent_back len lent new items size is = subst (λ n. take n (new ++ drop (length new) items) ≡ new) (size ∙ is) (take-append_seam new (drop (length new) items))
 

@@ -1,4 +1,4 @@
--- What is written of the answers to what is read.
+-- The output of answering packets.
 use Rattle.std.specs.Prelude.{ℕ, ◌≡◌, ◌≢◌, ◌⊎◌, false, true, List, Option, Result, Ok, Err}
 use Rattle.std.specs.Io.KnownBytes.{append_known}
 use Rattle.mctp_ctl.specs.declared.answers.Endpoint.{Endpoint}
@@ -9,19 +9,20 @@ use Rattle.fwupd_watch.specs.Outputs.{OutputOf}
 use Rattle.fwupd_watch.specs.declared.faults.RunFault.{RunFault}
 use Rattle.fwupd_watch.specs.declared.faults.RunFault.TheVariants as faults
 
--- All that was read is answered, and no write failed.
+-- All input is answered, and no write failed.
 pub record AnswersAll (e : Endpoint) (read_before read_now : Option (List ℕ)) (before now : OutputOf) : Type 0 where
   pub intact : before.is_broken ≡ false
   pub whole : now.is_broken ≡ false
   pub answered : AnswerOk e read_before read_now before.written now.written
 
--- how far the answers are where answering ends so
+-- the state of the answers for a result of answering
 abbrev pub IsAnswered : Endpoint → Result Unit AnswerFault → (read_before read_now written_before written_now : Option (List ℕ)) → Type 0
 IsAnswered e (Ok _) read_before read_now written_before written_now = AnswerOk e read_before read_now written_before written_now
 IsAnswered e (Err answers.Write) read_before read_now written_before written_now = AnswerWriteErr e read_before read_now written_before written_now
 IsAnswered e (Err fault) read_before read_now written_before written_now = AnswerErr e fault read_before read_now written_before written_now
 
--- The reader failed, or memory was refused: each whole line before is answered, and that is written.
+-- The reader failed, or memory was refused: each whole line before is answered, and the answers are
+-- written.
 pub record AnswersStop (e : Endpoint) (read_before read_now : Option (List ℕ)) (told : RunFault) (before now : OutputOf) : Type 0 where
   pub fault : AnswerFault
   pub is : told ≡ faults.Answer fault
@@ -30,7 +31,7 @@ pub record AnswersStop (e : Endpoint) (read_before read_now : Option (List ℕ))
   pub whole : now.is_broken ≡ false
   pub stopped : AnswerErr e fault read_before read_now before.written now.written
 
--- A write failed. What is written, with what was held back and isn't, is the answers as far as they are.
+-- A write failed. The written bytes, with those still held back, are the answers so far.
 pub record AnswersBreak (e : Endpoint) (read_before read_now : Option (List ℕ)) (told : RunFault) (before now : OutputOf) : Type 0 where
   pub is : told ≡ faults.Answer answers.Write
   pub intact : before.is_broken ≡ false
@@ -46,7 +47,7 @@ pub record AnswersShut (read_before read_now : Option (List ℕ)) (told : RunFau
   pub same : now ≡ before
   pub unread : read_now ≡ read_before
 
--- How answering ends that doesn't end well.
+-- The result of answering that failed.
 abbrev pub AnswerEnds : Endpoint → (read_before read_now : Option (List ℕ)) → RunFault → (before now : OutputOf) → Type 0
 AnswerEnds e read_before read_now told before now =
     AnswersStop e read_before read_now told before now

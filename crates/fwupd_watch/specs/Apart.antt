@@ -1,4 +1,4 @@
--- That what is shown of a run is written over no file that it reads, over nothing else that is shown, and into no store.
+-- The outputs of a run overwrite neither its inputs nor each other, and are in no store.
 use Rattle.std.specs.Prelude.{ℕ, ◌⊎◌, Bool, List, Option, None, IfSome, IsSomeAnd}
 use Rattle.std.specs.List.{AllByRecursion}
 use Rattle.fwupd_watch.specs.Files.{FileOf, IsApartFrom, IsInFolder, IsOutsideFolder, IsOver, IsOverOne}
@@ -6,7 +6,8 @@ use Rattle.fwupd_watch.specs.Running.{HasObserverFault, MayRefuse, ShowOf, Obser
 use Rattle.fwupd_watch.specs.declared.faults.RunFault.{RunFault}
 use Rattle.fwupd_watch.specs.declared.faults.RunFault.TheVariants as faults
 
--- A file that is written, if one is, is over one of these, or over one of two others that are written; and it is over none.
+-- An output, if there is one, may overwrite one of the paths or one of two other outputs; or it
+-- overwrites none of them.
 abbrev pub IsOverUsed : (files : List ℕ → FileOf) (path first second : Option (List ℕ)) (paths : List (List ℕ)) → Type 0
 IsOverUsed files path first second paths =
     IsSomeAnd path (λ p. IsOverOne files p paths ⊎ (IsSomeAnd first (IsOver files p) ⊎ IsSomeAnd second (IsOver files p)))
@@ -15,29 +16,29 @@ abbrev pub IsApartFromUsed : (files : List ℕ → FileOf) (path first second : 
 IsApartFromUsed files path first second paths =
     IfSome path (λ p. AllByRecursion (IsApartFrom files p) paths × (IfSome first (IsApartFrom files p) × IfSome second (IsApartFrom files p)))
 
--- A file that is written, if one is, lies in the folder of stores, if there is one, or in a store; or outside of them.
+-- An output, if there is one, is in the folder of stores, if there is one, or in a store; or it is
+-- outside.
 abbrev pub IsInStore : (files : List ℕ → FileOf) (path store : Option (List ℕ)) → Type 0
 IsInStore files path store = IsSomeAnd path (λ p. IsSomeAnd store (λ s. IsInFolder (files p) (files s)))
 
 abbrev pub IsOutOfStore : (files : List ℕ → FileOf) (path store : Option (List ℕ)) → Type 0
 IsOutOfStore files path store = IfSome path (λ p. IfSome store (λ s. IsOutsideFolder (files p) (files s)))
 
--- Nothing is written over the files of these paths; the log's records not over the packets, and the steps over neither. Nothing of it
--- lies in a store.
+-- No output overwrites the files of these paths, the log's records don't overwrite the packets, and
+-- the steps overwrite neither. No output is in a store.
 abbrev pub IsApart : (files : List ℕ → FileOf) → ShowOf → List (List ℕ) → Type 0
 IsApart files show paths =
     (IsApartFromUsed files show.trace None None paths × IsOutOfStore files show.trace show.store)
     × ((IsApartFromUsed files show.log show.trace None paths × IsOutOfStore files show.log show.store)
     × (IsApartFromUsed files show.record_path show.trace show.log paths × IsOutOfStore files show.record_path show.store))
 
--- The file that what looks on can't write, where that is told, would be written over one of these; or the log's records over the
--- packets, or the steps over one of both; or it lies in a store.
+-- The output of this fault would overwrite one of the paths or another output, or is in a store.
 abbrev pub IsOverRead : (files : List ℕ → FileOf) → ShowOf → List (List ℕ) → RunFault → Type 0
 IsOverRead files show paths faults.Trace = IsOverUsed files show.trace None None paths ⊎ IsInStore files show.trace show.store
 IsOverRead files show paths faults.Log = IsOverUsed files show.log show.trace None paths ⊎ IsInStore files show.log show.store
 IsOverRead files show paths faults.Record = IsOverUsed files show.record_path show.trace show.log paths ⊎ IsInStore files show.record_path show.store
 IsOverRead files show paths told = ⊥
 
--- What looks on doesn't begin, and tells so.
+-- The observer doesn't begin, for this fault.
 abbrev pub IsBarred : (files : List ℕ → FileOf) (refuses : List ℕ → Bool) (show : ShowOf) (paths : List (List ℕ)) (told : RunFault) (watched : ObserverOf) → Type 0
 IsBarred files refuses show paths told watched = IsOverRead files show paths told ⊎ (HasObserverFault told watched.fault × MayRefuse refuses show told)

@@ -1,4 +1,4 @@
--- How far a device is, as the requests for bytes of its image say.
+-- The progress of a device, by the requests for bytes of its image.
 use Rattle.std.specs.Prelude.{ℕ, ◌==◌, ◌&&◌, ◌+◌, ◌++◌, codes, ◌-◌, ◌^◌, if◌then◌else◌, List, Option, None, Some, Result, Ok, Err, min}
 use Rattle.fwup_wire.specs.Commands.{command_read}
 use Rattle.fwup_wire.specs.Values.{CommandOf}
@@ -10,23 +10,23 @@ use Rattle.pldm_base.specs.Header.{pldm_of}
 use Rattle.pldm_base.specs.declared.header.PldmFault.{PldmFault}
 use Rattle.pldm_base.specs.declared.header.PldmHead.{PldmHead}
 
--- where the bytes end that a request is for, if it is RequestFirmwareData (DSP0267)
+-- the end of the requested bytes, if the request is RequestFirmwareData (DSP0267)
 abbrev pub end_of : Result CommandOf ℕ → Option ℕ
 end_of (Ok (CommandOf.RequestFirmwareData offset size)) = Some (min (offset + size) (2 ^ 32 - 1))
 end_of other = None
 
--- so of a message that comes from the device
+-- the same for a message from the device
 abbrev pub end_in : (device : ℕ) → Head → Result (PldmHead × List ℕ) PldmFault → Option ℕ
 end_in device h (Err fault) = None
 end_in device h (Ok m) = if h.source == device && m.0.rq && m.0.pldm_type == 5 then end_of (command_read m.0.command m.1) else None
 
--- and of a packet
+-- and for a packet
 abbrev pub end_asked : (device : ℕ) → Result (Head × List ℕ) WireFault → Option ℕ
 end_asked device (Err fault) = None
 end_asked device (Ok p) = end_in device p.0 (pldm_of p.1)
 
--- The line of a device that loads an image of this size for a component, of which it has asked for the bytes up to an end, which may lie
--- behind the image. It begins where the line before it began, and covers it.
+-- The line of a device that loads an image of `size` bytes for a component, and has requested bytes
+-- up to `asked`, which may be past the image's end. It overwrites the line before it.
 abbrev pub progress_line : (device : ℕ) → Key → (asked size : ℕ) → List ℕ
 progress_line device key asked size =
     word_and_number (codes "\rdevice ") device ++ word_and_number (codes " component ") key.classification ++ word_and_number (codes " ") key.identifier

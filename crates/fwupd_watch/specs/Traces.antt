@@ -1,4 +1,4 @@
--- What a trace says of the packets of a world.
+-- The text of a trace of a world's packets.
 use Rattle.std.specs.Prelude.{ℕ, zero, suc, ◌≡◌, ◌<◌, ◌+◌, ◌==◌, not, Bool, false, if◌then◌else◌, List, [], ◌∷◌, ◌++◌, Option, None, Some, codes, drop, length, map, slice_get, take}
 use Rattle.std.specs.Io.KnownBytes.{Appends}
 use Rattle.exch_lane.specs.Lanes.{Sent}
@@ -11,25 +11,27 @@ use Rattle.fwupd_words.specs.declared.asked.TraceForm.{TraceForm}
 use Rattle.fwupd_words.specs.declared.asked.TraceForm.TheVariants as forms
 use Rattle.hex.specs.Hex.{encode_upper}
 
--- a packet goes to the agent: its third byte names who sent it
+-- a packet goes to the agent: its third byte is its source
 abbrev pub is_to_agent : (device : ℕ) → List ℕ → Bool
 is_to_agent device (version ∷ dest ∷ source ∷ rest) = source == device
 is_to_agent device bytes = false
 
--- which way a packet goes
+-- the direction of a packet
 abbrev pub way_of : (device : ℕ) → List ℕ → List ℕ
 way_of device bytes = if is_to_agent device bytes then codes " to-agent " else codes " to-device "
 
--- a packet's line: the turn in which it was sent, the device of its pair, its way, and its bytes in digits
+-- a packet's line: the tick of sending, the device of its pair, its direction, and its bytes in
+-- digits
 unfoldable pub trace_line : (device : ℕ) → Sent → List ℕ
 trace_line device p =
     word_and_number [] p.date ++ word_and_number (codes " ") device ++ way_of device p.bytes ++ encode_upper p.bytes ++ codes "\n"
 
--- a packet as a capture has it: what goes to a device is sent by us
+-- a packet of a capture: what goes to a device is sent by us
 abbrev pub captured_as : (device : ℕ) → Sent → CapturedOf
 captured_as device p = record { turn = p.date; is_sent = not (is_to_agent device p.bytes); bytes = p.bytes }
 
--- what is written of a packet in a form: with lines that tell what packets say, by the reader of those before it, and with its number
+-- a packet in a format: decoded lines have the packet's number, and depend on the reader of the
+-- packets before it
 abbrev pub packet_text : TraceForm → ReaderOf → (device number : ℕ) → Sent → List ℕ
 packet_text forms.Hex reader device number p = trace_line device p
 packet_text forms.Text reader device number p = packet_line reader p.date number p.bytes
@@ -41,13 +43,13 @@ reader_next forms.Hex reader p = reader
 reader_next forms.Text reader p = reader_after reader p.bytes
 reader_next forms.Capture reader p = reader
 
--- what a trace begins with
+-- the beginning of a trace
 abbrev pub head_of : TraceForm → List ℕ
 head_of forms.Hex = []
 head_of forms.Text = []
 head_of forms.Capture = capture_header
 
--- what is written of packets, which count from a number on
+-- the text of packets numbered from `number`
 abbrev pub trace_text : TraceForm → ReaderOf → (device number : ℕ) → List Sent → List ℕ
 trace_text form reader device number [] = []
 trace_text form reader device number (p ∷ ps) = packet_text form reader device number p ++ trace_text form (reader_next form reader p) device (number + 1) ps
@@ -57,24 +59,24 @@ abbrev pub reader_past : TraceForm → ReaderOf → List Sent → ReaderOf
 reader_past form reader [] = reader
 reader_past form reader (p ∷ ps) = reader_past form (reader_next form reader p) ps
 
--- of a pair's packets behind so many, which are written already, by the reader that read those
+-- the text of a pair's packets after the first `written`, by the reader that read those
 abbrev pub pair_text : TraceForm → Option ReaderOf → Option SiteOf → (written : ℕ) → List ℕ
 pair_text form (Some reader) (Some x) written = trace_text form reader x.node.endpoint.eid (written + 1) (drop written x.packets)
 pair_text form reader site written = []
 
--- and the reader that has read those too
+-- and the reader after them
 abbrev pub reader_of_pair : TraceForm → ReaderOf → Option SiteOf → (written : ℕ) → ReaderOf
 reader_of_pair form reader None written = reader
 reader_of_pair form reader (Some x) written = reader_past form reader (drop written x.packets)
 
--- a reader for each pair: those that are there, and new ones behind them
+-- a reader for each pair: the existing ones, then new ones
 abbrev pub reader_for : WorldOf → SiteOf → ReaderOf
 reader_for w x = new_reader x.node.half.unit w.agent.endpoint.eid x.node.endpoint.eid
 
 abbrev pub readers_for : List ReaderOf → WorldOf → List ReaderOf
 readers_for readers w = readers ++ map (reader_for w) (drop (length readers) w.sites)
 
--- how many packets of the pair at a place are written: none where nothing is known of it
+-- the number of written packets of the pair at a place, or 0 if it isn't listed
 abbrev or_none : Option ℕ → ℕ
 or_none None = 0
 or_none (Some n) = n
@@ -82,47 +84,48 @@ or_none (Some n) = n
 abbrev pub written_at : (written : List ℕ) → (place : ℕ) → ℕ
 written_at written place = or_none (slice_get written place)
 
--- of the first so many pairs, in configured order
+-- the text of the first pairs, in configured order
 abbrev pub pairs_text : TraceForm → List ReaderOf → (written : List ℕ) → List SiteOf → ℕ → List ℕ
 pairs_text form readers written sites zero = []
 pairs_text form readers written sites (suc n) = pairs_text form readers written sites n ++ pair_text form (slice_get readers n) (slice_get sites n) (written_at written n)
 
--- The readers of the first so many pairs have read the packets behind those that are written.
+-- The readers of the first `count` pairs have read their unwritten packets.
 pub record ReadOn (form : TraceForm) (written : List ℕ) (sites : List SiteOf) (count : ℕ) (old new : List ReaderOf) : Type 0 where
   pub size : length new ≡ length old
   pub each : (place : ℕ) (r : ReaderOf) → place < count → slice_get old place ≡ Some r → slice_get new place ≡ Some (reader_of_pair form r (slice_get sites place) (written_at written place))
 
--- a new reader that has read the first so many packets of a pair, each once and in order
+-- a new reader that has read the first `read` packets of a pair, in order
 abbrev pub reader_after_packets : TraceForm → WorldOf → SiteOf → (read : ℕ) → ReaderOf
 reader_after_packets form w x read = reader_past form (reader_for w x) (take read x.packets)
 
--- Each pair has such a reader, which has read the packets that are written.
+-- Each pair has such a reader, which has read the written packets.
 pub record AreReaders (form : TraceForm) (w : WorldOf) (written : List ℕ) (readers : List ReaderOf) : Type 0 where
   pub size : length readers ≡ length w.sites
   pub each : (place : ℕ) (x : SiteOf) → slice_get w.sites place ≡ Some x → slice_get readers place ≡ Some (reader_after_packets form w x (written_at written place))
 
--- the lines of a pair's packets behind so many: each has its number among all of the pair, and tells what it says behind all of them
+-- The lines of a pair's packets after the first `written`. Each has its number among all packets of
+-- the pair, and is decoded after all before it.
 abbrev pub pair_news : TraceForm → WorldOf → Option SiteOf → (written : ℕ) → List ℕ
 pair_news form w None written = []
 pair_news form w (Some x) written = trace_text form (reader_after_packets form w x written) x.node.endpoint.eid (written + 1) (drop written x.packets)
 
--- those of the first so many pairs, in configured order
+-- the lines of the first pairs, in configured order
 abbrev pub news_text : TraceForm → WorldOf → (written : List ℕ) → ℕ → List ℕ
 news_text form w written zero = []
 news_text form w written (suc n) = news_text form w written n ++ pair_news form w (slice_get w.sites n) (written_at written n)
 
--- how many packets of each pair the last of these worlds has, which stands first
+-- the number of packets of each pair in the latest world, which is first in the list
 abbrev pub counts_of : List WorldOf → List ℕ
 counts_of [] = []
 counts_of (w ∷ ws) = packet_counts w.sites
 
--- What a trace is that has seen these worlds, the last one first: its head, and then for each world in its turn the lines of the
--- packets that the one before it didn't have.
+-- The text of a trace that has observed these worlds, the latest first: its header, and then for
+-- each world the lines of the packets that the world before it didn't have.
 abbrev pub trace_of : TraceForm → List WorldOf → List ℕ
 trace_of form [] = head_of form
 trace_of form (w ∷ ws) = trace_of form ws ++ news_text form w (counts_of ws) (length w.sites)
 
--- A pair goes on from what it was: its ends are the same, and its packets stand first.
+-- A pair continues another: its ends are the same, and its packets begin with the other's.
 pub record ContinuesPair (x y : SiteOf) : Type 0 where
   pub unit : y.node.half.unit ≡ x.node.half.unit
   pub eid : y.node.endpoint.eid ≡ x.node.endpoint.eid
@@ -138,31 +141,32 @@ abbrev pub ContinuesPairsIfAny : List WorldOf → WorldOf → Type 0
 ContinuesPairsIfAny [] w = Prim.Unit {0}
 ContinuesPairsIfAny (v ∷ vs) w = ContinuesPairs v w
 
--- the readers of a trace that has seen these worlds
+-- the readers of a trace that has observed these worlds
 abbrev pub AreReadersOf : TraceForm → List WorldOf → List ReaderOf → Type 0
 AreReadersOf form [] readers = readers ≡ []
 AreReadersOf form (w ∷ ws) readers = AreReaders form w (packet_counts w.sites) readers
 
--- A trace has seen these worlds, the last one first: so many packets of each pair are written, and its reader has read them.
+-- A trace has observed these worlds, the latest first: the numbers of written packets are those of
+-- the latest, and each reader has read them.
 pub record HasReadWorlds (form : TraceForm) (seen : List WorldOf) (written : List ℕ) (readers : List ReaderOf) : Type 0 where
   pub counts : written ≡ counts_of seen
   pub readers_are : AreReadersOf form seen readers
 
--- And what it has written is the lines of the packets that were sent so far.
+-- And the written text is the lines of the packets sent so far.
 pub record HasTracedWorlds (form : TraceForm) (seen : List WorldOf) (written : List ℕ) (readers : List ReaderOf) (before now : Option (List ℕ)) : Type 0 where
   pub read : HasReadWorlds form seen written readers
   pub text : Appends before now (trace_of form seen)
 
--- each of these worlds goes on from the one before it, which stands behind it
+-- each world in the list continues the next one, which came before it
 abbrev pub ContinueInOrder : List WorldOf → Type 0
 ContinueInOrder [] = Prim.Unit {0}
 ContinueInOrder (w ∷ ws) = ContinuesPairsIfAny ws w × ContinueInOrder ws
 
--- a packet as a reader is given it
+-- a packet as the input of a reader
 abbrev pub read_as : Sent → SentOf
 read_as p = record { turn = p.date; bytes = p.bytes }
 
--- A text trace that has seen a world of one device is the lines of all its packets, from the first on.
+-- A text trace that has observed a world of one device is the lines of all its packets.
 abbrev pub TextsAreLines : Type 0
 TextsAreLines = (w : WorldOf) (before : List WorldOf) (x : SiteOf) → w.sites ≡ x ∷ [] → ContinueInOrder (w ∷ before)
     → trace_of forms.Text (w ∷ before) ≡ lines_of (reader_for w x) 1 (map read_as x.packets)

@@ -1,4 +1,5 @@
-//! What is shown of a run is written over no file that it reads, over nothing else that is shown, and into no store.
+//! Checks that the outputs of a run overwrite neither its inputs nor each other, and are in no
+//! store.
 
 ghost use Rattle.std.specs.Prelude.{◌≡◌, ◌∷◌, ◌⊎◌, false, IfErr, IfOk, IfSome, IsSomeAnd, None, OnOk, map, option_map, string_bytes, true};
 ghost use Rattle.fwupd_watch.specs.Files.{IsApartFrom, IsOver};
@@ -13,7 +14,7 @@ use crate::running::{Observer, observer_fault};
 use fwupd_words::Show;
 use std::alloc::{AllocError, Global};
 
-/// Whether the file of a path is another that a run writes, if it writes that.
+/// Whether a path may name the same file as another output, if there is one.
 fn is_written<F: Files>(files: &F, path: &str, other: Option<&str>) -> bool
     ensures over { result ≡ true → IsSomeAnd (option_map (λ p. p.now) other.entry) (IsOver (F.holds files.now) path.now) }
     ensures apart { result ≡ false → IfSome (option_map (λ p. p.now) other.entry) (IsApartFrom (F.holds files.now) path.now) }
@@ -24,7 +25,7 @@ fn is_written<F: Files>(files: &F, path: &str, other: Option<&str>) -> bool
     }
 }
 
-/// Whether a file that is to be written, if one is, is one of those that a run reads, or one of two others that it writes.
+/// Whether an output, if there is one, may overwrite an input or one of two other outputs.
 fn is_over<F: Files>(
     files: &F,
     path: Option<&str>,
@@ -48,7 +49,7 @@ fn is_over<F: Files>(
     is_written(files, path, second)
 }
 
-/// Whether a file that is to be written, if one is, lies in the folder of stores, if there is one, or in a store.
+/// Whether an output, if there is one, is in the folder of stores, if there is one, or in a store.
 fn is_in_store<F: Files>(
     alloc: Global,
     files: &F,
@@ -64,8 +65,8 @@ fn is_in_store<F: Files>(
     }
 }
 
-/// Whether a file that is to be written, if one is, is one of those that a run reads, or one of two others that it writes, or lies in a
-/// store.
+/// Whether an output, if there is one, may overwrite an input or one of two other outputs, or is in
+/// a store.
 fn is_barred<F: Files>(
     alloc: Global,
     files: &F,
@@ -89,8 +90,8 @@ fn is_barred<F: Files>(
     is_in_store(alloc, files, path, store)
 }
 
-/// Lets what looks on begin, where what it shows isn't written over a file that was read; nor the log's records over the packets, nor
-/// the steps over one of both; and nothing of it lies in a store.
+/// Begins an observer after checking its outputs: none may overwrite an input or another output, or
+/// be in a store.
 pub fn begin_apart<F: Files, V: Observer>(
     alloc: Global,
     files: &F,

@@ -1,4 +1,4 @@
-//! The beginning of a file, as far as the header of a package reaches.
+//! The beginning of a file, up to the largest size of a package's header.
 
 ghost use Rattle.std.specs.Io.KnownBytes.{IsAtEnd};
 ghost use Rattle.std.specs.Prelude.{◌≡◌, ◌≢◌, ◌<◌, ◌≤◌, IfOk, IfSome, length, take};
@@ -10,15 +10,16 @@ use fwupd_base::read_some;
 use std::alloc::Global;
 use std::io::{self, Read};
 
-/// The most bytes of a package's header, whose size stands in two bytes (DSP0267 1.0, package header size).
+/// The largest size of a package's header in bytes; the size field has two bytes (DSP0267 1.0,
+/// package header size).
 pub(crate) const BEGINNING: usize = 65_535;
 
-/// The bytes with which a file begins, 65,535 or all where it has fewer, and the file's length.
+/// The beginning of a file, 65,535 bytes or all if there are fewer, and the file's length.
 #[derive(Drop)]
 pub struct Beginning {
     /// The bytes.
     pub bytes: Vec<u8>,
-    /// How many bytes the file has.
+    /// The file's length in bytes.
     pub file_length: usize,
 }
 
@@ -27,7 +28,7 @@ impl Beginning {
     ghost use Rattle.fw_package.specs.Outlines.{IsBeginning};
     ghost use Rattle.fwupd_watch.specs.Files.{MayBegin, any_file};
 
-    /// The beginning of a file of which these are all bytes.
+    /// Creates the beginning of a file with these contents.
     pub fn of(mut bytes: Vec<u8>) -> Beginning
         ensures { IsBeginning bytes.items result.bytes.items result.file_length }
     {
@@ -36,8 +37,8 @@ impl Beginning {
         Beginning { bytes, file_length }
     }
 
-    /// The beginning of a file that gave these bytes first, and says that it is longer than a header. Where they are fewer than a
-    /// header has at most, the file has no others.
+    /// The beginning of a file whose first bytes are `bytes` and whose size is stated as `size`,
+    /// more than a header's. If `bytes` are fewer than a header's, they are the whole file.
     pub(crate) fn said(bytes: Vec<u8>, size: usize) -> Beginning
         requires first { length bytes.items ≤ BEGINNING }
         requires longer { BEGINNING < size }
@@ -57,10 +58,10 @@ impl Beginning {
     }
 }
 
-/// The first bytes that a reader gives up, so many, or all where it gives up fewer.
+/// Reads the first `most` bytes of a reader, or all if there are fewer.
 ///
 /// # Errors
-/// Why the reader failed, which isn't that it was interrupted, or memory is refused.
+/// The reader's error, other than an interruption, or `OutOfMemory`.
 #[tactic(auto, using(crate::proofs::Begun::first_all, crate::proofs::Begun::first_full))]
 pub(crate) fn read_first<R: Read>(alloc: Global, reader: &mut R, most: usize) -> io::Result<Vec<u8>>
     ensures bytes { IfOk result (λ bytes. IfSome (R.remaining reader.old) (λ given. bytes.items ≡ take most given)) }

@@ -1,4 +1,4 @@
-//! The system's calls by which a file comes to its place whole.
+//! The system calls that put a file at its place as a whole.
 
 ghost use Rattle.std.specs.Prelude.{◌≡◌, None, OnErr, false, is_some};
 
@@ -11,34 +11,36 @@ use std::fs::{self, File, OpenOptions};
 use std::io::{self, ErrorKind};
 use std::process;
 
-/// How many links are followed, one behind the other, as Linux does.
+/// The most symbolic links that are followed one after the other, as in Linux.
 const MOST_LINKS: usize = 40;
 
-/// A file that was made beside its place.
+/// A new file beside its place.
 #[derive(Drop)]
 struct Made {
     name: String,
     place: String,
 }
 
-/// The system's files, of which nothing is known.
+/// The system's files; contracts know nothing of them.
 ///
-/// A file is made beside the place to which a path leads: that of the file itself, where the path names a symbolic link, so no link is
-/// replaced. Its name is that of the place, with the number of this process and `.new` behind it, so what an interrupted process
-/// left isn't in the way. It has the permissions of the file that it replaces.
+/// A new file is made beside the place that a path resolves to. If the path names a symbolic link,
+/// that is beside the link's target, so no link is replaced. The new file's name is that of the
+/// place, followed by the process identifier and `.new`, so files that a killed process left don't
+/// collide. It has the permissions of the file that it replaces.
 #[derive(Drop)]
 pub struct SystemCalls<'a> {
     rt: &'a HostRuntime,
-    /// The file that was made last, until it comes to its place. Its paths are kept so that the end needs no memory.
+    /// The new file, until it is at its place. Its paths are stored so that no memory is needed at
+    /// the end.
     made: Option<Made>,
 }
 
-/// The system's places.
+/// Creates the system's places.
 pub fn system_places(rt: &HostRuntime) -> WholeFiles<SystemCalls<'_>> {
     WholeFiles::new(SystemCalls { rt, made: None })
 }
 
-/// A path of two pieces of text.
+/// Joins two pieces of a path.
 fn joined(alloc: Global, first: &str, second: &str) -> io::Result<String> {
     match format!(in alloc; "{first}{second}") {
         Ok(path) => Ok(path),
@@ -46,7 +48,7 @@ fn joined(alloc: Global, first: &str, second: &str) -> io::Result<String> {
     }
 }
 
-/// The path that a symbolic link names, if this is the path of one.
+/// The target of a symbolic link, if the path names one.
 fn named_by(rt: &HostRuntime, link: &str) -> io::Result<Option<String>> {
     if !SystemFiles::new(rt).is_link(link) {
         return Ok(None);
@@ -60,7 +62,7 @@ fn named_by(rt: &HostRuntime, link: &str) -> io::Result<Option<String>> {
     Ok(Some(joined(rt.alloc(), &folder, next.as_str())?))
 }
 
-/// The place to which a path leads, which is no link.
+/// The place that a path resolves to, which is not a symbolic link.
 fn place_of(rt: &HostRuntime, path: &str) -> io::Result<String> {
     let mut place = joined(rt.alloc(), path, "")?;
     for _ in 0..MOST_LINKS + 1 {
@@ -72,7 +74,8 @@ fn place_of(rt: &HostRuntime, path: &str) -> io::Result<String> {
     Err(io::Error::from(ErrorKind::Other))
 }
 
-/// Whether a file may come to the place to which a path leads: nothing is there, or a plain file that can be written.
+/// Whether a file may be put at the place of a path: nothing is there, or a regular file that is
+/// writable.
 fn can_replace(rt: &HostRuntime, path: &str, place: &str) -> bool {
     let files = SystemFiles::new(rt);
     if files.identity(path) != files.identity(place) {
@@ -84,7 +87,7 @@ fn can_replace(rt: &HostRuntime, path: &str, place: &str) -> bool {
     }
 }
 
-/// Makes a file of this name, with the permissions of the file at a place, if there is one.
+/// Makes a file of this name, with the permissions of the file at `place`, if there is one.
 fn make_like(rt: &HostRuntime, name: &str, place: &str) -> io::Result<File> {
     let file = File::create_new(rt, name)?;
     if let Ok(found) = fs::metadata(rt, place) {
@@ -94,7 +97,7 @@ fn make_like(rt: &HostRuntime, name: &str, place: &str) -> io::Result<File> {
 }
 
 impl<'a> SystemCalls<'a> {
-    /// Makes a file beside the place to which a path leads.
+    /// Makes a file beside the place that a path resolves to.
     fn make_beside(&mut self, path: &str) -> io::Result<File>
         ensures made { OnErr result (self.new.made ≡ self.old.made) }
     {
@@ -137,7 +140,7 @@ impl<'a> FileCalls<File> for SystemCalls<'a> {
             Ok(()) => {}
             Err(_) => return Err(RunFault::Output),
         }
-        // (the file is in its place: that its name couldn't be put on the disk too is no fault of it)
+        // The file is at its place; a failure to sync its directory entry is not an error.
         let (folder, _) = folder_and_name(&made.place);
         let _ = sync_names(self.rt, folder);
         self.made = None;

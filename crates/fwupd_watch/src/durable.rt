@@ -1,4 +1,4 @@
-//! Writers whose bytes can be put on the disk.
+//! Writers whose bytes can be synced to the disk.
 
 ghost use Rattle.std.specs.Prelude.{◌≡◌, List, None, OnOk, Option, ℕ};
 ghost use Rattle.std.specs.Io.KnownBytes.{Keeps};
@@ -6,15 +6,15 @@ ghost use Rattle.std.specs.Io.KnownBytes.{Keeps};
 use std::fs::File;
 use std::io::{self, Write};
 
-/// A writer whose bytes can be put on the disk, where they outlast a loss of power. Where it is known which bytes it holds, it may be
-/// known which are on the disk, too.
+/// A writer whose bytes can be synced to the disk, where they survive a loss of power. In
+/// contracts, `on_disk` are the synced bytes, if they are known.
 pub trait Durable: Write {
     ghost on_disk: { Self → Option (List ℕ) } = { λ _. None };
 
-    /// Puts all that was written on the disk.
+    /// Syncs all written bytes to the disk.
     ///
     /// # Errors
-    /// Why that can't be done.
+    /// The system's error.
     fn persist(&mut self) -> io::Result<()>
         ensures all { OnOk result (on_disk self.new ≡ Self.contents self.new) }
         ensures kept { Keeps (Self.contents self.old) (Self.contents self.new) };

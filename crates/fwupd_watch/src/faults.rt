@@ -1,4 +1,4 @@
-//! Why a run ends with status 1.
+//! The faults that end the program with status 1.
 
 ghost use Rattle.std.specs.Prelude.{◌≡◌};
 ghost use Rattle.fwupd_watch.specs.Running.{MayEnd, run_fault_of};
@@ -11,58 +11,59 @@ use fw_world::StepFault;
 use fwupd_base::AnswerFault;
 use thiserror::Error;
 
-/// Why a run ends with status 1. The text is what is printed after `fwupd: `.
+/// The faults that end the program with status 1. The text is printed after `fwupd: `.
 #[derive(Debug, Drop, Error)]
 pub enum RunFault {
-    /// Packets can't be answered any more.
+    /// Answering packets failed.
     #[error("{0}")]
     Answer(AnswerFault),
     /// The file of this path can't be read.
     #[error("{0}: unreadable")]
     Unreadable(String),
-    /// The file holds no package.
+    /// The file isn't a package.
     #[error("package: {0}")]
     Package(PackageFault),
-    /// The text in the file of this path is none of its format.
+    /// The text in the file of this path isn't of its format.
     #[error("{0}: {1}")]
     Text(String, ScriptFault),
-    /// A step of a schedule, numbered from 1, isn't taken.
+    /// A step of a schedule, numbered from 1, was refused.
     #[error("step {0}: {1}")]
     Step(usize, StepFault),
-    /// No package is configured.
+    /// There is no such package in the configuration.
     #[error("package: none")]
     NoPackage,
-    /// The store of the device with this endpoint identifier isn't opened.
+    /// The store of the device with this endpoint identifier can't be opened.
     #[error("store: {0}: {1}")]
     Store(u8, OpenFault),
     /// The socket of the device with this endpoint identifier can't be made.
     #[error("socket: {0}")]
     Socket(u8),
-    /// What is traced of a run or a replay can't be written.
+    /// The trace of a run or a replay can't be written.
     #[error("trace")]
     Trace,
     /// The event log's records can't be written.
     #[error("sel")]
     Log,
-    /// The file holds no event log: its size is no multiple of 16, or more than 2,048.
+    /// The file isn't an event log: its size is not a multiple of 16, or exceeds 2,048.
     #[error("sel: Size")]
     LogSize,
     /// The steps of a run can't be recorded.
     #[error("record")]
     Record,
-    /// The lines of what happens in a run can't be written in the history of the stores.
+    /// The history of the stores can't be written.
     #[error("history")]
     History,
-    /// The checker found something wrong with a run of a soak.
+    /// The checker found a violation in a run of a soak.
     #[error("soak: Violation")]
     Violation,
-    /// A run over links ended early.
+    /// A run over links stopped early.
     #[error("edge: {0}")]
     Edge(EdgeFault),
-    /// The session with the device of this endpoint identifier didn't end Done: the cause of its failure, or where it stands.
+    /// The session with the device of this endpoint identifier didn't end Done: the cause of its
+    /// failure, or its state.
     #[error("session {0}: {1}")]
     Session(u8, &'static str),
-    /// Standard output takes no more.
+    /// Standard output can't be written.
     #[error("output")]
     Output,
     /// Memory was refused.
@@ -70,7 +71,7 @@ pub enum RunFault {
     Memory,
 }
 
-/// Why a run over links ended early.
+/// Returns the fault of a run over links that stopped early.
 pub fn edge_fault(fault: EdgeFault) -> RunFault
     ensures told { result ≡ run_fault_of fault }
     ensures ends { MayEnd result }

@@ -12,7 +12,7 @@ use std::fs::{self, File};
 use std::io::{self, ErrorKind, Read};
 use std::os::unix::fs::MetadataExt;
 
-/// Why the bytes of a file aren't there.
+/// Why a file's bytes can't be read.
 #[derive(Clone, Copy, PartialEq, Eq)]
 pub enum FileFault {
     /// The file can't be read.
@@ -21,77 +21,80 @@ pub enum FileFault {
     Memory,
 }
 
-/// Which file a path names, as the system numbers it (POSIX `st_dev` and `st_ino`): all paths of one file have the same.
+/// The identity of a file in the system (POSIX `st_dev` and `st_ino`): all paths of one file have
+/// the same.
 #[derive(Clone, Copy, PartialEq, Eq)]
 pub struct FileIdentity {
-    /// The number of the device that it lies on.
+    /// The number of the file system's device.
     pub device: u64,
-    /// Its own number there.
+    /// The file's inode number.
     pub number: u64,
 }
 
-/// Where files are read from.
+/// The source of the files that a job reads.
 pub trait Files {
     ghost holds: { Self → List ℕ → FileOf };
 
-    /// The bytes of the file of a path.
+    /// Returns the bytes of a file.
     ///
     /// # Errors
-    /// The file can't be read, or memory for its bytes is refused.
+    /// `Unreadable` if the file can't be read, `Memory` if memory is refused.
     fn contents(&self, alloc: Global, path: &str) -> Result<Vec<u8>, FileFault>
         ensures held { IfOk result (λ bytes. MayHold (holds self.now path.now) bytes.items) }
         ensures fails { IfErr result (λ e. e ≡ FileFault.Unreadable → (holds self.now path.now).may_fail ≡ true) };
 
-    /// The first 65,535 bytes of the file of a path, or all where it has fewer, and how many it has.
+    /// Returns the first 65,535 bytes of a file, or all if there are fewer, and its length.
     ///
     /// # Errors
-    /// The file can't be read, or memory for these bytes is refused.
+    /// `Unreadable` if the file can't be read, `Memory` if memory is refused.
     fn beginning(&self, alloc: Global, path: &str) -> Result<Beginning, FileFault>
         ensures held { IfOk result (λ b. MayBegin (holds self.now path.now) b.bytes.items b.file_length) }
         ensures fails { IfErr result (λ e. e ≡ FileFault.Unreadable → (holds self.now path.now).may_fail ≡ true) };
 
-    /// Which file a path names, if one is found there.
+    /// Returns the identity of the file of a path, if there is one.
     fn identity(&self, path: &str) -> Option<FileIdentity>
         ensures { MayBe (holds self.now path.now) result };
 
-    /// Whether a path names a symbolic link.
+    /// Returns whether a path names a symbolic link.
     fn is_link(&self, path: &str) -> bool
         ensures { MayLink (holds self.now path.now) result };
 
-    /// Whether two paths name one place, whether or not a file lies there: the same name in the same folder.
+    /// Returns whether two paths name the same place, with or without a file: the same name in the
+    /// same folder.
     fn is_one_place(&self, one: &str, other: &str) -> bool
         ensures same { result ≡ true → IsOnePlace (holds self.now one.now) (holds self.now other.now) }
         ensures apart { result ≡ false → AreTwoPlaces (holds self.now one.now) (holds self.now other.now) };
 
-    /// Whether the file of a path lies in a folder, or would, or in a folder that lies there.
+    /// Returns whether a path is in a folder, directly or in folders below it, with or without a
+    /// file there.
     ///
     /// # Errors
-    /// Memory is refused.
+    /// `AllocError` if memory is refused.
     fn is_below(&self, alloc: Global, path: &str, folder: &str) -> Result<bool, AllocError>
         ensures below { IfOk result (λ b. b ≡ true → IsInFolder (holds self.now path.now) (holds self.now folder.now)) }
         ensures outside { IfOk result (λ b. b ≡ false → IsOutsideFolder (holds self.now path.now) (holds self.now folder.now)) };
 }
 
-/// The files of the system, of which nothing is known before they are read.
+/// The files of the system; contracts know nothing of them before they are read.
 #[derive(Clone, Copy)]
 pub struct SystemFiles<'a> {
     rt: &'a HostRuntime,
 }
 
 impl<'a> SystemFiles<'a> {
-    /// The files that a runtime reaches.
+    /// Creates the files of a runtime.
     pub fn new(rt: &'a HostRuntime) -> SystemFiles<'a> {
         SystemFiles { rt }
     }
 
-    /// The bytes of a file, read once, into room of its size where it says one.
+    /// Returns the bytes of a file, read once. Room is reserved for the size that the file states.
     pub fn read(&self, alloc: Global, path: &str) -> io::Result<Vec<u8>> {
         let mut file = File::open(self.rt, path)?;
         let size = size_of(&file);
         read_whole(alloc, &mut file, size)
     }
 
-    /// Whether a path names a file in this folder, or in one that lies there.
+    /// Whether a path is in this folder, directly or below it.
     fn lies_in(&self, alloc: Global, path: &str, folder: FileIdentity) -> Result<bool, AllocError> {
         let (own, _) = folder_and_name(path);
         let Ok(above) = format!(in alloc; "{own}/..") else {
@@ -100,7 +103,8 @@ impl<'a> SystemFiles<'a> {
         Ok(self.identity(own) == Some(folder) || self.identity(&above) == Some(folder))
     }
 
-    /// Whether a path leads to a file in this folder, or in one that lies there. A link to no file may lead to any place.
+    /// Whether a path may resolve to a file in this folder, directly or below it. A dangling link
+    /// may lead to any place.
     fn leads_into(
         &self,
         alloc: Global,
@@ -117,7 +121,7 @@ impl<'a> SystemFiles<'a> {
         }
     }
 
-    /// The beginning of a file. One that says that it is longer isn't read further.
+    /// The beginning of a file. A file that states a larger size isn't read further.
     fn read_beginning(&self, alloc: Global, path: &str) -> io::Result<Beginning>
         ensures { IfOk result (λ b. MayBegin any_file b.bytes.items b.file_length) }
     {
@@ -132,7 +136,7 @@ impl<'a> SystemFiles<'a> {
     }
 }
 
-/// How many bytes a file says that it has, or 0 where it says nothing.
+/// The size in bytes that a file states, or 0 if it states none.
 fn size_of(file: &File) -> usize {
     match file.metadata() {
         Ok(found) => usize::try_from(found.len()).unwrap_or(0),
@@ -140,13 +144,13 @@ fn size_of(file: &File) -> usize {
     }
 }
 
-/// The most bytes that are read at once.
+/// The most bytes of one read.
 pub(crate) const PIECE: usize = 16_384;
 
-/// All bytes that a reader gives up to its end, into room for so many at first.
+/// Reads a reader to its end, with room reserved for `size` bytes.
 ///
 /// # Errors
-/// Why the reader failed, which isn't that it was interrupted, or memory is refused.
+/// The reader's error, other than an interruption, or `OutOfMemory`.
 fn read_whole<R: Read>(alloc: Global, reader: &mut R, size: usize) -> io::Result<Vec<u8>>
     ensures bytes { IfOk result (λ bytes. IfSome (R.remaining reader.old) (λ given. bytes.items ≡ given)) }
     ensures end { OnOk result (IsAtEnd (R.remaining reader.new)) }
@@ -171,7 +175,7 @@ fn read_whole<R: Read>(alloc: Global, reader: &mut R, size: usize) -> io::Result
     Err(io::Error::from(ErrorKind::TimedOut))
 }
 
-/// Why the bytes of a file aren't there, by why its reading failed.
+/// The fault of a file whose reading failed with this error.
 fn file_fault(kind: ErrorKind) -> FileFault
     ensures memory { kind ≡ ErrorKind.OutOfMemory → result ≡ FileFault.Memory }
     ensures other { kind ≢ ErrorKind.OutOfMemory → result ≡ FileFault.Unreadable }
@@ -233,7 +237,7 @@ impl<'a> Files for SystemFiles<'a> {
     }
 }
 
-/// The folder of a path's file, and its name there.
+/// Returns the folder of a path, and the file's name in it.
 pub fn folder_and_name(path: &str) -> (&str, &str) {
     match path.rsplit_once('/') {
         Some(("", name)) => ("/", name),
@@ -242,7 +246,7 @@ pub fn folder_and_name(path: &str) -> (&str, &str) {
     }
 }
 
-/// Whether a path names a pipe, a device or a socket, which may wait when it is opened.
+/// Returns whether a path names a pipe, a device or a socket; opening one may block.
 pub fn is_special(rt: &HostRuntime, path: &str) -> bool {
     match fs::metadata(rt, path) {
         Ok(found) => !found.is_file() && !found.is_dir(),
@@ -250,8 +254,8 @@ pub fn is_special(rt: &HostRuntime, path: &str) -> bool {
     }
 }
 
-/// Whether two paths are of one file: they are spelled alike, or both name the same, or one place where there is none yet; or may be,
-/// since one of them is a link to none.
+/// Returns whether two paths may name one file: they are equal, have the same device and inode,
+/// would create the same directory entry, or one is a dangling symbolic link.
 pub fn is_same_file<F: Files>(files: &F, one: &str, other: &str) -> bool
     ensures same { result ≡ true → IsOver (F.holds files.now) other.now one.now }
     ensures apart { result ≡ false → IsApartFrom (F.holds files.now) other.now one.now }
@@ -261,7 +265,7 @@ pub fn is_same_file<F: Files>(files: &F, one: &str, other: &str) -> bool
     }
     match (files.identity(one), files.identity(other)) {
         (Some(first), Some(second)) => first == second,
-        // A link to no file may lead to any place.
+        // A dangling link may lead to any place.
         (None, None) => {
             files.is_link(one) || files.is_link(other) || files.is_one_place(one, other)
         }
@@ -269,7 +273,7 @@ pub fn is_same_file<F: Files>(files: &F, one: &str, other: &str) -> bool
     }
 }
 
-/// Whether a file to be written, if there is one, is that of a path.
+/// Returns whether an output, if there is one, may overwrite the file of another path.
 pub fn is_one_path<F: Files>(files: &F, path: Option<&str>, other: &str) -> bool
     ensures over { result ≡ true → IsSomeAnd (option_map (λ p. p.now) path.entry) (λ p. IsOver (F.holds files.now) p other.now) }
     ensures apart { result ≡ false → IfSome (option_map (λ p. p.now) path.entry) (λ p. IsApartFrom (F.holds files.now) p other.now) }
@@ -280,7 +284,7 @@ pub fn is_one_path<F: Files>(files: &F, path: Option<&str>, other: &str) -> bool
     }
 }
 
-/// Whether the file of a path is one of these.
+/// Returns whether a path may name one of the other files.
 pub fn is_one_of<F: Files>(files: &F, path: &str, others: &[String]) -> bool
     ensures over { result ≡ true → IsOverOne (F.holds files.now) path.now (map (λ p. string_bytes p) others.now) }
     ensures apart { result ≡ false → AllByRecursion (IsApartFrom (F.holds files.now) path.now) (map (λ p. string_bytes p) others.now) }
@@ -293,7 +297,7 @@ pub fn is_one_of<F: Files>(files: &F, path: &str, others: &[String]) -> bool
     false
 }
 
-/// Whether the file of a path is one of those that a run reads: its configuration, or one of its packages.
+/// Returns whether a path may name an input of a run: its configuration, or one of its packages.
 pub fn is_read<F: Files>(files: &F, path: &str, config: &str, packages: &[String]) -> bool
     ensures over { result ≡ true → IsOverOne (F.holds files.now) path.now (config.now ∷ map (λ p. string_bytes p) packages.now) }
     ensures apart { result ≡ false → AllByRecursion (IsApartFrom (F.holds files.now) path.now) (config.now ∷ map (λ p. string_bytes p) packages.now) }
@@ -301,7 +305,7 @@ pub fn is_read<F: Files>(files: &F, path: &str, config: &str, packages: &[String
     is_same_file(files, config, path) || is_one_of(files, path, packages)
 }
 
-/// Whether the file of a path that is to be written, if one is, is one of those that a run reads.
+/// Returns whether an output, if there is one, may overwrite an input of a run.
 pub fn is_over_read<F: Files>(
     files: &F,
     path: Option<&str>,

@@ -1,4 +1,5 @@
-//! What looks on at a run over links, the run that it looks on at, turn by turn, and the files and the output of a job.
+//! The observers of a run over links, the run that they observe, turn by turn, and the files and
+//! the output of a job.
 #![tactic(auto)]
 
 mod apart;

@@ -1,4 +1,4 @@
-//! Where the report of a run is written.
+//! The output of a job's report.
 
 ghost use Rattle.std.specs.Prelude.{◌≡◌, IfErr, IfOk, OnErr, OnOk, false};
 ghost use Rattle.fwupd_watch.specs.Answering.{AnswerEnds, AnswersAll};
@@ -11,10 +11,10 @@ use std::alloc::Global;
 use std::io::{BufWriter, Read, Write};
 use std::marker::Model;
 
-/// A writer, and whether a write to it failed: then it takes no more.
+/// A buffered writer that takes no more after its first failed write.
 #[derive(Drop)]
 pub struct Output<W: Write + Drop> {
-    /// What takes the bytes. It holds answers back until more input is awaited.
+    /// The buffered writer. Answers are held back until more input is awaited.
     writer: BufWriter<W>,
     is_broken: bool,
 }
@@ -32,7 +32,7 @@ impl<W: Write + Drop> Model for Output<W> {
 }
 
 impl<W: Write + Drop> Output<W> {
-    /// An output to which no write has failed.
+    /// Creates an output without failed writes.
     ///
     /// # Errors
     /// `Memory`.
@@ -50,7 +50,7 @@ impl<W: Write + Drop> Output<W> {
         })
     }
 
-    /// What took the bytes.
+    /// Returns the underlying writer.
     pub fn into_writer(self) -> W
         ensures { W.contents result ≡ self.written }
     {
@@ -58,10 +58,11 @@ impl<W: Write + Drop> Output<W> {
         writer
     }
 
-    /// Writes all these bytes.
+    /// Writes all bytes.
     ///
     /// # Errors
-    /// `Output` where they aren't written whole; a beginning of them may be, and nothing where a write failed before.
+    /// `Output` if they can't be written; a beginning of them may be written. After a failed write,
+    /// nothing is.
     pub fn write(&mut self, bytes: &[u8]) -> Result<(), RunFault>
         ensures ok { OnOk result (WritesOutput self.old self.new bytes.now) }
         ensures fault { IfErr result (λ e. e ≡ RunFault.Output) }
@@ -79,10 +80,10 @@ impl<W: Write + Drop> Output<W> {
         }
     }
 
-    /// Answers the packets that a reader gives, line by line, as an endpoint without a device.
+    /// Answers the packets of a reader, line by line, as an endpoint without a device.
     ///
     /// # Errors
-    /// `Answer`, with why the reader or the writer gives up, or memory is refused.
+    /// `Answer`, with the cause why reading or writing failed, or memory was refused.
     pub fn answer<R: Read>(
         &mut self,
         alloc: Global,

@@ -1,4 +1,4 @@
-//! How far a run is, shown on a terminal.
+//! Shows the progress of a run on a terminal.
 
 ghost use Rattle.std.specs.Prelude.{◌≡◌, IfOk, OnOk, codes};
 ghost use Rattle.fw_text.specs.Printing.{AppendsText, word_and_number};
@@ -17,23 +17,24 @@ use std::alloc::{AllocError, Global};
 use std::io::Print;
 use std::time::{Duration, Instant};
 
-/// How many milliseconds pass at least until progress is shown again.
+/// The least time between two updates of the display, in milliseconds.
 const PAUSE: u64 = 100;
 
-/// Among how many of a pair's last packets the device's last request for its image is looked for.
+/// How many of the latest packets are searched for the device's last RequestFirmwareData.
 const LATEST: usize = 16;
 
-/// A line without progress, which covers one that was shown.
+/// A blank line, which covers one that was shown.
 const BLANK: &str = "                                                                        ";
 
-/// Shows on standard error how far the first device is that loads an image, at most ten times a second.
+/// Shows on standard error the progress of the first device that loads an image, at most ten times
+/// a second.
 #[derive(Drop)]
 pub struct ProgressLine<'a> {
     rt: &'a HostRuntime,
     shown: Option<Instant>,
 }
 
-/// Where the bytes end that a packet asks for, if it is a device's request for bytes of its image.
+/// The end of the bytes that a packet requests, if it is a device's RequestFirmwareData (DSP0267).
 fn asked_by(packet: &[u8], device: u8) -> Option<u32>
     ensures { result ≡ end_asked device (packet_of U128 packet.now) }
 {
@@ -52,7 +53,7 @@ fn asked_by(packet: &[u8], device: u8) -> Option<u32>
     }
 }
 
-/// How many bytes of its image a device has asked for, as the last packets of its pair say.
+/// The number of bytes of its image that a device has requested, by the latest packets of its pair.
 fn asked(packets: &SentPackets<'_>, device: u8) -> u32 {
     for back in 1..LATEST.min(packets.len()) + 1 {
         let Some(packet) = packets.get(packets.len() - back) else {
@@ -65,11 +66,11 @@ fn asked(packets: &SentPackets<'_>, device: u8) -> u32 {
     0
 }
 
-/// The line that shows how far a device is that loads an image of this size for a component, of which it has asked for the bytes up to
-/// an end. The padding behind the last piece doesn't count.
+/// The progress line of a device that loads an image of `size` bytes for a component and has
+/// requested the first `asked` bytes. The padding of the last request doesn't count.
 ///
 /// # Errors
-/// `AllocError` where memory for it is refused.
+/// `AllocError` if memory is refused.
 fn progress_line(
     alloc: Global,
     device: u8,
@@ -95,12 +96,12 @@ fn progress_line(
 }
 
 impl<'a> ProgressLine<'a> {
-    /// Progress of which nothing is shown.
+    /// Creates progress that shows nothing yet.
     pub fn new(rt: &'a HostRuntime) -> ProgressLine<'a> {
         ProgressLine { rt, shown: None }
     }
 
-    /// The time, where progress wasn't shown a moment ago.
+    /// The current time, if the display is due for an update.
     fn due(&self) -> Option<Instant> {
         let Ok(now) = Instant::now(self.rt) else {
             return None;
@@ -111,7 +112,7 @@ impl<'a> ProgressLine<'a> {
         }
     }
 
-    /// Shows how far a device is, if it loads an image.
+    /// Shows the progress of a device, if it loads an image. Returns whether it does.
     fn show<B: Bank + Drop>(&self, node: &DeviceNode<B>, packets: &SentPackets<'_>) -> bool {
         let Some((key, size)) = node.device().staged() else {
             return false;
@@ -125,7 +126,7 @@ impl<'a> ProgressLine<'a> {
         true
     }
 
-    /// Shows what a turn left, where it wasn't shown a moment ago.
+    /// Shows the progress after a turn, if the display is due for an update.
     pub fn see<B: Bank + Drop>(&mut self, world: &World<'_, B>) {
         let Some(now) = self.due() else {
             return;
@@ -140,7 +141,7 @@ impl<'a> ProgressLine<'a> {
         }
     }
 
-    /// Takes away what is shown.
+    /// Erases the progress line.
     pub fn end(&mut self) {
         if self.shown.is_some() {
             let _ = eprint!(self.rt; "\r{BLANK}\r");

@@ -1,4 +1,4 @@
-//! The steps of a run, written as a schedule while they are taken.
+//! Writes the steps of a run as a schedule, during the run.
 
 ghost use Rattle.std.specs.Prelude.{◌≡◌, ◌⊎◌, ◌<◌, ◌^◌, [], IfErr, IfOk, List, OnOk, Option, false, true, ℕ};
 ghost use Rattle.exch_lane.specs.Lanes.{IsEid};
@@ -12,8 +12,8 @@ use fw_world::Step;
 use std::alloc::Global;
 use std::io::{BufWriter, Write};
 
-/// Writes each step of a run as it is taken, a line each, as a schedule that a replay reads. Ticks that nobody misses and that stand
-/// next to each other are one line.
+/// Writes each step of a run when it is taken, as a line of a schedule that a replay reads.
+/// Adjacent ticks that no node misses share a line.
 #[derive(Drop)]
 pub struct Recording<W: Write + Drop> {
     alloc: Global,
@@ -21,7 +21,7 @@ pub struct Recording<W: Write + Drop> {
     text: ScheduleText,
 }
 
-/// Whether a byte is the identifier of a node.
+/// Whether a byte is an endpoint identifier of a node.
 fn is_eid(eid: u8) -> bool
     ensures is { result ≡ true → IsEid eid }
     ensures not { result ≡ false → ¬ IsEid eid }
@@ -29,7 +29,7 @@ fn is_eid(eid: u8) -> bool
     8 <= eid && eid <= 254
 }
 
-/// Whether a number is one of 64 bits, as each of the code is.
+/// Whether a number fits 64 bits, as each number of the program does.
 fn is_counted(number: usize) -> bool
     ensures is { number < 2 ^ 64 }
     ensures always { result ≡ true }
@@ -37,8 +37,8 @@ fn is_counted(number: usize) -> bool
     number <= usize::MAX
 }
 
-/// Whether a step is one that a run takes and a schedule can say: the update of a device starts, a packet comes, a tick passes
-/// that nobody misses, a device has its verdict or activates.
+/// Whether a run takes such a step, and a schedule can encode it: the start of an update, a
+/// delivery, a tick that no node misses, a verdict, or an activation.
 fn is_said(step: &Step) -> bool
     ensures said { result ≡ true → StepRoundTrips step.now }
     ensures taken { IsRecordable step.now → result ≡ true }
@@ -55,7 +55,7 @@ fn is_said(step: &Step) -> bool
     }
 }
 
-/// Whether each of these steps is.
+/// Whether this holds for each step.
 fn are_said(steps: &[Step]) -> bool
     ensures said { result ≡ true → StepsRoundTrip steps.now }
     ensures taken { AreRecordable steps.now → result ≡ true }
@@ -69,7 +69,7 @@ fn are_said(steps: &[Step]) -> bool
 }
 
 impl<W: Write + Drop> Recording<W> {
-    /// A recording of which nothing is written.
+    /// Creates a recording without steps.
     ///
     /// # Errors
     /// `Memory`.
@@ -89,10 +89,11 @@ impl<W: Write + Drop> Recording<W> {
         })
     }
 
-    /// Writes steps behind those that are written. Ticks may be held back.
+    /// Appends steps. Ticks may be held back.
     ///
     /// # Errors
-    /// They can't be written, or a schedule can't say one of them, or memory for their lines is refused.
+    /// `Unrecorded` if they can't be written, or a schedule can't encode one of them; `Memory` if
+    /// memory is refused.
     pub fn note(&mut self, steps: &[Step]) -> Result<(), ObserverFault>
         ensures fault { IfErr result (λ e. (e ≡ ObserverFault.Memory) ⊎ (e ≡ ObserverFault.Unrecorded)) }
         ensures noted { (begun : Option (List ℕ)) → OnOk result (RecordsSteps (recording_of begun (writer_contents W.contents self.old.writer) self.old.text) (recording_of begun (writer_contents W.contents self.new.writer) self.new.text) steps.now) }
@@ -110,10 +111,10 @@ impl<W: Write + Drop> Recording<W> {
         }
     }
 
-    /// Writes what is held back.
+    /// Writes the held-back ticks.
     ///
     /// # Errors
-    /// It can't be written, or memory is refused.
+    /// `Unrecorded` if they can't be written, or `Memory` if memory is refused.
     pub fn end(&mut self) -> Result<(), ObserverFault>
         ensures fault { IfErr result (λ e. (e ≡ ObserverFault.Memory) ⊎ (e ≡ ObserverFault.Unrecorded)) }
         ensures ended { (begun : Option (List ℕ)) → OnOk result (WritesHeldTicks (recording_of begun (writer_contents W.contents self.old.writer) self.old.text) (recording_of begun (writer_contents W.contents self.new.writer) self.new.text)) }

@@ -1,4 +1,4 @@
-//! Updating devices over links.
+//! Updates devices over links.
 
 ghost use Rattle.std.specs.Prelude.{[], ◌≡◌, ◌≢◌, ◌-◌, ◌^◌, ◌⊎◌, Bool, Err, IfErr, IfSome, List, None, OnOk, Some, length, map, true, ℕ};
 ghost use Rattle.fw_edge.specs.Ledgers.{AllSent, packet_counts};
@@ -16,17 +16,17 @@ use fw_world::{Step, StepFault, World, moments_are_tied};
 use fwupd_words::Show;
 use std::alloc::Global;
 
-/// How many turns a run has at most: three images of the largest size take about 66,000.
+/// The most turns of a run; three images of the largest size take about 66,000.
 const TURNS: u32 = 80_000;
 
-/// Why what looks on ends a run.
+/// Why an observer stops a run.
 #[derive(Clone, Copy, PartialEq, Eq)]
 pub enum ObserverFault {
-    /// What it tells of packets can't be written.
+    /// The trace of packets can't be written.
     Unwritten,
     /// The event log's records can't be written.
     Unlogged,
-    /// The steps that it records can't be written.
+    /// The record of steps can't be written.
     Unrecorded,
     /// The history of the stores can't be written.
     Unkept,
@@ -34,7 +34,7 @@ pub enum ObserverFault {
     Memory,
 }
 
-/// What looks on while devices are updated, from its beginning until it has a fault, which is what each later call ends with.
+/// An observer of a run. After its first fault every later call returns that fault.
 pub trait Observer {
     ghost use Rattle.fw_edge.specs.Links.{CountsOne};
     ghost use Rattle.fwupd_watch.specs.Running.{IsOfShown, ObserverOf};
@@ -43,11 +43,11 @@ pub trait Observer {
 
     ghost refuses: { Self → List ℕ → Bool };
 
-    /// Begins to show what is asked for.
+    /// Opens the requested outputs.
     ///
     /// # Errors
-    /// A file that the packets, the log's records, the steps or what happens are to be written to is refused, or `Memory`. It is known
-    /// before which files may be refused.
+    /// The fault of an output that can't be opened, or `Memory`. In contracts, `refuses` is the
+    /// paths that may not be opened.
     fn begin(&mut self, show: Show<'_>) -> Result<(), ObserverFault>
         ensures shows { OnOk result ((watched self.new).shows ≡ shown_of (show_of show.entry)) }
         ensures anew { OnOk result (((watched self.new).seen ≡ 0) × ((watched self.new).lost ≡ None)) }
@@ -56,10 +56,11 @@ pub trait Observer {
         ensures err { IfErr result (λ e. (watched self.new).fault ≡ Some e) }
         ensures refused { IfErr result (λ e. e ≢ ObserverFault.Memory → MayRefuse (refuses self.old) (show_of show.entry) (run_fault_of_observer e)) };
 
-    /// Notes the steps that were taken, where they are recorded.
+    /// Records the steps that were taken, if that is requested.
     ///
     /// # Errors
-    /// The fault that it had; else that they can't be written, or said by a schedule, or that memory is refused.
+    /// The observer's first fault: an earlier one, or that the steps can't be written, or that
+    /// memory is refused.
     fn note(&mut self, steps: &[Step]) -> Result<(), ObserverFault>
         ensures ok { OnOk result ((watched self.new).fault ≡ None) }
         ensures err { IfErr result (λ e. (watched self.new).fault ≡ Some e) }
@@ -71,10 +72,12 @@ pub trait Observer {
         ensures seen { (watched self.new).seen ≡ (watched self.old).seen }
         ensures lost { (watched self.new).lost ≡ (watched self.old).lost };
 
-    /// Sees what a turn left. What happened in it is written in the history before the next turn, and not before it has happened.
+    /// Observes the world after a turn. The history of the turn is written before the next turn
+    /// begins, and never before its events.
     ///
     /// # Errors
-    /// The fault that it had; else that what it tells of the turn can't be written, or that memory is refused.
+    /// The observer's first fault: an earlier one, or that an output can't be written, or that
+    /// memory is refused.
     fn see<B: Bank + Drop>(&mut self, world: &World<'_, B>) -> Result<(), ObserverFault>
         ensures ok { OnOk result ((watched self.new).fault ≡ None) }
         ensures err { IfErr result (λ e. (watched self.new).fault ≡ Some e) }
@@ -87,7 +90,7 @@ pub trait Observer {
         ensures history { OnOk result (AppendsToHistory (watched self.old).history (watched self.new).history world.now.history) }
         ensures history_still { MayAppendToHistory (watched self.old).history (watched self.new).history world.now.history };
 
-    /// Is told that the link of this device failed.
+    /// Observes that the link of this device failed.
     fn lose(&mut self, device: u8)
         ensures lost { (watched self.new).lost ≡ Some device }
         ensures fault { (watched self.new).fault ≡ (watched self.old).fault }
@@ -97,10 +100,11 @@ pub trait Observer {
         ensures history { (watched self.new).history ≡ (watched self.old).history }
         ensures ended { (watched self.new).has_ended ≡ (watched self.old).has_ended };
 
-    /// The run has ended, and has left this world, of whose log the records are written where that is asked for.
+    /// Observes the end of the run, with its last world. The event log's records are written, if
+    /// that is requested.
     ///
     /// # Errors
-    /// As for a turn; and the records can't be written.
+    /// As for `see`; and if the records can't be written.
     fn end<B: Bank + Drop>(&mut self, world: &World<'_, B>) -> Result<(), ObserverFault>
         ensures ok { OnOk result ((watched self.new).fault ≡ None) }
         ensures err { IfErr result (λ e. (watched self.new).fault ≡ Some e) }
@@ -114,7 +118,7 @@ pub trait Observer {
         ensures ended { (watched self.new).has_ended ≡ true };
 }
 
-/// The run's fault when an onlooker fails.
+/// Returns the fault of a run whose observer failed.
 pub fn observer_fault(fault: ObserverFault) -> RunFault
     ensures told { result ≡ run_fault_of_observer fault }
     ensures ends { MayEnd result }
@@ -128,7 +132,7 @@ pub fn observer_fault(fault: ObserverFault) -> RunFault
     }
 }
 
-/// Starts the update of each device with the package of this number, and lists the steps.
+/// Starts the update of each device with package `number`, and lists the steps.
 fn start_all<B: Bank + Drop>(
     world: &mut World<'_, B>,
     number: usize,
@@ -166,7 +170,7 @@ fn start_all<B: Bank + Drop>(
     Ok(())
 }
 
-/// What looks on notes the steps of a turn, and sees what it left.
+/// Lets the observer record the steps of a turn, and observe the world after it.
 fn see_turn<B: Bank + Drop, V: Observer>(
     world: &World<'_, B>,
     watch: &mut V,
@@ -185,7 +189,8 @@ fn see_turn<B: Bank + Drop, V: Observer>(
     watch.see(world)
 }
 
-/// The run's fault when a turn fails. The onlooker still notes its steps, and sees it; a fault of its own isn't told then.
+/// The fault of a run if a turn fails. The observer still records its steps, and observes the
+/// world; a fault of its own is dropped then.
 fn broken_off<B: Bank + Drop, V: Observer>(
     world: &World<'_, B>,
     watch: &mut V,
@@ -203,12 +208,13 @@ fn broken_off<B: Bank + Drop, V: Observer>(
     edge_fault(fault)
 }
 
-/// Updates each device of a new world with the package of this number over its link, turn by turn, until each session is Done or Failed, and at
-/// most for 80,000 turns. What looks on notes each step, and sees each turn, the one too in which a link fails.
+/// Updates each device of a new world with package `number` over its link, turn by turn, until each
+/// session is Done or Failed, or for at most 80,000 turns. The observer sees each step and each
+/// turn, also a turn in which a link fails.
 ///
 /// # Errors
-/// `Edge` where a link failed, a start is refused or the clock stands at its end, `Memory` where memory was refused, and what ends
-/// the watch.
+/// `Edge` if a link failed, a start is refused or the clock is at its last tick; `Memory` if memory
+/// is refused; or the observer's fault.
 pub fn update_all<B: Bank + Drop, L: Link, V: Observer>(
     alloc: Global,
     world: &mut World<'_, B>,
@@ -266,10 +272,10 @@ pub fn update_all<B: Bank + Drop, L: Link, V: Observer>(
     Ok(())
 }
 
-/// Updates each device of a new world, and lets what looks on end, whatever becomes of the update.
+/// Updates each device of a new world, and ends the observer, whatever the result of the update.
 ///
 /// # Errors
-/// That of the update, and else what ends the watch.
+/// The fault of the update, or else the observer's.
 pub fn update_observed<B: Bank + Drop, L: Link, V: Observer>(
     alloc: Global,
     world: &mut World<'_, B>,

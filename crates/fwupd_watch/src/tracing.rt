@@ -1,4 +1,4 @@
-//! The packets of a run, written as they go out.
+//! Writes the packets of a run when they are sent.
 
 ghost use Rattle.std.specs.Prelude.{◌≡◌, ◌<◌, ◌≤◌, ◌⊎◌, ◌+◌, ◌^◌, ◌∷◌, [], List, Option, Some, IfErr, IfOk, IfSome, OnOk, length, slice_get, ℕ};
 ghost use Rattle.std.specs.Io.Buffered.{writer_buffer, writer_contents};
@@ -19,19 +19,19 @@ use fwupd_words::TraceForm;
 use std::alloc::{AllocError, Global};
 use std::io::{BufWriter, Write};
 
-/// Writes each packet of a run or a replay as it goes out, in a form.
+/// Writes each packet of a run or a replay when it is sent, in one of the formats of a trace.
 #[derive(Drop)]
 pub struct Trace<W: Write + Drop> {
     alloc: Global,
     form: TraceForm,
     writer: BufWriter<W>,
-    /// How many packets of each pair are written, in configured order.
+    /// The number of written packets of each pair, in configured order.
     written: ArrayVec<usize, 16>,
-    /// What has read them, a reader for each pair.
+    /// The reader of each pair's packets.
     readers: Vec<PacketReader>,
 }
 
-/// Whether a packet goes to the agent, as its third byte says.
+/// Whether a packet goes to the agent, by its third byte.
 fn is_to_agent(device: u8, bytes: &[u8]) -> bool
     ensures { result ≡ is_to_agent device bytes.now }
 {
@@ -41,7 +41,7 @@ fn is_to_agent(device: u8, bytes: &[u8]) -> bool
     }
 }
 
-/// Which way a packet goes.
+/// The direction of a packet.
 fn way(device: u8, bytes: &[u8]) -> &'static str
     ensures { result.now ≡ way_of device bytes.now }
 {
@@ -52,7 +52,8 @@ fn way(device: u8, bytes: &[u8]) -> &'static str
     }
 }
 
-/// Appends a packet's line: the turn, the device of the pair, `to-device` or `to-agent`, and the packet in upper-case digits.
+/// Appends a packet's line: the tick, the device of the pair, `to-device` or `to-agent`, and the
+/// packet in upper-case digits.
 #[tactic(auto, unfolding(crate::specs::Traces::trace_line))]
 fn push_line(
     alloc: Global,
@@ -70,7 +71,8 @@ fn push_line(
     Ok(())
 }
 
-/// Appends what is written of a packet in a form, with its number, from 1 on; its reader has read those before it, and goes on.
+/// Appends a packet in a format, with its number, from 1. `reader` has read the packets before it,
+/// and then reads this one.
 fn push_packet(
     alloc: Global,
     form: TraceForm,
@@ -93,7 +95,7 @@ fn push_packet(
     }
 }
 
-/// What a trace begins with.
+/// The beginning of a trace.
 fn head(form: TraceForm) -> &'static [u8]
     ensures { result.now ≡ head_of form }
 {
@@ -103,7 +105,7 @@ fn head(form: TraceForm) -> &'static [u8]
     }
 }
 
-/// What is written of these packets, behind so many of their pair.
+/// The text of the packets of a pair after the first `written`.
 fn lines(
     alloc: Global,
     form: TraceForm,
@@ -134,7 +136,8 @@ fn lines(
     Ok(text)
 }
 
-/// Writes the packets of the pair at a place behind so many, and gives how many packets it has.
+/// Writes the packets of the pair at `place` after the first `written`, and returns the number of
+/// its packets.
 fn write_pair<B: Bank + Drop, W: Write>(
     alloc: Global,
     form: TraceForm,
@@ -172,7 +175,7 @@ fn write_pair<B: Bank + Drop, W: Write>(
     }
 }
 
-/// How many packets of the pair at a place are written.
+/// The number of written packets of the pair at `place`.
 fn written_at(written: &[usize], place: usize) -> usize
     ensures { result ≡ written_of written.now place }
 {
@@ -182,7 +185,8 @@ fn written_at(written: &[usize], place: usize) -> usize
     }
 }
 
-/// Writes the packets of each pair behind those that are written, and gives how many there are of each. Each reader reads its pair's.
+/// Writes the unwritten packets of each pair, and returns the numbers of packets. Each reader reads
+/// the packets of its pair.
 #[tactic(auto, using(crate::proofs::Turns::reading))]
 fn write_pairs<B: Bank + Drop, W: Write>(
     alloc: Global,
@@ -234,10 +238,10 @@ fn add_readers<B: Bank + Drop>(
 }
 
 impl<W: Write + Drop> Trace<W> {
-    /// A trace of which the head alone is written.
+    /// Creates a trace that consists of its header.
     ///
     /// # Errors
-    /// The head can't be written, or `Memory`.
+    /// `Unwritten` if the header can't be written, or `Memory`.
     pub fn new(alloc: Global, form: TraceForm, writer: W) -> Result<Trace<W>, ObserverFault>
         ensures written { IfOk result (λ t. t.written.items ≡ []) }
         ensures unread { IfOk result (λ t. t.readers.items ≡ []) }
@@ -262,11 +266,11 @@ impl<W: Write + Drop> Trace<W> {
         })
     }
 
-    /// Writes the packets that a turn sent: those of each pair that aren't written yet. What is written then is the lines of the
-    /// packets that were sent so far, if each world that it is given goes on from the one before.
+    /// Writes the packets that a turn sent: the unwritten ones of each pair. If each observed world
+    /// continues the one before it, the trace is the lines of all packets sent so far.
     ///
     /// # Errors
-    /// They can't be written, or memory for their lines is refused.
+    /// `Unwritten` if they can't be written, or `Memory` if memory is refused.
     pub fn see<B: Bank + Drop>(&mut self, world: &World<'_, B>) -> Result<(), ObserverFault>
         ensures lines { OnOk result (Appends (writer_contents W.contents self.old.writer) (writer_contents W.contents self.new.writer)
             (pairs_text self.old.form (readers_for self.old.readers.items world.now) self.old.written.items world.now.sites (length world.now.sites))) }
@@ -297,10 +301,10 @@ impl<W: Write + Drop> Trace<W> {
         Ok(())
     }
 
-    /// Writes what is held back.
+    /// Flushes the trace.
     ///
     /// # Errors
-    /// It can't be written.
+    /// `Unwritten` if that fails.
     pub fn end(&mut self) -> Result<(), ObserverFault>
         ensures fault { IfErr result (λ e. e ≡ ObserverFault.Unwritten) }
         ensures all { OnOk result (writer_buffer self.new.writer ≡ []) }

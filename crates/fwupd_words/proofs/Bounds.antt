@@ -1,4 +1,4 @@
--- The numbers that words without a fault give lie in the bounds of the command line.
+-- The numbers in arguments without a fault are within the bounds of the command line.
 use Rattle.std.proofs.Common.{◌≡◌, ◌∙◌, ◌+◌, ◌∷◌, ◌<◌, ◌≤◌, ◌^◌, [], Bool, ℕ, List, Option, None, Some, ap, arith, false, true, is_some, option_map, refl, sym, true≢false}
 use Rattle.std.specs.Prelude.{option_and_then, pos, slice_get, unwrap_or}
 use Rattle.std.specs.List.{find}
@@ -18,7 +18,7 @@ use Rattle.fwupd_words.specs.CommandLine.{number_between}
 use Rattle.fwupd_words.specs.Words.{number_of}
 use Rattle.fwupd_words.proofs.Rows.{AreRows, IsRowOf}
 
--- a text is a number between bounds, of k bits
+-- a text is a number of k bits between bounds
 pub record IsNumber (k low high : ℕ) (text : Text) : Type 0 where
   pub numeral : IsNumeral 10 (without_leading_plus text)
   pub fits : number_of text < 2 ^ k
@@ -45,7 +45,7 @@ in_bounds k m low high text fits all small within = go (accepts false (vp.Unsign
         let got = signed_reads (Unit {0}) (λ u x. ParsesUnsigned k 10 u x) k low high text None (tt, never) (λ u x g. g) fits within in
         absurd (true≢false (sym (ap is_some got.1)))
 
--- the row of an id, where there is one
+-- the row of an id, if there is one
 had_row : (rules : List Rule) (rows : List Row) (id : Text) (a : Rule) → AreRows rules rows → arg_by_id rules id ≡ Some a → has_row id rows ≡ true
     → (r : Row) × (find (λ r. bytes_eq r.id id) rows ≡ Some r) × IsRowOf a r
 had_row rules [] id a all by has = absurd (true≢false (sym has))
@@ -72,7 +72,7 @@ number_at rules rows id a k m low high all by has parser case fits full small =
     sym (λ i. accepts (case i) (parser_of_value (parser i)) text) ∙ row.2.passes in
     (without_minus text, one, in_bounds k m low high text fits full small (accepts-Accepts false (number_between low high) text passes))
 
--- what asks for it lies in its bounds
+-- the requested number is within its bounds
 pub number_under : (rules : List Rule) (rows : List Row) (id : Text) (a : Rule) (k m low high number : ℕ) → AreRows rules rows → arg_by_id rules id ≡ Some a → has_row id rows ≡ true
     → a.parser ≡ Some (number_between low high) → a.ignore_case ≡ false → high < 2 ^ k → m + 1 ≡ 2 ^ k → m < 2 ^ 64
     → ((text : Text) → one_of id rows ≡ Some text → IsNumeral 10 (without_leading_plus text) → number_of text < 2 ^ k → number ≡ number_of text)

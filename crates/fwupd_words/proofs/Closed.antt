@@ -1,4 +1,4 @@
--- What of the definition computes.
+-- The computed parts of the definition.
 use Rattle.std.proofs.Common.{◌≡◌, ◌∙◌, ◌∷◌, [], IfOk, IsErrAnd, Ok, Err, Result, List, ap, codes, inl, true, refl}
 use Rattle.std.specs.Borrow.{Bor}
 use Rattle.clap.specs.Words.{App, FailsBy, HasMatchesOf, IsParsedFrom, Text, app_of, fault_of, is_simple, is_simple_and_free, kind_of}
@@ -11,14 +11,14 @@ use Rattle.clap.proofs.SimpleLemmas.{plain_fields}
 use Rattle.fwupd_words.specs.CommandLine.{Forms, IsCommandLine, command_line}
 use Rattle.fwupd_words.specs.Reading.{FindsSubcommand}
 
--- the kit says what each word of such a command line comes to
+-- the library determines the result of each argument on such a command line
 pub line_is_simple : (forms : Forms) → is_simple (command_line forms) ≡ true
 line_is_simple forms = refl
 
 pub line_is_free : (forms : Forms) → is_simple_and_free (command_line forms) ≡ true
 line_is_free forms = refl
 
--- what a command of that line finds in words
+-- the matches of arguments on that command line
 pub finds : (c : Command) (words : List Text) (r : Result ArgMatches Error) → IsCommandLine (app_of c) → IfOk r (λ m. IsParsedFrom c m)
     → IfOk r (HasMatchesOf (app_of c) words) → (is_simple_and_free (app_of c) ≡ true → FailsBy (fault_of (app_of c) words) r) → FindsSubcommand (app_of c) words r
 finds c words (Ok m) line parsed matches kinds =
@@ -30,7 +30,7 @@ finds c words (Ok m) line parsed matches kinds =
     )
 finds c words (Err e) line parsed matches kinds = kinds (ap is_simple_and_free line.is ∙ line_is_free line.forms)
 
--- forms of a trace that stand somewhere
+-- names of trace formats at some place in memory
 abbrev some_word : Text → Bor Text
 some_word word = record { ref_ptr = (0, 0); now = word }
 
@@ -40,7 +40,7 @@ some_forms = record { ref_ptr = (0, 0); now = some_word (codes "hex") ∷ some_w
 some_line : IsCommandLine (command_line some_forms)
 some_line = record { forms = some_forms; words = refl; is = refl }
 
--- where there was no memory for the command line, what is found is that
+-- if memory for the command line was refused, that is the result
 pub finds_no_memory : (words : List Text) (r : Result ArgMatches Error) → IsErrAnd r (λ e. kind_of e ≡ kinds.OutOfMemory)
     → (line : App) × IsCommandLine line × FindsSubcommand line words r
 finds_no_memory words (Ok m) e = absurd e

@@ -1,4 +1,4 @@
--- The rows of the subcommand that words name, where nothing is wrong with them.
+-- The rows of the subcommand that the arguments name, if they have no fault.
 use Rattle.std.proofs.Common.{◌≡◌, ◌∙◌, ◌⊎◌, ◌∷◌, [], Bool, List, Option, None, Some, ap, drop, false, true, inl, inr, is_some, option_map, refl, subst, sym, true≢false}
 use Rattle.std.specs.Prelude.{IfSome, unwrap_or}
 use Rattle.std.specs.Option.{option_map_or}
@@ -12,7 +12,7 @@ use Rattle.fwupd_words.specs.CommandLine.{Forms, command_line}
 use Rattle.fwupd_words.proofs.Named.{EachThat, found_has, none_of_both}
 use Rattle.fwupd_words.proofs.Rows.{AllUsual, AreRead, level_keeps}
 
--- the shape is one of these
+-- the shape is in the list
 abbrev IsOneOf : Shape → List Shape → Type 0
 IsOneOf s [] = ⊥
 IsOneOf s (x ∷ xs) = (s ≡ x) ⊎ IsOneOf s xs
@@ -24,7 +24,7 @@ each_is_one p xs = go xs (λ s is. is)
     go [] up = tt
     go (y ∷ ys) up = (λ _. up y (inl refl), go ys (λ s is. up s (inr is)))
 
--- a subcommand that was read of words, without a fault
+-- a subcommand that was parsed without a fault
 record IsRead (line : List Shape) (name : Text) (rows : List Row) : Type 0 where
   pub shape : Shape
   pub words : List Text
@@ -57,7 +57,7 @@ is_read forms words name rows passed is =
         let each = each_is_one (λ s. answers_to p.0 (label_of s)) (built (command_line forms)).subs in
         found p _ (found_has (λ s. IsOneOf s (built (command_line forms)).subs) (λ s. answers_to p.0 (label_of s)) (built (command_line forms)).subs each) passed is
 
--- the shape alone has its name
+-- only this shape has its name
 abbrev pub OnlyNamed : Text → Shape → List Shape → Type 0
 OnlyNamed name x [] = Unit {0}
 OnlyNamed name x (y ∷ ys) = ((y ≡ x) ⊎ (bytes_eq y.name name ≡ false)) × OnlyNamed name x ys
@@ -70,7 +70,7 @@ only_named name s x (y ∷ ys) (inl is) named (inr other, rest) =
     absurd (true≢false (sym same ∙ ap (λ (z : Shape). bytes_eq z.name name) is ∙ other))
 only_named name s x (y ∷ ys) (inr more) named only = only_named name s x ys more named only.1
 
--- the rows of that subcommand, where its arguments are usual
+-- the rows of that subcommand, if its arguments are usual
 pub rows_read : (forms : Forms) (words : List Text) (name : Text) (rows : List Row) (x : Shape) → fault_of (command_line forms) words ≡ []
     → subcommand_of (command_line forms) words ≡ Some (name, rows) → OnlyNamed name x (built (command_line forms)).subs → x.args_override_self ≡ false
     → AllUsual x.rules x.rules → AreRead x rows

@@ -1,4 +1,4 @@
--- What the definition makes of words that are written out.
+-- Results of the definition for literal arguments.
 use Rattle.std.proofs.Common.{◌≡◌, ◌∷◌, [], List, Option, Some, codes, option_map, refl}
 use Rattle.clap.proofs.OnLiterals.{clap_on_literals}
 use Rattle.clap.specs.Walk.{Row, Text}
@@ -9,12 +9,12 @@ use Rattle.fwupd_words.specs.CommandLine.{Forms, command_line}
 abbrev given : (name : Text) → Option (Text × List Row) → Option (Option Text)
 given name = option_map (λ named. first_of name named.1)
 
--- `build` takes the text's file first
+-- `build` takes the description's file first
 builds : (forms : Forms) → given (codes "SPEC") (subcommand_of (command_line forms) (codes "fwupd" ∷ codes "build" ∷ codes "a" ∷ codes "b" ∷ [])) ≡ Some (Some (codes "a"))
 unfolding clap_on_literals
 builds forms = refl
 
--- a package has a number from 1 on, and is the first where none is said
+-- a package's number is from 1, and 1 by default
 plans : (forms : Forms) → given (codes "package") (subcommand_of (command_line forms) (codes "fwupd" ∷ codes "plan" ∷ codes "a" ∷ [])) ≡ Some (Some (codes "1"))
 unfolding clap_on_literals
 plans forms = refl
@@ -32,7 +32,7 @@ no_identifier : (forms : Forms) → fault_of (command_line forms) (codes "fwupd"
 unfolding clap_on_literals
 no_identifier forms = refl
 
--- a soak wants its number of runs, and a folder of stores has a name
+-- a soak requires its number of runs, and the name of a store folder must not be empty
 no_runs : (forms : Forms) → fault_of (command_line forms) (codes "fwupd" ∷ codes "soak" ∷ codes "a" ∷ []) ≡ MissingRequiredArgument ∷ []
 unfolding clap_on_literals
 no_runs forms = refl

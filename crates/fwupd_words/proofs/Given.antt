@@ -1,4 +1,4 @@
--- What words give, by the matches and by the rows that the matches show.
+-- The values of arguments, by the matches and by the rows that the matches show.
 use Rattle.std.proofs.Common.{◌≡◌, ◌∙◌, ◌⊎◌, IfErr, IfOk, Option, None, Some, Result, Ok, Err, List, [], ap, ap₂, codes, inl, inr, option_map, refl, subst, sym}
 use Rattle.std.specs.Prelude.{Box, IsSomeAnd, unwrap_or}
 use Rattle.std.specs.Box.{box_value}
@@ -19,7 +19,7 @@ pub none_of : {A : Type 0} (o : Option A) → ((x : A) → o ≡ Some x → ⊥)
 none_of None never = refl
 none_of (Some x) never = absurd (never x refl)
 
--- the matches give what their rows do
+-- the matches have the values of their rows
 pub given_rows : (m : ArgMatches) → ◌≡◌ {A = Given} (given_in m) (given_by (rows_of (found_of m)))
 given_rows m = λ i. record { first = λ name. first_value-rows (found_of m) name i; one = λ name. one_text-rows (found_of m) name i }
 
@@ -28,7 +28,7 @@ names_are : {Z : Type 0} (o : Option (Box SubCommand Z))
 names_are None = refl
 names_are (Some b) = refl
 
--- the subcommand that matches show has the name and the rows that are read of it
+-- the subcommand in the matches has the name and the rows that are parsed
 entered_is : (m : ArgMatches) (name : Text) (rows : List Row) → Some name ≡ subcommand_name_of m → Some rows ≡ option_map (λ named. named.1) (subcommand_rows_of m)
     → subcommand_rows_of m ≡ Some (name, rows)
 entered_is m name rows named shown = go (subcommand_rows_of m) (subcommand_name_of m) (names_are (out-ArgMatches m).subcommand) named shown
@@ -40,7 +40,7 @@ entered_is m name rows named shown = go (subcommand_rows_of m) (subcommand_name_
         let same : Some p.0 ≡ Some name = is ∙ sym a in
         ap₂ (λ (x : Text) (y : List Row). Some (x, y)) (ap (λ (o : Option Text). unwrap_or o name) same) (ap (λ (o : Option (List Row)). unwrap_or o rows) (sym b))
 
--- why a subcommand asks for no job
+-- why a subcommand requests no job
 no_endpoint : (line : App) (words : List Text) (given : Given) (name : Text) (error : Error) → fault_of line words ≡ []
     → (name ≡ codes "answer" → IsNoByte given (codes "EID") → ⊥) → IsRefusedWord name given error → HasKind (fault_of line words) error ⊎ IsNoUuid name given error
 no_endpoint line words given name error passed never (inl memory) = inl (inl memory)
@@ -62,7 +62,7 @@ refused line words entered name error forms passed is free entering (inl why) =
       | inr bad ↦ inr (passed, subst (λ o. IsSomeAnd o (λ at. IsNoUuid at.0 (given_by at.1) error)) is bad)
     ]
 
--- what is read of a subcommand is read of the words
+-- the result of a subcommand is the result of the arguments
 pub reads : (line : App) (words : List Text) (m entered : ArgMatches) (name : Text) (r : Result Job Error) → IsCommandLine line → IsFound line words m
     → Some name ≡ subcommand_name_of m → Some (rows_of (found_of entered)) ≡ option_map (λ named. named.1) (subcommand_rows_of m)
     → IfOk r (AsksForJob name (given_in entered)) → IfErr r (RefusesWords name (given_in entered)) → ReadsWords line words r

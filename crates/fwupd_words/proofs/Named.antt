@@ -1,4 +1,4 @@
--- No subcommand but the eight is read: `help` answers with help.
+-- Only the eight subcommands are parsed: `help` prints help.
 use Rattle.std.proofs.Common.{◌≡◌, ◌∙◌, ◌||◌, ◌∷◌, [], Bool, ℕ, List, Option, None, Some, ap, cond, codes, drop, false, true, option_map, refl, subst, sym, true≢false}
 use Rattle.std.specs.Prelude.{IfSome, unwrap_or}
 use Rattle.std.proofs.lemmas.Slice.Eq.{bytes_eq-Decides}
@@ -13,7 +13,7 @@ use Rattle.clap.specs.Words.{fault_of, subcommand_of}
 use Rattle.fwupd_words.specs.CommandLine.{Forms, command_line}
 use Rattle.fwupd_words.specs.Reading.{IsNoJob}
 
--- a list of kinds that is empty in two parts
+-- both parts of an empty list of kinds are empty
 pub none_of_both : (a b : Kinds) → or_else a b ≡ [] → (a ≡ []) × (b ≡ [])
 none_of_both [] b is = (refl, is)
 none_of_both (k ∷ ks) b is = cc
@@ -47,7 +47,7 @@ long_names_none c waiting word None h = short_names_none c waiting word (short_o
 abbrev pub IsNoHelp : Text → Type 0
 IsNoHelp name = bytes_eq name (codes "help") ≡ false
 
--- the step names no call for help
+-- the step is not a call for help
 abbrev HelpsNot : Step → Type 0
 HelpsNot (subcommand name) = IsNoHelp name
 HelpsNot _ = Unit {0}
@@ -59,7 +59,7 @@ other_helps_not (next waiting) is = tt
 other_helps_not (trailing n) is = tt
 other_helps_not value is = tt
 
--- a word that is a call for help is a fault
+-- a call for help is a fault
 met_helps_not : (s : Shape) (o : Option Text) (waiting : Waiting) (position : ℕ) (word : Text) (h : Held) → s.disable_help_subcommand ≡ false
     → other_fault s o word h ≡ [] → HelpsNot (subcommand_or_other s.rules o waiting position word h).1
 met_helps_not s (Some name) waiting position word h helps passed = go (bytes_eq name (codes "help")) refl
@@ -78,7 +78,7 @@ word_helps_not : (s : Shape) (names : Names) (t : Bool) (waiting : Waiting) (pos
 word_helps_not s names true waiting position word h helps passed = tt
 word_helps_not s names false waiting position word h helps passed = met_helps_not s (subcommand_met names waiting word) waiting position word h helps passed
 
--- the walk stops at no call for help
+-- the walk doesn't stop at a call for help
 abbrev pub StopsWell : Option (Text × List Text) → Type 0
 StopsWell stop = IfSome stop (λ p. IsNoHelp p.0)
 
@@ -112,7 +112,7 @@ walk_stops_well s names w (word ∷ rest) helps passed well =
     let parts = none_of_both (turn_fault s names w word) _ passed in
     walk_stops_well s names (walked s.rules names w word) rest helps parts.1 (turn_stops_well s names w word helps parts.0 well)
 
--- what is found has what each has that is looked for
+-- the found shape has the property that each searched shape has
 abbrev pub EachThat : (Shape → Type 0) → (Shape → Bool) → List Shape → Type 0
 EachThat Q p [] = Unit {0}
 EachThat Q p (x ∷ xs) = (p x ≡ true → Q x) × EachThat Q p xs
@@ -125,7 +125,7 @@ found_has Q p (x ∷ xs) each = go (p x) refl (found_has Q p xs each.1)
     go true is rest = each.0 is
     go false is rest = rest
 
--- it isn't named as no job
+-- the shape's name is that of a subcommand
 abbrev HasJob : Shape → Type 0
 HasJob s = IsNoJob s.name → ⊥
 
@@ -156,7 +156,7 @@ each_has_job forms name no_help = (
   ),
 )
 
--- where nothing is wrong with words, the subcommand that they name is one of the eight
+-- if arguments have no fault, their subcommand is one of the eight
 pub names_a_job : (forms : Forms) (words : List Text) (name : Text) (rows : List Row) → fault_of (command_line forms) words ≡ []
     → subcommand_of (command_line forms) words ≡ Some (name, rows) → IsNoJob name → ⊥
 names_a_job forms words name rows passed is other =

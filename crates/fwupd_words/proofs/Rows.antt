@@ -1,4 +1,4 @@
--- Where nothing is wrong with words, each row of a subcommand has one text, and one that its argument takes.
+-- If arguments have no fault, each row of a subcommand has one text, which its argument accepts.
 use Rattle.std.proofs.Common.{◌≡◌, ◌∙◌, ◌||◌, ◌⊎◌, ℕ, suc, arith, length, ne_eqb, ◌∷◌, [], ◌++◌, Bool, List, Option, None, Some, ap, cond, false, true, inl, inr, refl, subst, sym, true≢false, ◌&&◌, not}
 use Rattle.std.specs.Prelude.{IfSome, unwrap_or}
 use Rattle.std.specs.List.{find, fold, list_any}
@@ -22,7 +22,7 @@ use Rattle.clap.specs.declared.parser.matches.ValueSource.TheVariants.{CommandLi
 use Rattle.fwupd_words.proofs.Named.{none_of_both}
 use Rattle.fwupd_words.proofs.Walks.{settled_keeps, walk_keeps}
 
--- the row has one text, which the argument takes, and reads as it does
+-- the row has one text, which the argument accepts, and is parsed as the argument says
 pub record IsRowOf (a : Rule) (r : Row) : Type 0 where
   pub text : Text
   pub values : r.values ≡ text ∷ []
@@ -40,7 +40,7 @@ one_row_more : (c : List Rule) (rows : List Row) (r : Row) → AreRows c rows �
 one_row_more c [] r all is = (is, tt)
 one_row_more c (x ∷ xs) r all is = (all.0, one_row_more c xs r all.1 is)
 
--- where there is no row of an id, one is put at the end
+-- if there is no row of an id, one is appended
 at_end : (id : Text) (change : Row → List Row) (missing rows : List Row) → has_row id rows ≡ false → at_row id change missing rows ≡ rows ++ missing
 at_end id change missing [] none = refl
 at_end id change missing (r ∷ rs) none = go (bytes_eq r.id id) (λ e. at_end id change missing rs e) none
@@ -54,7 +54,7 @@ at_end id change missing (r ∷ rs) none = go (bytes_eq r.id id) (λ e. at_end i
 abbrev pub one_row : Rule → ValueSource → Text → Row
 one_row a source text = record { id = a.id; values = text ∷ []; count = None; source = Some source; reading = reading_by a }
 
--- What a use of an argument sets: one text.
+-- Each use of an argument sets one text.
 abbrev SetsOne : Rule → List Text → List Row → Type 0
 SetsOne a values rows =
     (text : Text) × (used a values rows ≡ with_values a.id (reading_by a) CommandLine (text ∷ []) (without a.id rows)) × (set_fault false a (text ∷ []) rows ≡ [])
@@ -62,7 +62,7 @@ SetsOne a values rows =
 abbrev UsesOne : Rule → Type 0
 UsesOne a = (values : List Text) (rows : List Row) → use_fault false a values rows ≡ [] → SetsOne a values rows
 
--- an argument that is the one of its id, sets one text at each use, and has one default or none
+-- the argument is the only one with its id, sets one text at each use, and has at most one default
 pub record IsUsual (c : List Rule) (a : Rule) : Type 0 where
   pub by : arg_by_id c a.id ≡ Some a
   pub uses : UsesOne a
@@ -87,7 +87,7 @@ new_is_row c a source text usual passed other is =
     let same : a ≡ other = ap (λ (o : Option Rule). unwrap_or o a) (sym usual.by ∙ is) in
     subst (λ (x : Rule). IsRowOf x (one_row a source text)) same (record { text = text; values = refl; passes = one_passes a text passed; reading = refl })
 
--- a use keeps that
+-- a use keeps this
 pub use_keeps : (c : List Rule) (a : Rule) (values : List Text) (rows : List Row) → IsUsual c a → use_fault false a values rows ≡ [] → AreRows c rows
     → AreRows c (used a values rows)
 use_keeps c a values rows usual passed all =
@@ -99,13 +99,13 @@ use_keeps c a values rows usual passed all =
     ∙ at_end a.id (more_values CommandLine (sets.0 ∷ [])) (one_row a CommandLine sets.0 ∷ []) rows first in
     subst (AreRows c) (sym is) (one_row_more c rows (one_row a CommandLine sets.0) all (new_is_row c a CommandLine sets.0 usual (none_of_both _ _ sets.2).1))
 
--- a default adds a row where there is none
+-- a default adds a row if there is none
 pub default_adds : (a : Rule) (rows : List Row) (text : Text) → has_row a.id rows ≡ false → a.defaults ≡ text ∷ [] → with_default rows a ≡ rows ++ one_row a DefaultValue text ∷ []
 default_adds a rows text none is =
     rw none (ap (λ texts. default_rows a.id (reading_by a) texts rows) is
     ∙ at_end a.id (more_values DefaultValue (text ∷ [])) (one_row a DefaultValue text ∷ []) rows none)
 
--- and keeps that too
+-- and keeps this too
 default_keeps : (c : List Rule) (a : Rule) (rows : List Row) → IsUsual c a → default_fault rows a ≡ [] → AreRows c rows → AreRows c (with_default rows a)
 default_keeps c a rows usual passed all = go (has_row a.id rows) refl
   where
@@ -134,7 +134,7 @@ defaults_keep c (a ∷ rest) rows usual passed all =
     let parts = none_of_both (default_fault rows a) _ passed in
     defaults_keep c rest (with_default rows a) usual.1 parts.1 (default_keeps c a rows usual.0 parts.0 all)
 
--- an argument of this id has a default
+-- an argument with this id has a default
 abbrev pub has_default : Text → List Rule → Bool
 has_default id = list_any (λ a. bytes_eq a.id id && not (is_empty a.defaults))
 
@@ -198,7 +198,7 @@ usual_found c (a ∷ rest) p usual = go (p a) (usual_found c rest p usual.1)
     go true later = usual.0
     go false later = later
 
--- the rows of a subcommand of usual arguments: each is one of an argument, and so are the defaults
+-- the rows of a subcommand with usual arguments: each is of an argument, and so are the defaults
 pub record AreRead (s : Shape) (rows : List Row) : Type 0 where
   pub each : AreRows s.rules rows
   pub checked : check_fault s rows false ≡ []
@@ -223,14 +223,14 @@ level_keeps s words again usual passed =
       defaults = λ id has. defaults_come s.rules s.rules (settled s.rules end).rows id usual (inr has);
     }
 
--- ---- which arguments are usual
+-- ---- usual arguments
 
 pub no_fault_is_one : (k : ErrorKind) (ks : Kinds) → k ∷ ks ≡ [] → ⊥
 no_fault_is_one k ks is =
     let bad : suc (length ks) ≡ 0 = ap length is in
     absurd (omega arith)
 
--- the fault of a use, by its action and how many texts it takes
+-- the fault of a use, by its action and the number of its texts
 fault_by : (a : Rule) (values : List Text) (rows : List Row) (x : ArgAction) (r : ValueRange) → action_of a ≡ x → unwrap_or_range a.range ≡ r → use_fault false a values rows ≡ []
     → or_else (range_kinds r.start_inclusive r.end_inclusive (length values)) (action_fault x false a (values_or_missing a values) rows) ≡ []
 fault_by a values rows x r is range passed =
@@ -276,7 +276,7 @@ flag_usual c a text by is range missing default = record { by = by; uses = sets_
 pub help_usual : (c : List Rule) (a : Rule) → arg_by_id c a.id ≡ Some a → action_of a ≡ Help → unwrap_or_range a.range ≡ exactly 0 → a.defaults ≡ [] → IsUsual c a
 help_usual c a by is range none = record { by = by; uses = sets_none a is range; default = inl none }
 
--- two facts, the one before the other
+-- two facts, joined
 infixr 30 ◌also◌
 pub ◌also◌ : {A B : Type 0} → A → B → A × B
 one also others = (one, others)

@@ -1,4 +1,4 @@
--- What each use of an argument keeps of the rows, a walk without a fault keeps.
+-- A walk without a fault keeps the facts about the rows that each use keeps.
 use Rattle.std.proofs.Common.{◌≡◌, ◌∷◌, [], Bool, ℕ, zero, suc, List, Option, None, Some, cond, drop, false, true, length, refl}
 use Rattle.std.specs.Prelude.{IfSome, encode_utf8, slice_get}
 use Rattle.std.specs.List.{find, fold}

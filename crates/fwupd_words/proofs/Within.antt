@@ -1,4 +1,4 @@
--- The numbers of each job lie in the bounds of the command line.
+-- The numbers of each job are within the bounds of the command line.
 use Rattle.std.proofs.Common.{◌≡◌, ◌≤◌, ◌<◌, ◌^◌, ◌∷◌, [], Bool, ℕ, List, Some, arith, codes, false, true, inl, inr, refl, subst}
 use Rattle.clap.specs.Faults.{check_fault}
 use Rattle.clap.specs.Takes.{is_given}
@@ -25,7 +25,7 @@ building one = built_leaf (inherited (command_line some_forms).top one.top)
 abbrev as_built : Rule → Rule
 as_built rule = with_index 1 (filled rule)
 
--- ---- each subcommand that takes a number has usual arguments
+-- ---- each subcommand with a number has usual arguments
 
 answering_usual : AllUsual (building answer).rules (building answer).rules
 answering_usual =
@@ -151,7 +151,7 @@ answer_read forms words name rows passed is named =
     inl refl also inr refl also inr refl also inr refl also inr refl also inr refl also inr refl also inr refl also inr refl also tt in
     rows_read forms words (codes "answer") rows (building answer) passed here only refl answering_usual
 
--- words of `answer` without a fault give an identifier
+-- arguments of `answer` without a fault have an identifier
 pub eid_is_read : (forms : Forms) (words : List Text) (name : Text) (rows : List Row) → fault_of (command_line forms) words ≡ []
     → subcommand_of (command_line forms) words ≡ Some (name, rows) → name ≡ codes "answer" → IsNoByte (given_by rows) (codes "EID") → ⊥
 eid_is_read forms words name rows passed is named never =
@@ -160,7 +160,7 @@ eid_is_read forms words name rows passed is named never =
     let at = number_at (building answer).rules rows (codes "EID") eid_rule 8 255 8 254 read.each refl has refl refl (omega arith) refl (omega arith) in
     never at.0 at.1 at.2.numeral at.2.fits
 
--- the numbers of a job that words without a fault ask for
+-- the numbers of a job of arguments without a fault
 pub is_within : (forms : Forms) (words : List Text) (name : Text) (rows : List Row) (job : Job) → fault_of (command_line forms) words ≡ []
     → subcommand_of (command_line forms) words ≡ Some (name, rows) → AsksForJob name (given_by rows) job → IsWithinBounds job
 is_within forms words name rows (jobs.Answer endpoint) passed is asks =

@@ -1,4 +1,4 @@
--- The command line: the subcommands, with what each takes.
+-- The command line: the subcommands with their arguments.
 use Rattle.std.specs.Prelude.{◌≡◌, ℕ, Bool, true, List, [], ◌∷◌, ◌++◌, Some, codes, fold, pos, map}
 use Rattle.std.specs.List.{list_all}
 use Rattle.std.specs.Borrow.{Bor}
@@ -8,25 +8,25 @@ use Rattle.clap.specs.declared.builder.action.ArgAction.TheVariants.{Set, SetTru
 use Rattle.clap.specs.declared.builder.value_parser.ValueParser.{ValueParser}
 use Rattle.clap.specs.declared.builder.value_parser.ValueParser.TheVariants as vp
 
--- A word that has to be given, in its place; and one that isn't empty.
+-- A required positional argument; and one that must not be empty.
 abbrev pub word_rule : Text → Rule
 word_rule name = record (new_rule name) { action = Some Set; required = true }
 
 abbrev pub given_word : Text → Rule
 given_word name = record (word_rule name) { parser = Some vp.NonEmptyString }
 
--- An option that is given or not.
+-- An option without a value.
 abbrev pub flag_rule : Text → Rule
 flag_rule name = record (new_rule name) { long = Some name; action = Some SetTrue }
 
--- An option with a text; and one whose text isn't empty.
+-- An option with a text value; and one whose text must not be empty.
 abbrev pub text_option : Text → Rule
 text_option name = record (new_rule name) { long = Some name; value_names = 1 }
 
 abbrev pub given_option : Text → Rule
 given_option name = record (text_option name) { parser = Some vp.NonEmptyString }
 
--- The numbers from one to another.
+-- The numbers from `low` to `high`.
 abbrev pub number_between : ℕ → ℕ → ValueParser
 number_between low high = vp.Signed (pos low) (pos high)
 
@@ -34,26 +34,26 @@ number_between low high = vp.Signed (pos low) (pos high)
 abbrev pub any_number : ValueParser
 any_number = vp.Unsigned 0 18446744073709551615
 
--- An option that takes what a parser does, and a text where it isn't given.
+-- An option with a parser, and a default text.
 abbrev pub option_rule : Text → (otherwise : Text) → ValueParser → Rule
 option_rule name otherwise parser = record (text_option name) { defaults = otherwise ∷ []; parser = Some parser }
 
--- The words of the forms of a trace, where they stand in memory.
+-- The names of the trace formats, borrowed.
 abbrev pub Forms : Type 0
 Forms = Bor (List (Bor Text))
 
 abbrev pub AreForms : Forms → Type 0
 AreForms forms = map (λ form. form.now) forms.now ≡ codes "hex" ∷ codes "text" ∷ codes "pcap" ∷ []
 
--- The form of a trace, by one of these words.
+-- The option of the trace format, by its name.
 abbrev pub trace_form_rule : Forms → Rule
 trace_form_rule forms = option_rule (codes "trace-format") (codes "hex") (vp.Names forms)
 
--- The number of a package, from 1 on.
+-- The option of a package's number, from 1.
 abbrev pub package_rule : Rule
 package_rule = option_rule (codes "package") (codes "1") (number_between 1 4294967295)
 
--- How rough links are.
+-- The options of rough links.
 abbrev pub roughness_rules : List Rule
 roughness_rules =
     option_rule (codes "loss") (codes "0") (number_between 0 100)
@@ -73,7 +73,8 @@ answer_rules =
 abbrev pub inspect_rules : List Rule
 inspect_rules = flag_rule (codes "json") ∷ word_rule (codes "FILE") ∷ []
 
--- `fwupd replay [--trace FILE] [--trace-format FORM] [--sel FILE] [--store STORE] [--json] CONFIG SCHEDULE`
+-- `fwupd replay [--trace FILE] [--trace-format FORM] [--sel FILE] [--store STORE] [--json] CONFIG
+-- SCHEDULE`
 abbrev pub replay_rules : Forms → List Rule
 replay_rules forms =
     text_option (codes "trace")
@@ -124,7 +125,7 @@ sel_rules = word_rule (codes "FILE") ∷ []
 abbrev pub build_rules : List Rule
 build_rules = word_rule (codes "SPEC") ∷ word_rule (codes "FILE") ∷ []
 
--- A command of a name that takes these, and has no subcommand.
+-- A command with these arguments, and without subcommands.
 abbrev pub taking : Text → List Rule → App
 taking name rules = record (new_app name) { top = record (new_shape name) { rules = rules } }
 
@@ -156,7 +157,7 @@ build = taking (codes "build") build_rules
 abbrev pub subcommands : Forms → List App
 subcommands forms = answer ∷ inspect ∷ replay forms ∷ plan ∷ run forms ∷ soak ∷ sel ∷ build ∷ []
 
--- The program, before it has subcommands: one has to be named, and a version is told.
+-- The program without its subcommands: one is required, and there is a version option.
 abbrev pub program : App
 program = record (new_app (codes "fwupd")) {
   top = record (new_shape (codes "fwupd")) {
@@ -170,7 +171,7 @@ program = record (new_app (codes "fwupd")) {
 abbrev pub with_one : App → App → App
 with_one above one = with_subcommand above one.top
 
--- Nothing of it changes how words are read.
+-- Nothing in the subcommand changes how arguments are parsed.
 abbrev pub is_plain : App → Bool
 is_plain one = one.top.is_plain
 
@@ -178,16 +179,16 @@ is_plain one = one.top.is_plain
 abbrev pub command_line : Forms → App
 command_line forms = fold with_one program (subcommands forms)
 
--- The command line, wherever the forms of a trace stand.
+-- The command line, wherever the names of the trace formats are in memory.
 pub record IsCommandLine (line : App) : Type 0 where
   pub forms : Forms
   pub words : AreForms forms
   pub is : line ≡ command_line forms
 
--- A command with more options and words.
+-- A command with more options and arguments.
 abbrev pub with_rules : App → List Rule → App
 with_rules above rules = record above { top = record above.top { rules = above.top.rules ++ rules } }
 
--- None of them changes how words are read, so that words stand under names as the definition says.
+-- None of the rules changes how arguments are parsed, so each value is found under its name.
 abbrev pub are_simple : List Rule → Bool
 are_simple = list_all (λ rule. rule.is_simple)

@@ -1,4 +1,4 @@
--- What is read of the words of a command line: a job, or an error of what is wrong with them.
+-- The result of parsing arguments: a job, or an error with their fault.
 use Rattle.std.specs.Prelude.{◌≡◌, ◌≢◌, ◌<◌, ◌≤◌, ◌^◌, ◌⊎◌, true, IsSomeAnd, List, [], None, Some, MatchResult, Result, Ok, Err, codes}
 use Rattle.std.specs.Str.Parse.{IsNumeral, without_leading_plus}
 use Rattle.clap.specs.Words.{App, HasKind, Text, fault_of, has_subcommand, kind_of, subcommand_of, subcommand_rows_of}
@@ -11,19 +11,19 @@ use Rattle.fwupd_base.specs.declared.roughness.Roughness.{Roughness}
 use Rattle.fwupd_words.specs.declared.asked.Job.{Job}
 use Rattle.fwupd_words.specs.declared.asked.Job.TheVariants as jobs
 
--- A subcommand that answers is refused a text that is no UUID.
+-- The subcommand `answer` is refused for a text that isn't a UUID.
 pub record IsNoUuid (name : Text) (words : Given) (error : Error) : Type 0 where
   pub answers : name ≡ codes "answer"
   pub kind : kind_of error ≡ kinds.ValueValidation
   pub uuid : parsed (text_under words (codes "uuid")) ≡ None
 
--- Links are no rougher than the command line lets them be.
+-- The roughness is within the bounds of the command line.
 pub record HasAllowedRoughness (roughness : Roughness) : Type 0 where
   pub loss : roughness.loss ≤ 100
   pub duplicate : roughness.duplicate ≤ 100
   pub delay : roughness.delay ≤ 8
 
--- The numbers of a job lie in the bounds of the command line.
+-- The numbers of a job are within the bounds of the command line.
 abbrev pub IsWithinBounds : Job → Type 0
 IsWithinBounds (jobs.Answer endpoint) = (8 ≤ endpoint.eid) × (endpoint.eid ≤ 254)
 IsWithinBounds (jobs.Plan config number form) = 1 ≤ number
@@ -31,8 +31,8 @@ IsWithinBounds (jobs.Run config folder order show) = (1 ≤ order.number) × Has
 IsWithinBounds (jobs.Soak config order path) = (1 ≤ order.runs) × (order.runs ≤ 1000000) × HasAllowedRoughness order.roughness
 IsWithinBounds _ = Unit {0}
 
--- Words with no fault ask for the job that their subcommand asks for, or give no UUID. An error has a kind that the faults of the
--- words say, or memory ran out.
+-- Arguments without a fault give the job that their subcommand requests, or are refused for a
+-- malformed UUID. The kind of an error is one of the faults of the arguments, or memory ran out.
 abbrev pub ReadsWords : App → List Text → Result Job Error → Type 0
 ReadsWords line words (Ok job) =
     (fault_of line words ≡ []) × IsSomeAnd (subcommand_of line words) (λ named. AsksForJob named.0 (given_by named.1) job) × IsWithinBounds job
@@ -42,7 +42,8 @@ ReadsWords line words (Err error) =
 
 -- ---- the steps
 
--- A command line finds a subcommand and its rows in words with no fault, and else gives an error.
+-- The command line finds a subcommand and its rows in arguments without a fault, and otherwise
+-- gives an error.
 abbrev pub IsFound : App → List Text → ArgMatches → Type 0
 IsFound line words matches =
     (fault_of line words ≡ []) × (subcommand_rows_of matches ≡ subcommand_of line words) × (has_subcommand matches ≡ true)
@@ -50,27 +51,29 @@ IsFound line words matches =
 abbrev pub FindsSubcommand : App → List Text → Result ArgMatches Error → Type 0
 FindsSubcommand line words result = MatchResult result (IsFound line words) (HasKind (fault_of line words))
 
--- There is no byte under a name.
+-- There is no number of 8 bits under a name.
 abbrev pub IsNoByte : Given → (name : Text) → Type 0
 IsNoByte words name = (text : Text) → words.one name ≡ Some text → IsNumeral 10 (without_leading_plus text) → number_of text < 2 ^ 8 → ⊥
 
--- Why words give no endpoint: memory ran out, there is no identifier, or the text is no UUID.
+-- Why arguments give no endpoint: memory ran out, the identifier is missing, or the text isn't a
+-- UUID.
 abbrev pub RefusesEndpoint : Given → Error → Type 0
 RefusesEndpoint words error =
     (kind_of error ≡ kinds.OutOfMemory)
     ⊎ (((kind_of error ≡ kinds.MissingRequiredArgument) × IsNoByte words (codes "EID"))
     ⊎ ((kind_of error ≡ kinds.ValueValidation) × (parsed (text_under words (codes "uuid")) ≡ None)))
 
--- A name of none of the subcommands.
+-- The name isn't that of a subcommand.
 abbrev pub IsNoJob : (name : Text) → Type 0
 IsNoJob name =
     (name ≢ codes "answer") × (name ≢ codes "inspect") × (name ≢ codes "replay") × (name ≢ codes "plan") × (name ≢ codes "run")
     × (name ≢ codes "soak") × (name ≢ codes "sel") × (name ≢ codes "build")
 
--- Why the subcommand of a name, with these words, asks for no job: memory ran out, or it is one that answers, without an endpoint.
+-- Why the subcommand with these arguments requests no job: memory ran out, or it is `answer`
+-- without an endpoint.
 abbrev pub IsRefusedWord : (name : Text) → Given → Error → Type 0
 IsRefusedWord name words error = (kind_of error ≡ kinds.OutOfMemory) ⊎ ((name ≡ codes "answer") × RefusesEndpoint words error)
 
--- or it is none
+-- or there is no such subcommand
 abbrev pub RefusesWords : (name : Text) → Given → Error → Type 0
 RefusesWords name words error = IsRefusedWord name words error ⊎ IsNoJob name

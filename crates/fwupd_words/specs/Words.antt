@@ -1,4 +1,4 @@
--- What the words of a command line ask for, by the texts that stand under their names.
+-- The job that arguments request, by the texts under their names.
 use Rattle.std.specs.Prelude.{ℕ, ◌≡◌, ◌<◌, ◌^◌, Bool, true, false, List, [], Option, None, Some, codes, option_map}
 use Rattle.std.specs.Str.Parse.{IsNumeral, digits_value, without_leading_plus}
 use Rattle.clap.specs.Words.{Row, Text, first_of, first_value, found_of, one_of, one_text}
@@ -16,7 +16,8 @@ use Rattle.fwupd_words.specs.declared.asked.SoakOrder.{SoakOrder}
 use Rattle.fwupd_words.specs.declared.asked.TraceForm.{TraceForm}
 use Rattle.fwupd_words.specs.declared.asked.TraceForm.TheVariants as traces
 
--- What words give under names: the first text, and the one that is read as a number or a flag.
+-- The values of arguments under their names: the first text, and the only text, which is read as a
+-- number or a flag.
 pub record Given : Type 0 where
   pub first : Text → Option Text
   pub one : Text → Option Text
@@ -28,7 +29,7 @@ given_in matches = record { first = first_value (found_of matches); one = one_te
 abbrev pub given_by : List Row → Given
 given_by rows = record { first = λ name. first_of name rows; one = λ name. one_of name rows }
 
--- the text under a name, and none where nothing stands there
+-- the text under a name, or an empty text if there is none
 abbrev text_or_none : Option (List ℕ) → List ℕ
 text_or_none None = []
 text_or_none (Some text) = text
@@ -36,32 +37,32 @@ text_or_none (Some text) = text
 abbrev pub text_under : Given → (name : List ℕ) → List ℕ
 text_under words name = text_or_none (words.first name)
 
--- the number that a text spells
+-- the number that a text encodes
 abbrev pub number_of : List ℕ → ℕ
 number_of text = digits_value 10 (without_leading_plus text)
 
--- A flag is set, or it isn't.
+-- A flag is set or not.
 pub record AsksFlag (words : Given) (name : List ℕ) (flag : Bool) : Type 0 where
   pub set : words.one name ≡ Some (codes "true") → flag ≡ true
   pub unset : words.one name ≡ Some (codes "false") → flag ≡ false
 
--- The form is JSON where that flag is set, and else the text.
+-- The format is JSON if the flag is set, and text otherwise.
 pub record AsksForm (words : Given) (form : Form) : Type 0 where
   pub json : words.one (codes "json") ≡ Some (codes "true") → form ≡ forms.Json
   pub text : words.one (codes "json") ≡ Some (codes "false") → form ≡ forms.Text
 
--- The number of a package, where it is one of 32 bits.
+-- The number of a package, if it fits 32 bits.
 pub record AsksNumber (words : Given) (number : ℕ) : Type 0 where
   pub is : (text : List ℕ) → words.one (codes "package") ≡ Some text → IsNumeral 10 (without_leading_plus text) → number_of text < 2 ^ 32 → number ≡ number_of text
 
--- The form of a trace, by its word.
+-- The format of a trace, by its name.
 pub record AsksTraceForm (words : Given) (form : TraceForm) : Type 0 where
   pub none : words.first (codes "trace-format") ≡ None → form ≡ traces.Hex
   pub hex : words.first (codes "trace-format") ≡ Some (codes "hex") → form ≡ traces.Hex
   pub told : words.first (codes "trace-format") ≡ Some (codes "text") → form ≡ traces.Text
   pub capture : words.first (codes "trace-format") ≡ Some (codes "pcap") → form ≡ traces.Capture
 
--- What is shown of a run or a replay.
+-- The outputs of a run or a replay.
 pub record AsksKept (words : Given) (show : Show) : Type 0 where
   pub trace : option_map (λ path. path.now) show.trace ≡ words.first (codes "trace")
   pub trace_form : AsksTraceForm words show.trace_form
@@ -69,19 +70,19 @@ pub record AsksKept (words : Given) (show : Show) : Type 0 where
   pub store : option_map (λ path. path.now) show.store ≡ words.first (codes "store")
   pub form : AsksForm words show.form
 
--- and whether there is progress, and what happens is written in the history of the stores
+-- and whether there is progress, and a history file
 pub record AsksShow (words : Given) (show : Show) : Type 0 where
   pub quiet : AsksFlag words (codes "quiet") show.is_quiet
   pub record_path : option_map (λ path. path.now) show.record ≡ words.first (codes "record")
   pub history : option_map (λ path. path.now) show.history ≡ words.first (codes "store")
   pub kept : AsksKept words show
 
--- The endpoint that answers.
+-- The endpoint of `answer`.
 pub record AsksEndpoint (words : Given) (endpoint : Endpoint) : Type 0 where
   pub eid : (text : List ℕ) → words.one (codes "EID") ≡ Some text → endpoint.eid ≡ number_of text
   pub uuid : Some endpoint.uuid ≡ parsed (text_under words (codes "uuid"))
 
--- A small number, of 8 bits; and a seed, of 64.
+-- A number of 8 bits; and a seed of 64 bits.
 abbrev pub AsksSmall : Given → (name : List ℕ) → (number : ℕ) → Type 0
 AsksSmall words name number =
     (text : List ℕ) → words.one name ≡ Some text → IsNumeral 10 (without_leading_plus text) → number_of text < 2 ^ 8 → number ≡ number_of text
@@ -90,29 +91,29 @@ abbrev pub AsksSeed : Given → (seed : ℕ) → Type 0
 AsksSeed words seed =
     (text : List ℕ) → words.one (codes "seed") ≡ Some text → IsNumeral 10 (without_leading_plus text) → number_of text < 2 ^ 64 → seed ≡ number_of text
 
--- How rough links are.
+-- The roughness of the links.
 pub record AsksRoughness (words : Given) (roughness : Roughness) : Type 0 where
   pub loss : AsksSmall words (codes "loss") roughness.loss
   pub duplicate : AsksSmall words (codes "duplicate") roughness.duplicate
   pub delay : AsksSmall words (codes "delay") roughness.delay
   pub seed : AsksSeed words roughness.seed
 
--- What is asked of a run.
+-- The options of a run.
 pub record AsksOrder (words : Given) (order : Order) : Type 0 where
   pub number : AsksNumber words order.number
   pub check : AsksFlag words (codes "check") order.is_checked
   pub roughness : AsksRoughness words order.roughness
 
--- The number of runs, where it is one of 32 bits.
+-- The number of runs, if it fits 32 bits.
 pub record AsksRuns (words : Given) (runs : ℕ) : Type 0 where
   pub is : (text : List ℕ) → words.one (codes "runs") ≡ Some text → IsNumeral 10 (without_leading_plus text) → number_of text < 2 ^ 32 → runs ≡ number_of text
 
--- What is asked of a soak.
+-- The options of a soak.
 pub record AsksSoak (words : Given) (order : SoakOrder) : Type 0 where
   pub runs : AsksRuns words order.runs
   pub roughness : AsksRoughness words order.roughness
 
--- The subcommand of a name, with these words, asks for a job.
+-- The subcommand `name` with these arguments requests a job.
 abbrev pub AsksForJob : (name : List ℕ) → Given → Job → Type 0
 AsksForJob name words (jobs.Answer endpoint) = (name ≡ codes "answer") × AsksEndpoint words endpoint
 AsksForJob name words (jobs.Inspect path form) = (name ≡ codes "inspect") × (path.now ≡ text_under words (codes "FILE")) × AsksForm words form

@@ -1,79 +1,81 @@
-//! What the words of a command line ask for.
+//! The jobs that arguments request.
 
 use fwupd_base::{Form, Roughness};
 use mctp_ctl::Endpoint;
 
-/// What the words ask for.
+/// The job that arguments request.
 #[derive(Clone, Copy)]
 pub enum Job<'a> {
-    /// Answer packets as this endpoint, whose identifier is one of a node's, 8 to 254.
+    /// Answer packets as this endpoint, whose identifier is 8 to 254.
     Answer(Endpoint),
-    /// Inspect the package in the file of this path, in this form.
+    /// Inspect the package in the file at this path, and print in this format.
     Inspect(&'a str, Form),
-    /// Replay, with the configuration of the first path, the schedule of the second.
+    /// Replay the schedule at the second path with the configuration at the first.
     Replay(&'a str, &'a str, Show<'a>),
-    /// Update the devices of the configuration of the first path over sockets in the folder of the second.
+    /// Update the devices of the configuration at the first path, over sockets in the folder at the
+    /// second.
     Run(&'a str, &'a str, Order, Show<'a>),
-    /// Build the package that the text in the file of the first path asks for, into the file of the second.
+    /// Build the package that the description at the first path specifies, into the file at the
+    /// second.
     Build(&'a str, &'a str),
-    /// Say what an update of the devices of the configuration of this path comes to, with its package of this number, from 1 on, in
-    /// this form.
+    /// Print the plan of an update of the devices of the configuration at this path, with its
+    /// package of this number, from 1, in this format.
     Plan(&'a str, usize, Form),
-    /// Tell the records of an event log in the file of this path.
+    /// Print the event log records in the file at this path.
     Sel(&'a str),
-    /// Make many rough runs of the devices of the configuration of this path, and keep the steps of the first that goes wrong in the
-    /// file of the other path, if there is one.
+    /// Make many runs over rough links with the configuration at this path; write the steps of the
+    /// first violation into the file at the other path, if there is one.
     Soak(&'a str, SoakOrder, Option<&'a str>),
 }
 
-/// What is written of each packet.
+/// The format of a trace.
 #[derive(Clone, Copy, PartialEq, Eq)]
 pub enum TraceForm {
-    /// A line, with the packet in hexadecimal digits.
+    /// One line a packet, with its bytes in hexadecimal digits.
     Hex,
-    /// A line that tells what the packet says.
+    /// One line a packet, with its decoded fields.
     Text,
-    /// What a capture's file holds of it, as Linux captures on an MCTP interface.
+    /// A capture file, as Linux captures on an MCTP interface.
     Capture,
 }
 
-/// What is asked of a run.
+/// The options of a run.
 #[derive(Clone, Copy)]
 pub struct Order {
-    /// The number of the package that devices are updated with, from 1 on.
+    /// The number of the package that devices are updated with, from 1.
     pub number: usize,
-    /// Whether each session has to be Done in the end.
+    /// Whether the run fails unless each session ends Done.
     pub is_checked: bool,
-    /// How rough its links are.
+    /// The roughness of the links.
     pub roughness: Roughness,
 }
 
-/// What is asked of a soak.
+/// The options of a soak.
 #[derive(Clone, Copy)]
 pub struct SoakOrder {
-    /// How many runs are made, at least 1.
+    /// The number of runs, at least 1.
     pub runs: u32,
-    /// How rough their links are.
+    /// The roughness of the links.
     pub roughness: Roughness,
 }
 
-/// What is shown of a run or a replay.
+/// The outputs of a run or a replay.
 #[derive(Clone, Copy)]
 pub struct Show<'a> {
-    /// No progress, also on a terminal.
+    /// Whether progress is suppressed, also on a terminal.
     pub is_quiet: bool,
-    /// The file that each packet is written to as it goes out, if there is one.
+    /// The file that each packet is written to when it is sent, if any.
     pub trace: Option<&'a str>,
-    /// What is written there of each packet.
+    /// The format of that file.
     pub trace_form: TraceForm,
-    /// The file that the event log's records are written to in the end, if there is one.
+    /// The file that the event log's records are written to at the end, if any.
     pub log: Option<&'a str>,
-    /// The file that each step is written to as it is taken, as a schedule, if there is one.
+    /// The file that each step is written to when it is taken, as a schedule, if any.
     pub record: Option<&'a str>,
-    /// The folder of the devices' stores, if their images last. A replay only reads it.
+    /// The folder of the devices' stores, if their images persist. A replay only reads it.
     pub store: Option<&'a str>,
-    /// The folder of stores in whose history it is written what happens, if that is: that of a run, not of a replay.
+    /// The folder of stores whose history file the run appends to, if any; none for a replay.
     pub history: Option<&'a str>,
-    /// The form of its report.
+    /// The format of the report.
     pub form: Form,
 }

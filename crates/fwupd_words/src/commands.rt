@@ -1,4 +1,4 @@
-//! The subcommands, with their words and their help.
+//! The subcommands, with their arguments and their help.
 
 ghost use Rattle.std.specs.Prelude.{◌≡◌, IfOk, map, true};
 ghost use Rattle.clap.specs.Words.{app_of, rule_of};
@@ -14,7 +14,7 @@ use crate::options::{
 use clap::{Arg, Command, value_parser};
 use std::alloc::{AllocError, Global};
 
-/// A command with these options and words after those that it has.
+/// Adds options and arguments to a command.
 fn with_args<'a>(command: Command<'a>, args: Vec<Arg<'a>>) -> Result<Command<'a>, AllocError>
     ensures { are_simple (map rule_of args.entry.items) ≡ true → IfOk result (λ c. app_of c ≡ with_rules (app_of command.entry) (map rule_of args.entry.items)) }
 {
@@ -102,7 +102,7 @@ fn replay_command<'a>(alloc: Global, forms: &'a [&'a str]) -> Result<Command<'a>
     with_args(command, args)
 }
 
-/// The options and words of `run`, but for those of rough links.
+/// The options and arguments of `run`, without those of rough links.
 fn run_options<'a>(alloc: Global, forms: &'a [&'a str]) -> Result<Vec<Arg<'a>>, AllocError>
     ensures { IfOk result (λ options. map rule_of options.items ≡ run_options forms.entry) }
 {
@@ -237,7 +237,7 @@ fn with_one<'a>(command: Command<'a>, one: Command<'a>) -> Result<Command<'a>, A
     command.subcommand(one)
 }
 
-/// The command line, with these words of the forms of a trace. Help lists the subcommands in this order.
+/// The command line, with the names of the trace formats. Help lists the subcommands in this order.
 fn command_with<'a>(alloc: Global, forms: &'a [&'a str]) -> Result<Command<'a>, AllocError>
     ensures { IfOk result (λ c. app_of c ≡ command_line forms.entry) }
 {
@@ -251,7 +251,7 @@ fn command_with<'a>(alloc: Global, forms: &'a [&'a str]) -> Result<Command<'a>, 
     with_one(command, build_command(alloc)?)
 }
 
-/// The words of the forms of a trace.
+/// The names of the trace formats.
 const TRACE_FORMS: &[&str] = &["hex", "text", "pcap"];
 
 /// The whole command line.

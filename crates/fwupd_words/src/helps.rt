@@ -1,6 +1,6 @@
-//! What stands below the help of each subcommand.
+//! The text below the help of each subcommand.
 
-/// What stands below the help of `answer`.
+/// The text below the help of `answer`.
 pub(crate) const ANSWER_HELP: &str = "\
 Examples:
   printf '010908C8008002\\n' | fwupd answer 9        prints 010809C000000200090100
@@ -24,7 +24,7 @@ Limits: a run reads at most 16777216 bytes. The next byte ends it with 'fwupd: i
 Status: 0; 1 if standard error says 'fwupd: input', 'fwupd: output' or 'fwupd: memory'; 2 for wrong
 usage.";
 
-/// What stands below the help of `inspect`.
+/// The text below the help of `inspect`.
 pub(crate) const INSPECT_HELP: &str = "\
 Example:
   fwupd inspect examples/two-records.fwpkg
@@ -46,7 +46,7 @@ read whole, and has to fit into memory.
 Status: 0; 1 if standard error says 'fwupd: package: ' and a fault, 'fwupd: FILE: unreadable',
 'fwupd: output' or 'fwupd: memory'; 2 for wrong usage.";
 
-/// What stands below the help of `replay`.
+/// The text below the help of `replay`.
 pub(crate) const REPLAY_HELP: &str = "\
 Example:
   fwupd replay examples/one.config examples/update.schedule
@@ -96,7 +96,7 @@ Status: 0; 1 if standard error says 'fwupd: PATH: line N: FAULT', 'fwupd: packag
 'fwupd: step N: FAULT', 'fwupd: FILE: unreadable', 'fwupd: store: EID: FAULT', 'fwupd: trace',
 'fwupd: sel', 'fwupd: output' or 'fwupd: memory'; 2 for wrong usage.";
 
-/// What stands below the help of `run`.
+/// The text below the help of `run`.
 pub(crate) const RUN_HELP: &str = "\
 Examples:
   fwupd run examples/one.config .
@@ -137,7 +137,7 @@ Limits: 80000 turns of one tick each. Three images of 1 MiB take about 66000.
 Status: 0; 1 if standard error says 'fwupd: ' and a fault, one of these or of 'replay'; 2 for wrong
 usage.";
 
-/// What stands below the help of `soak`.
+/// The text below the help of `soak`.
 pub(crate) const SOAK_HELP: &str = "\
 Example:
   fwupd soak --runs 100 --seed 7 --loss 20 --duplicate 10 --delay 3 examples/one.config
@@ -172,7 +172,7 @@ package; 'record' if FILE can't be written, or is one that is read.
 Status: 0 if no run goes wrong; 1 if standard error says 'fwupd: ' and a fault, one of these or of
 'replay'; 2 for wrong usage.";
 
-/// What stands below the help of `sel`.
+/// The text below the help of `sel`.
 pub(crate) const SEL_HELP: &str = "\
 Example:
   fwupd run --sel out/log examples/one.config out && fwupd sel out/log
@@ -186,7 +186,7 @@ Of a record that no agent made it has the identifier, the type, and the 13 bytes
 Status: 0; 1 if standard error says 'fwupd: sel: Size', where the size is no multiple of 16 or is over
 2048, 'fwupd: FILE: unreadable', 'fwupd: output' or 'fwupd: memory'; 2 for wrong usage.";
 
-/// What stands below the help of `build`.
+/// The text below the help of `build`.
 pub(crate) const BUILD_HELP: &str = "\
 Example:
   fwupd build my.spec my.fwpkg
@@ -223,7 +223,7 @@ Limits: paths are UTF-8 text, and the images fit into memory.
 Status: 0; 1 if standard error says 'fwupd: SPEC: line N: ' and a fault, 'fwupd: PATH: unreadable',
 'fwupd: output' or 'fwupd: memory'; 2 for wrong usage.";
 
-/// What stands below the help of `plan`.
+/// The text below the help of `plan`.
 pub(crate) const PLAN_HELP: &str = "\
 Examples:
   fwupd plan examples/one.config

@@ -1,4 +1,5 @@
-//! The words of the command line: the subcommands with their options and help, and the job that words ask for.
+//! The command line: the subcommands with their options and help, and the job that arguments
+//! request.
 #![tactic(auto)]
 
 mod asked;

@@ -1,4 +1,4 @@
-//! The words and options that several subcommands have.
+//! Arguments and options that several subcommands share.
 
 ghost use Rattle.std.specs.Prelude.{◌≡◌, ◌∷◌, [], IfOk, Some, codes, map};
 ghost use Rattle.clap.specs.Words.{rule_of};
@@ -8,7 +8,7 @@ use clap::builder::ValueParser;
 use clap::{Arg, ArgAction, value_parser};
 use std::alloc::{AllocError, Global};
 
-/// A word that has to be given, in its place.
+/// A required positional argument.
 pub(crate) fn word<'a>(alloc: Global, name: &'static str, help: &'static str) -> Arg<'a>
     ensures { rule_of result ≡ word_rule name.entry.now }
 {
@@ -18,7 +18,7 @@ pub(crate) fn word<'a>(alloc: Global, name: &'static str, help: &'static str) ->
         .action(ArgAction::Set)
 }
 
-/// The word that names the configuration's file.
+/// The argument for the path of the configuration.
 pub(crate) fn config_word<'a>(alloc: Global) -> Arg<'a>
     ensures { rule_of result ≡ word_rule (codes "CONFIG") }
 {
@@ -29,7 +29,7 @@ pub(crate) fn config_word<'a>(alloc: Global) -> Arg<'a>
     )
 }
 
-/// The word that names the folder of sockets.
+/// The argument for the path of the sockets' folder.
 pub(crate) fn folder_word<'a>(alloc: Global) -> Arg<'a>
     ensures { rule_of result ≡ given_word (codes "FOLDER") }
 {
@@ -37,7 +37,7 @@ pub(crate) fn folder_word<'a>(alloc: Global) -> Arg<'a>
     folder.value_parser(ValueParser::NonEmptyString)
 }
 
-/// An option that is given or not.
+/// An option without a value.
 pub(crate) fn flag<'a>(alloc: Global, name: &'static str, help: &'static str) -> Arg<'a>
     ensures { rule_of result ≡ flag_rule name.entry.now }
 {
@@ -47,7 +47,7 @@ pub(crate) fn flag<'a>(alloc: Global, name: &'static str, help: &'static str) ->
         .action(ArgAction::SetTrue)
 }
 
-/// An option with a text.
+/// An option with a text value.
 pub(crate) fn text_option<'a>(
     alloc: Global,
     name: &'static str,
@@ -62,7 +62,7 @@ pub(crate) fn text_option<'a>(
         .help(help)
 }
 
-/// The option that names the file of a trace.
+/// The option for the path of a trace.
 pub(crate) fn trace_option<'a>(alloc: Global) -> Arg<'a>
     ensures { rule_of result ≡ text_option (codes "trace") }
 {
@@ -74,7 +74,7 @@ pub(crate) fn trace_option<'a>(alloc: Global) -> Arg<'a>
     )
 }
 
-/// The option that says in which of these forms a trace is.
+/// The option for the format of a trace.
 pub(crate) fn trace_form_option<'a>(alloc: Global, forms: &'a [&'a str]) -> Arg<'a>
     ensures { rule_of result ≡ trace_form_rule forms.entry }
 {
@@ -88,7 +88,7 @@ pub(crate) fn trace_form_option<'a>(alloc: Global, forms: &'a [&'a str]) -> Arg<
     .default_value("hex")
 }
 
-/// The option that names the file of the event log's records.
+/// The option for the path of the event log's records.
 pub(crate) fn log_option<'a>(alloc: Global) -> Arg<'a>
     ensures { rule_of result ≡ text_option (codes "sel") }
 {
@@ -100,21 +100,21 @@ pub(crate) fn log_option<'a>(alloc: Global) -> Arg<'a>
     )
 }
 
-/// The option that names the file of the steps.
+/// The option for the path of the steps.
 pub(crate) fn record_option<'a>(alloc: Global, help: &'static str) -> Arg<'a>
     ensures { rule_of result ≡ text_option (codes "record") }
 {
     text_option(alloc, "record", "FILE", help)
 }
 
-/// The option that names the folder of the devices' stores.
+/// The option for the path of the stores' folder.
 pub(crate) fn store_option<'a>(alloc: Global, help: &'static str) -> Arg<'a>
     ensures { rule_of result ≡ given_option (codes "store") }
 {
     text_option(alloc, "store", "STORE", help).value_parser(ValueParser::NonEmptyString)
 }
 
-/// The option that asks for JSON.
+/// The option for JSON output.
 pub(crate) fn json_option<'a>(alloc: Global) -> Arg<'a>
     ensures { rule_of result ≡ flag_rule (codes "json") }
 {
@@ -125,14 +125,14 @@ pub(crate) fn json_option<'a>(alloc: Global) -> Arg<'a>
     )
 }
 
-/// An option that is read by a parser, and a text where it isn't given.
+/// Gives an option a parser, and a default text.
 fn read_option<'a>(option: Arg<'a>, otherwise: &'static str, parser: ValueParser<'a>) -> Arg<'a>
     ensures { rule_of result ≡ record (rule_of option.entry) { defaults = otherwise.entry.now ∷ []; parser = Some parser.entry } }
 {
     option.default_value(otherwise).value_parser(parser)
 }
 
-/// The options that make links rough.
+/// The options of rough links.
 pub(crate) fn roughness_options<'a>(alloc: Global) -> Result<Vec<Arg<'a>>, AllocError>
     ensures { IfOk result (λ options. map rule_of options.items ≡ roughness_rules) }
 {
@@ -163,7 +163,7 @@ pub(crate) fn roughness_options<'a>(alloc: Global) -> Result<Vec<Arg<'a>>, Alloc
     ]?)
 }
 
-/// The option that says with which package devices are updated.
+/// The option for the number of the package.
 pub(crate) fn package_option<'a>(alloc: Global) -> Arg<'a>
     ensures { rule_of result ≡ package_rule }
 {

@@ -1,4 +1,4 @@
-//! Reading the words of a command line.
+//! Reads the arguments of the command line.
 
 ghost use Rattle.std.specs.Prelude.{◌≡◌, IfErr, IfOk, codes, map, option_map};
 ghost use Rattle.std.specs.String.{string_bytes};
@@ -16,7 +16,7 @@ use mctp_ctl::Endpoint;
 use std::alloc::{AllocError, Global};
 use uuid::Uuid;
 
-/// The number that the option says.
+/// The value of the package option.
 fn package_number(matches: &ArgMatches<'_>) -> usize
     ensures { AsksNumber (given_in matches.now) result }
 {
@@ -26,7 +26,7 @@ fn package_number(matches: &ArgMatches<'_>) -> usize
     }
 }
 
-/// The text that the words give under a name, and none where they give nothing.
+/// The text argument or option `name`, or an empty text if it is missing.
 fn text_under<'a>(matches: &ArgMatches<'a>, name: &str) -> &'a str
     ensures { result.now ≡ text_under (given_in matches.now) name.now }
 {
@@ -36,14 +36,14 @@ fn text_under<'a>(matches: &ArgMatches<'a>, name: &str) -> &'a str
     }
 }
 
-/// An error of this kind, with what it says.
+/// An error of this kind, with this message.
 fn refusal(alloc: Global, kind: ErrorKind, message: &str) -> Result<clap::Error, AllocError>
     ensures { IfOk result (λ error. kind_of error ≡ kind) }
 {
     command(alloc)?.error(kind, message)
 }
 
-/// The endpoint that the words of `answer` name.
+/// The endpoint that the arguments of `answer` specify.
 fn endpoint_in<'a>(alloc: Global, matches: &ArgMatches<'a>) -> Result<Endpoint, clap::Error>
     ensures endpoint { IfOk result (AsksEndpoint (given_in matches.now)) }
     ensures refused { IfErr result (RefusesEndpoint (given_in matches.now)) }
@@ -61,7 +61,7 @@ fn endpoint_in<'a>(alloc: Global, matches: &ArgMatches<'a>) -> Result<Endpoint, 
     }
 }
 
-/// The form that the words ask for.
+/// The output format that the arguments request.
 fn form_in(matches: &ArgMatches<'_>) -> Form
     ensures { AsksForm (given_in matches.now) result }
 {
@@ -72,7 +72,7 @@ fn form_in(matches: &ArgMatches<'_>) -> Form
     }
 }
 
-/// The form of a trace that the words ask for.
+/// The trace format that the arguments request.
 fn trace_form_in(matches: &ArgMatches<'_>) -> TraceForm
     ensures { AsksTraceForm (given_in matches.now) result }
 {
@@ -83,7 +83,8 @@ fn trace_form_in(matches: &ArgMatches<'_>) -> TraceForm
     }
 }
 
-/// What the words of `run` or `replay` ask to be shown, with progress or without, and with the history of the stores in a folder.
+/// The outputs that the arguments of `run` or `replay` request, with or without progress, and with
+/// the history file in a folder.
 fn show_in<'a>(matches: &ArgMatches<'a>, is_quiet: bool, history: Option<&'a str>) -> Show<'a>
     ensures quiet { result.is_quiet ≡ is_quiet }
     ensures history { result.history ≡ history.entry }
@@ -102,7 +103,7 @@ fn show_in<'a>(matches: &ArgMatches<'a>, is_quiet: bool, history: Option<&'a str
     }
 }
 
-/// A small number that the words give under a name, and 0 where they give none.
+/// The number of 8 bits under `name`, or 0 if it is missing.
 fn small_under(matches: &ArgMatches<'_>, name: &str) -> u8
     ensures { AsksSmall (given_in matches.now) name.now result }
 {
@@ -112,7 +113,7 @@ fn small_under(matches: &ArgMatches<'_>, name: &str) -> u8
     }
 }
 
-/// The seed that the words give.
+/// The value of the seed option.
 fn seed_in(matches: &ArgMatches<'_>) -> u64
     ensures { AsksSeed (given_in matches.now) result }
 {
@@ -122,7 +123,7 @@ fn seed_in(matches: &ArgMatches<'_>) -> u64
     }
 }
 
-/// How rough the words ask links to be.
+/// The roughness that the arguments request.
 fn roughness_in(matches: &ArgMatches<'_>) -> Roughness
     ensures { AsksRoughness (given_in matches.now) result }
 {
@@ -134,7 +135,7 @@ fn roughness_in(matches: &ArgMatches<'_>) -> Roughness
     }
 }
 
-/// What the words ask of a run.
+/// The options of a run in the arguments.
 fn order_in(matches: &ArgMatches<'_>) -> Order
     ensures { AsksOrder (given_in matches.now) result }
 {
@@ -145,7 +146,7 @@ fn order_in(matches: &ArgMatches<'_>) -> Order
     }
 }
 
-/// The number of runs that the words give, and 1 where they give none.
+/// The number of runs in the arguments, or 1 if it is missing.
 fn runs_in(matches: &ArgMatches<'_>) -> u32
     ensures { AsksRuns (given_in matches.now) result }
 {
@@ -155,7 +156,7 @@ fn runs_in(matches: &ArgMatches<'_>) -> u32
     }
 }
 
-/// What the words ask of a soak.
+/// The options of a soak in the arguments.
 fn soak_order_in(matches: &ArgMatches<'_>) -> SoakOrder
     ensures { AsksSoak (given_in matches.now) result }
 {
@@ -165,7 +166,7 @@ fn soak_order_in(matches: &ArgMatches<'_>) -> SoakOrder
     }
 }
 
-/// The job that the subcommand of this name asks for, with these words.
+/// The job that the subcommand `name` with these arguments requests.
 fn job_of<'a>(alloc: Global, name: &str, matches: &ArgMatches<'a>) -> Result<Job<'a>, clap::Error>
     ensures job { IfOk result (AsksForJob name.now (given_in matches.now)) }
     ensures refused { IfErr result (RefusesWords name.now (given_in matches.now)) }
@@ -207,17 +208,18 @@ fn job_of<'a>(alloc: Global, name: &str, matches: &ArgMatches<'a>) -> Result<Job
     }
 }
 
-/// What the command line finds in words.
+/// The matches of the arguments.
 fn found_in<'a>(alloc: Global, words: &'a [String]) -> Result<ArgMatches<'a>, clap::Error>
     ensures { (line : App) × IsCommandLine line × FindsSubcommand line (map string_bytes words.now) result }
 {
     command(alloc)?.try_get_matches_from(words)
 }
 
-/// Reads the words of a command line.
+/// Parses the arguments of the command line. `words` are all arguments, with the program's name
+/// first.
 ///
 /// # Errors
-/// What to print in place of a job, and where: the text of help and version, or of wrong usage.
+/// The text to print in place of a job, and where: help, version, or a usage error.
 pub fn parse<'a>(alloc: Global, words: &'a [String]) -> Result<Job<'a>, clap::Error>
     ensures { (line : App) × IsCommandLine line × ReadsWords line (map string_bytes words.now) result }
 {

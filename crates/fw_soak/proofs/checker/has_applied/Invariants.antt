@@ -3,7 +3,7 @@ use Rattle.fw_message.specs.Entries.{entry_of}
 use Rattle.fw_soak.specs.Checking.{has_applied}
 use Rattle.fw_soak.proofs.checker.has_applied.Given as goal
 
--- the answer of those that are left is the answer of all
+-- the result for the remaining entries is the result for all
 abbrev pub invariant-loop-entry : goal.invariant-loop-entry
 invariant-loop-entry l =
     has_applied (map entry_of (drop l.entry-index l.history)) l.device (record { key = l.image.key; bytes = l.image.bytes.now })

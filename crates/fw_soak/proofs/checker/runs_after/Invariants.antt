@@ -3,7 +3,7 @@ use Rattle.fw_message.specs.Entries.{entry_of}
 use Rattle.fw_soak.specs.Checks.{runs_after}
 use Rattle.fw_soak.proofs.checker.runs_after.Given as goal
 
--- what runs in the end is what those that are left make of what runs now
+-- the active image after all entries is that after the remaining entries, from the one so far
 abbrev pub invariant-loop-entry : goal.invariant-loop-entry
 invariant-loop-entry l =
     runs_after (map entry_of (drop l.entry-index l.history)) l.device l.component.component.key l.runs

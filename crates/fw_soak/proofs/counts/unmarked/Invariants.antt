@@ -1,7 +1,7 @@
 use Rattle.std.proofs.Common.{◌≡◌, ◌≤◌, ◌+◌, drop, filter, length, not}
 use Rattle.fw_soak.proofs.counts.unmarked.Given as goal
 
--- those that were counted, and those that are left
+-- the count so far, and the remaining marks
 abbrev pub invariant-loop-mark : goal.invariant-loop-mark
 invariant-loop-mark l = record {
   counted : l.count + length (filter not (drop l.mark-index l.marks)) ≡ length (filter not l.marks);

@@ -1,6 +1,6 @@
 use Rattle.fw_soak.specs.Courses.{ContinuesRun}
 use Rattle.fw_soak.proofs.turns.attend.Given as goal
 
--- the run went on so far
+-- the run has continued so far
 abbrev pub invariant-loop-place : goal.invariant-loop-place
 invariant-loop-place l = ContinuesRun l.fn.course l.course

@@ -2,7 +2,7 @@ use Rattle.std.proofs.Common.{◌≡◌, length}
 use Rattle.std.specs.Io.KnownBytes.{Consumes}
 use Rattle.fwupd_watch.proofs.files.read_whole.Given as goal
 
--- what came is what the reader gave
+-- the bytes so far are those of the reader
 abbrev pub invariant-loop : goal.invariant-loop
 invariant-loop g l = record {
   size : length l.piece ≡ 16384;

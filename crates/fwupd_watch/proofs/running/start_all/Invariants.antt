@@ -4,7 +4,7 @@ use Rattle.fwupd_watch.specs.Running.{starts_of}
 use Rattle.fwupd_watch.proofs.Started.{Begun}
 use Rattle.fwupd_watch.proofs.running.start_all.Given as goal
 
--- so many updates are started, and listed
+-- the updates of the devices before the place are started, and listed
 abbrev pub invariant-loop-place : goal.invariant-loop-place
 invariant-loop-place g l = record {
   begun : Begun l.number l.fn.world l.place l.world;

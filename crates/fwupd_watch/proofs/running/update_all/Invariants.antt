@@ -5,7 +5,7 @@ use Rattle.fwupd_watch.specs.Recordings.{RecordsRun}
 use Rattle.fwupd_watch.specs.Running.{UpdatesDevices}
 use Rattle.fwupd_watch.proofs.running.update_all.Given as goal
 
--- so many ticks have passed
+-- the ticks so far
 abbrev pub invariant-loop : goal.invariant-loop
 invariant-loop g l = record {
   updates : UpdatesDevices l.number l.fn.world l.world l.counter;

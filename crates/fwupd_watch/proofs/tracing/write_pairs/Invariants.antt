@@ -4,7 +4,8 @@ use Rattle.fw_edge.specs.Ledgers.{packet_counts}
 use Rattle.fwupd_watch.specs.Traces.{ReadOn, pairs_text}
 use Rattle.fwupd_watch.proofs.tracing.write_pairs.Given as goal
 
--- so many pairs are written and read, and their packets are counted; the readers of the others are as they were
+-- the pairs before the place are written and read, and their packets are counted; the readers of
+-- the others are unchanged
 abbrev pub invariant-loop-place : goal.invariant-loop-place
 invariant-loop-place g l = record {
   lines : Appends (g.W.Write.contents l.fn.writer) (g.W.Write.contents l.writer) (pairs_text l.form l.fn.readers l.written l.world.sites l.place);

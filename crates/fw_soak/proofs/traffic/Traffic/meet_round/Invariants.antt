@@ -1,6 +1,6 @@
 use Rattle.fw_soak.specs.Courses.{ContinuesRun}
 use Rattle.fw_soak.proofs.traffic.Traffic.meet_round.Given as goal
 
--- the run went on so far
+-- the run has continued so far
 abbrev pub invariant-loop-place : goal.invariant-loop-place
 invariant-loop-place l = ContinuesRun l.fn.course l.course
