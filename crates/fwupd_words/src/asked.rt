@@ -3,27 +3,69 @@
 use fwupd_base::{Form, Roughness};
 use mctp_ctl::Endpoint;
 
-/// What the words ask for.
+/// A job that a command line asks for.
 #[derive(Clone, Copy)]
 pub enum Job<'a> {
-    /// Answer packets as this endpoint, whose identifier is one of a node's, 8 to 254.
+    /// Answers packets as this endpoint, whose identifier is that of a node, 8 to 254.
     Answer(Endpoint),
-    /// Inspect the package in the file of this path, in this form.
-    Inspect(&'a str, Form),
-    /// Replay, with the configuration of the first path, the schedule of the second.
-    Replay(&'a str, &'a str, Show<'a>),
-    /// Update the devices of the configuration of the first path over sockets in the folder of the second.
-    Run(&'a str, &'a str, Order, Show<'a>),
-    /// Build the package that the text in the file of the first path asks for, into the file of the second.
-    Build(&'a str, &'a str),
-    /// Say what an update of the devices of the configuration of this path comes to, with its package of this number, from 1 on, in
-    /// this form.
-    Plan(&'a str, usize, Form),
-    /// Tell the records of an event log in the file of this path.
-    Sel(&'a str),
-    /// Make many rough runs of the devices of the configuration of this path, and keep the steps of the first that goes wrong in the
-    /// file of the other path, if there is one.
-    Soak(&'a str, SoakOrder, Option<&'a str>),
+    /// Prints what a package holds.
+    Inspect {
+        /// The path of the package.
+        package: &'a str,
+        /// The form of the text.
+        form: Form,
+    },
+    /// Replays a schedule on the nodes of a configuration.
+    Replay {
+        /// The path of the configuration.
+        config: &'a str,
+        /// The path of the schedule.
+        schedule: &'a str,
+        /// What is shown of the replay.
+        show: Show<'a>,
+    },
+    /// Updates the devices of a configuration over sockets.
+    Run {
+        /// The path of the configuration.
+        config: &'a str,
+        /// The path of the folder of the sockets.
+        folder: &'a str,
+        /// What is asked of the run.
+        order: Order,
+        /// What is shown of the run.
+        show: Show<'a>,
+    },
+    /// Builds a package from a text.
+    Build {
+        /// The path of the text.
+        spec: &'a str,
+        /// The path of the package.
+        package: &'a str,
+    },
+    /// Prints a forecast of an update of a configuration's devices.
+    Plan {
+        /// The path of the configuration.
+        config: &'a str,
+        /// The number of the package, from 1 on.
+        number: usize,
+        /// The form of the text.
+        form: Form,
+    },
+    /// Prints the records of an event log.
+    Sel {
+        /// The path of the log.
+        log: &'a str,
+    },
+    /// Makes many rough runs of a configuration's devices.
+    Soak {
+        /// The path of the configuration.
+        config: &'a str,
+        /// What is asked of the soak.
+        order: SoakOrder,
+        /// The path of the file that gets the steps of the first run that goes wrong, if there is
+        /// one.
+        record: Option<&'a str>,
+    },
 }
 
 /// What is written of each packet.
