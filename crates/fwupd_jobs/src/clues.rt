@@ -40,17 +40,17 @@ pub fn clue_to<'a>(job: &Job<'a>, fault: &'a RunFault) -> Option<Clue<'a>>
 {
     match (fault, job) {
         (RunFault::Unreadable(path), _) => Some(Clue::Unread(path.as_str())),
-        (RunFault::Package(_), Job::Replay(config, ..))
-        | (RunFault::Package(_), Job::Run(config, ..))
-        | (RunFault::Package(_), Job::Soak(config, ..))
-        | (RunFault::Package(_), Job::Plan(config, ..)) => Some(Clue::Package(config)),
-        (RunFault::Step(number, _), Job::Replay(_, schedule, _)) => {
+        (RunFault::Package(_), Job::Replay { config, .. })
+        | (RunFault::Package(_), Job::Run { config, .. })
+        | (RunFault::Package(_), Job::Soak { config, .. })
+        | (RunFault::Package(_), Job::Plan { config, .. }) => Some(Clue::Package(config)),
+        (RunFault::Step(number, _), Job::Replay { schedule, .. }) => {
             Some(Clue::Step(schedule, *number))
         }
-        (RunFault::Record, Job::Soak(_, _, path)) => Some(Clue::Unwritten((*path)?)),
-        (RunFault::Output, Job::Build(_, path)) => Some(Clue::Unwritten(path)),
-        (fault, Job::Replay(_, _, show)) => clue_to_shown(show, fault),
-        (fault, Job::Run(_, _, _, show)) => clue_to_shown(show, fault),
+        (RunFault::Record, Job::Soak { record, .. }) => Some(Clue::Unwritten((*record)?)),
+        (RunFault::Output, Job::Build { package, .. }) => Some(Clue::Unwritten(package)),
+        (fault, Job::Replay { show, .. }) => clue_to_shown(show, fault),
+        (fault, Job::Run { show, .. }) => clue_to_shown(show, fault),
         _ => None,
     }
 }

@@ -56,18 +56,35 @@ pub fn perform_job<
 {
     match job {
         Job::Answer(endpoint) => output.answer(alloc, reader, endpoint),
-        Job::Inspect(path, form) => inspect_file(alloc, files, path, *form, output),
-        Job::Replay(config, schedule, show) => replay_files(
+        Job::Inspect { package, form } => inspect_file(alloc, files, package, *form, output),
+        Job::Replay {
+            config,
+            schedule,
+            show,
+        } => replay_files(
             alloc, files, stores, config, show.store, schedule, *show, watch, output,
         ),
-        Job::Run(config, folder, order, show) => update_checked(
+        Job::Run {
+            config,
+            folder,
+            order,
+            show,
+        } => update_checked(
             alloc, files, stores, config, show.store, *order, folder, *show, wires, watch, output,
         ),
-        Job::Build(spec, file) => build_file(alloc, files, spec, file, places),
-        Job::Sel(path) => sel_file(alloc, files, path, output),
-        Job::Soak(config, order, file) => soak_file(
-            alloc, files, config, *order, *file, onlooker, places, output,
+        Job::Build { spec, package } => build_file(alloc, files, spec, package, places),
+        Job::Sel { log } => sel_file(alloc, files, log, output),
+        Job::Soak {
+            config,
+            order,
+            record,
+        } => soak_file(
+            alloc, files, config, *order, *record, onlooker, places, output,
         ),
-        Job::Plan(config, number, form) => plan_file(alloc, files, config, *number, *form, output),
+        Job::Plan {
+            config,
+            number,
+            form,
+        } => plan_file(alloc, files, config, *number, *form, output),
     }
 }

@@ -88,7 +88,7 @@ fn status<
 /// How many runs a job is to make, if it is a soak.
 fn runs_of(job: &Job<'_>) -> u64 {
     match job {
-        Job::Soak(_, order, _) => u64::from(order.runs),
+        Job::Soak { order, .. } => u64::from(order.runs),
         _ => 0,
     }
 }

@@ -3,29 +3,68 @@
 use fwupd_base::{Form, Roughness};
 use mctp_ctl::Endpoint;
 
-/// The job that arguments request.
+/// A job that arguments request.
 #[derive(Clone, Copy)]
 pub enum Job<'a> {
     /// Answer packets as this endpoint, whose identifier is 8 to 254.
     Answer(Endpoint),
-    /// Inspect the package in the file at this path, and print in this format.
-    Inspect(&'a str, Form),
-    /// Replay the schedule at the second path with the configuration at the first.
-    Replay(&'a str, &'a str, Show<'a>),
-    /// Update the devices of the configuration at the first path, over sockets in the folder at the
-    /// second.
-    Run(&'a str, &'a str, Order, Show<'a>),
-    /// Build the package that the description at the first path specifies, into the file at the
-    /// second.
-    Build(&'a str, &'a str),
-    /// Print the plan of an update of the devices of the configuration at this path, with its
-    /// package of this number, from 1, in this format.
-    Plan(&'a str, usize, Form),
-    /// Print the event log records in the file at this path.
-    Sel(&'a str),
-    /// Make many runs over rough links with the configuration at this path; write the steps of the
-    /// first violation into the file at the other path, if there is one.
-    Soak(&'a str, SoakOrder, Option<&'a str>),
+    /// Inspect a package, and print in this format.
+    Inspect {
+        /// The path of the package.
+        package: &'a str,
+        /// The format of the text.
+        form: Form,
+    },
+    /// Replay a schedule on the nodes of a configuration.
+    Replay {
+        /// The path of the configuration.
+        config: &'a str,
+        /// The path of the schedule.
+        schedule: &'a str,
+        /// The outputs of the replay.
+        show: Show<'a>,
+    },
+    /// Update the devices of a configuration over sockets.
+    Run {
+        /// The path of the configuration.
+        config: &'a str,
+        /// The path of the folder of the sockets.
+        folder: &'a str,
+        /// The options of the run.
+        order: Order,
+        /// The outputs of the run.
+        show: Show<'a>,
+    },
+    /// Build the package that a description specifies.
+    Build {
+        /// The path of the description.
+        spec: &'a str,
+        /// The path of the package.
+        package: &'a str,
+    },
+    /// Print the plan of an update of the devices of a configuration.
+    Plan {
+        /// The path of the configuration.
+        config: &'a str,
+        /// The number of the package, from 1.
+        number: usize,
+        /// The format of the text.
+        form: Form,
+    },
+    /// Print the records of an event log.
+    Sel {
+        /// The path of the log.
+        log: &'a str,
+    },
+    /// Make many runs over rough links.
+    Soak {
+        /// The path of the configuration.
+        config: &'a str,
+        /// The options of the soak.
+        order: SoakOrder,
+        /// The path of the file for the steps of the first violation, if there is one.
+        record: Option<&'a str>,
+    },
 }
 
 /// The format of a trace.

@@ -176,30 +176,38 @@ fn job_of<'a>(alloc: Global, name: &str, matches: &ArgMatches<'a>) -> Result<Job
             Ok(endpoint) => Ok(Job::Answer(endpoint)),
             Err(error) => Err(error),
         },
-        "inspect" => Ok(Job::Inspect(text_under(matches, "FILE"), form_in(matches))),
-        "replay" => Ok(Job::Replay(
-            text_under(matches, "CONFIG"),
-            text_under(matches, "SCHEDULE"),
-            show_in(matches, true, None),
-        )),
-        "plan" => Ok(Job::Plan(
-            text_under(matches, "CONFIG"),
-            package_number(matches),
-            form_in(matches),
-        )),
-        "run" => Ok(Job::Run(
-            text_under(matches, "CONFIG"),
-            text_under(matches, "FOLDER"),
-            order_in(matches),
-            show_in(matches, matches.get_flag("quiet"), matches.get_str("store")),
-        )),
-        "soak" => Ok(Job::Soak(
-            text_under(matches, "CONFIG"),
-            soak_order_in(matches),
-            matches.get_str("record"),
-        )),
-        "sel" => Ok(Job::Sel(text_under(matches, "FILE"))),
-        "build" => Ok(Job::Build(text_under(matches, "SPEC"), text_under(matches, "FILE"))),
+        "inspect" => Ok(Job::Inspect {
+            package: text_under(matches, "FILE"),
+            form: form_in(matches),
+        }),
+        "replay" => Ok(Job::Replay {
+            config: text_under(matches, "CONFIG"),
+            schedule: text_under(matches, "SCHEDULE"),
+            show: show_in(matches, true, None),
+        }),
+        "plan" => Ok(Job::Plan {
+            config: text_under(matches, "CONFIG"),
+            number: package_number(matches),
+            form: form_in(matches),
+        }),
+        "run" => Ok(Job::Run {
+            config: text_under(matches, "CONFIG"),
+            folder: text_under(matches, "FOLDER"),
+            order: order_in(matches),
+            show: show_in(matches, matches.get_flag("quiet"), matches.get_str("store")),
+        }),
+        "soak" => Ok(Job::Soak {
+            config: text_under(matches, "CONFIG"),
+            order: soak_order_in(matches),
+            record: matches.get_str("record"),
+        }),
+        "sel" => Ok(Job::Sel {
+            log: text_under(matches, "FILE"),
+        }),
+        "build" => Ok(Job::Build {
+            spec: text_under(matches, "SPEC"),
+            package: text_under(matches, "FILE"),
+        }),
         _ => Err(refusal(
             alloc,
             ErrorKind::MissingSubcommand,
