@@ -22,7 +22,7 @@ use fw_steps::{Step, StepFault, World, clocks_keep_time, moments_are_tied, packe
 ///
 /// The moments before and after the call are tied too: the history has only grown, and the running
 /// images, the applied images and the records are those of before, changed by the entries since
-/// (`grown`, `tied`). So are any two moments of the run up to here (`moments`).
+/// (`grown`, `tied`). So are any two moments of any run (`moments`).
 ///
 /// Each node keeps time: it counts at most as many ticks as units of time pass, and the units are
 /// at most its ticks, plus an eighth of them, rounded down, plus one. This holds in this call
@@ -41,10 +41,10 @@ pub fn replay<B: Bank + Drop>(
     ensures stopped { IfErr result (λ e. (e.0 < length steps.now) × Run world.old (take e.0 steps.now) world.new × IfSome (slice_get steps.now e.0) (λ s. RefusesStep world.new s e.1)) }
     ensures grown { GrowsHistory world.old world.new }
     ensures tied { IsTiedBetween world.old world.new }
-    ensures moments { (opening earlier later : WorldOf) (before between after : List Step) → IsOpeningWorld opening → Run opening before earlier → Run earlier between later → Run later after world.new → IsSafeWorld opening later × IsTiedBetween earlier later }
+    ensures moments { (opening earlier later : WorldOf) (before between : List Step) → IsOpeningWorld opening → Run opening before earlier → Run earlier between later → IsSafeWorld opening later × IsTiedBetween earlier later }
     ensures clocks { OnOk result ((eid : ℕ) → is_node world.old eid ≡ true → KeepsTime eid steps.now) }
     ensures clocks_stopped { IfErr result (λ e. (eid : ℕ) → is_node world.old eid ≡ true → KeepsTime eid (take e.0 steps.now)) }
-    ensures time { (opening earlier later : WorldOf) (before between after : List Step) → IsOpeningWorld opening → Run opening before earlier → Run earlier between later → Run later after world.new → (eid : ℕ) → is_node earlier eid ≡ true → KeepsTime eid between }
+    ensures time { (opening earlier later : WorldOf) (before between : List Step) → IsOpeningWorld opening → Run opening before earlier → Run earlier between later → (eid : ℕ) → is_node earlier eid ≡ true → KeepsTime eid between }
     ensures promised { IsPromised world.new }
 {
     packets_are_safe();

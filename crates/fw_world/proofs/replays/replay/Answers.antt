@@ -14,14 +14,14 @@ returns-clause-tied g c =
 
 pub returns-clause-moments : goal.returns-clause-moments
 returns-clause-moments g c =
-    λ opening earlier later before between after begins first second third. (
+    λ opening earlier later before between begins first second. (
       c.packets_are_safe.ensures.law opening later (before ++ between) begins (run_append opening earlier later before between first second),
       c.moments_are_tied.ensures.tied opening earlier later before between begins first second,
     )
 
 pub returns-clause-time : goal.returns-clause-time
 returns-clause-time g c =
-    λ opening earlier later before between after begins first second third eid known.
+    λ opening earlier later before between begins first second eid known.
     c.clocks_keep_time.ensures.law opening earlier later before between begins first second eid known
 
 pub returns-clause-clocks : goal.returns-clause-clocks
