@@ -1,4 +1,4 @@
--- What would be written over is told of more files too.
+-- A fact on overwritten files also holds for more files.
 use Rattle.std.proofs.Common.{ℕ, Bool, List, ◌∷◌, Option, None, Some, inl, inr}
 use Rattle.fwupd_watch.specs.Apart.{IsBarred, IsOverRead, IsOverUsed}
 use Rattle.fwupd_watch.specs.Running.{ShowOf, ObserverOf}

@@ -1,4 +1,4 @@
--- Images that are read one after the other, and what is built of them.
+-- Images that are read one after the other, and the package built from them.
 use Rattle.std.proofs.Common.{◌≡◌, ◌<◌, ◌+◌, ◌++◌, ◌⊎◌, ◌∙◌, ℕ, zero, suc, Bool, true, List, [], ◌∷◌, Option, Some, None, OnOk, Result, Ok, Err, inl, inr, length, map, take, get_or, Vec, Global, refl, sym, ap, subst, append_assoc, append-nil, arith}
 use Rattle.std.specs.Prelude.{IfSome, IsSomeAnd, drop, slice_get}
 use Rattle.std.specs.Io.KnownBytes.{Appends}
@@ -16,7 +16,7 @@ use Rattle.fwupd_jobs.specs.Setups.{Says}
 use Rattle.fwupd_watch.specs.declared.faults.RunFault.{RunFault}
 use Rattle.fwupd_watch.specs.declared.faults.RunFault.TheVariants as faults
 
--- what stands at a place of a list that was made of another one
+-- the item at a place of a list that was mapped
 pub own_in : {A B : Type 0} (g : A → B) (xs : List A) (i : ℕ) (x : A) (y : B) → i < length xs → x ≡ get_or xs i x → Some y ≡ slice_get (map g xs) i → y ≡ g x
 own_in g [] i x y lt is e = absurd (omega arith)
 own_in g (z ∷ zs) zero x y lt is e = let k : y ≡ g z = cc in k ∙ ap g (sym is)
@@ -61,7 +61,7 @@ images_next files cs i c images after image lt is e h k =
     (subst (λ fs. AreImages files (map spec_component_of (take i cs) ++ spec_component_of c ∷ []) fs) (sym (map-append (λ x. x.items) images (image ∷ [])))
     (images_more files (map spec_component_of (take i cs)) (map (λ x. x.items) images) (spec_component_of c) image.items h k))))
 
--- the first that isn't
+-- the first image that can't be read
 pub image_fails_at : (files : List ℕ → FileOf) (cs : List SpecComponent) (i : ℕ) (c : SpecComponent) (images : List (List ℕ)) (told : RunFault)
     → i < length cs → c ≡ get_or cs i c → AreImages files (map spec_component_of (take i cs)) images
     → (told ≡ faults.Memory) ⊎ ImageFails files (spec_component_of c).path told → (told ≡ faults.Memory) ⊎ ImagesFail files (map spec_component_of cs) told
@@ -78,7 +78,7 @@ image_fails_at files cs i c images told lt is h (inr f) =
       fails = f;
     })
 
--- the sizes that are asked are those of the images
+-- the requested sizes are those of the images
 sizes_of : (files : List ℕ → FileOf) (cs : List SpecComponentOf) (images : List (List ℕ)) → AreImages files cs images
     → map length images ≡ map (λ c. c.size) (components_by cs images)
 sizes_of files [] [] h = refl
@@ -86,7 +86,7 @@ sizes_of files [] (i ∷ is) h = absurd h
 sizes_of files (c ∷ cs) [] h = absurd h
 sizes_of files (c ∷ cs) (i ∷ is) h = ap (λ ns. length i ∷ ns) (sizes_of files cs is h.1)
 
--- what is put in its place is the package
+-- the file that is put at its place is the package
 put_whole : (files : List ℕ → FileOf) (path : List ℕ) (w held : Option (List ℕ)) (bytes : List ℕ) → IsBuilt files path bytes → Appends (Some []) w bytes → IfSome w (λ b. held ≡ Some b)
     → IsSomeAnd held (λ b. IsBuilt files path b)
 put_whole files path None held bytes h p e = absurd p
@@ -109,7 +109,7 @@ built files path spec images header known begun w held says are is of begins wri
     })
     (subst (λ o. Appends o w (header ++ concat images)) (begins yes) written) (put yes)
 
--- what a file at its place holds, and what it holds after a loss of power
+-- the content of a file at its place, and after a loss of power
 put_held : (w held lasting : Option (List ℕ)) → IsOnDisk w held lasting → IfSome w (λ b. held ≡ Some b)
 put_held None held lasting p = tt
 put_held (Some x) held lasting p = p.0

@@ -11,7 +11,7 @@ use Rattle.ua_core.specs.declared.state.SessionState.TheVariants as sessions
 use Rattle.fwupd_jobs.specs.Sessions.{AllDone, first_undone, is_done, undone_in}
 use Rattle.fwupd_jobs.specs.declared.sessions.Undone.{Undone}
 
--- the first of those from a place on
+-- the first session from a place on that isn't Done
 abbrev from_one : AgentOf → (device : ℕ) → List SiteOf → Option Undone
 from_one a device xs = if is_done (session_of a device) then first_undone a xs else Some (record { eid = device; state = session_of a device })
 
@@ -24,7 +24,7 @@ undone_from a (x ∷ xs) zero n e =
     ap (λ (m : DeviceNodeOf). from_one a m.endpoint.eid xs) node
 undone_from a (x ∷ xs) (suc place) n e = undone_from a xs place n e
 
--- the device at a place is done, or it is the first that isn't
+-- the session at a place is Done, or it is the first that isn't
 by_done : (d : Bool) (o p q : Option Undone) → o ≡ (if d then p else q) → d ≡ true → o ≡ p
 by_done true o p q e h = e
 by_done false o p q e h = absurd (let bad : false ≡ true = h in cc)
@@ -52,7 +52,7 @@ undone_here a xs place device n state o at is told undone before =
     undone_from a xs place n at ∙ ap (λ d. from_one a d (drop (suc place) xs)) (sym is) in
     ap (λ (s : Option SessionState). Some (undone_of device s)) told ∙ sym (by_undone (is_done (session_of a device)) _ _ _ from undone) ∙ before
 
--- Where none is, each is Done.
+-- If no session is undone, each is Done.
 done_so : (s : Option SessionState) → is_done s ≡ true → s ≡ Some sessions.Done
 done_so None h = absurd (let bad : false ≡ true = h in cc)
 done_so (Some sessions.Idle) h = absurd (let bad : false ≡ true = h in cc)

@@ -1,4 +1,4 @@
--- What is told of a package in a file.
+-- The text of a package in a file.
 use Rattle.std.proofs.Common.{◌≡◌, ◌≢◌, ◌⊎◌, ℕ, List, Result, Ok, Err, inl, inr, refl, sym, ap, subst}
 use Rattle.std.specs.Result.{result_map_both}
 use Rattle.fw_package.specs.Package.{PackageText}
@@ -15,7 +15,7 @@ use Rattle.fwupd_watch.specs.declared.faults.RunFault.TheVariants as faults
 use Rattle.fwupd_base.specs.declared.inspection.InspectFault.{InspectFault}
 use Rattle.fwupd_base.specs.declared.inspection.InspectFault.TheVariants as inspected
 
--- it isn't one
+-- the file isn't a package
 refused : (r : Result PackageText PackageFault) (f : PackageFault) → result_map_both (λ p. p) inspected.Package r ≡ Err (inspected.Package f) → r ≡ Err f
 refused (Ok p) f e = absurd cc
 refused (Err g) f e = ap Err (let same : Err (inspected.Package g) ≡ Err (inspected.Package f) = e in cc)
@@ -26,7 +26,7 @@ inspection_fails files path bytes inspected.Memory told held e first = inl e
 inspection_fails files path bytes (inspected.Package f) told held e first =
     inr (inr (subst (IsNone (files path)) (sym e) (record { bytes = bytes; held = held; is = refused (package_of bytes) f (first (λ h. cc)) })))
 
--- it is
+-- the file is a package
 read : (form : Form) (r : Result PackageText PackageFault) (text : List ℕ) → result_map_both (inspection_in form) (λ e. e) r ≡ Ok text → (p : PackageText) × (r ≡ Ok p) × (text ≡ inspection_in form p)
 read form (Ok p) text e = (p, refl, (let same : Ok (inspection_in form p) ≡ Ok text = e in cc))
 read form (Err f) text e = absurd cc

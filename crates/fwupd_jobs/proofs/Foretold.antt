@@ -1,4 +1,4 @@
--- What is foretold of the updates of a configuration's devices.
+-- The plans of the updates of a configuration's devices.
 use Rattle.std.proofs.Common.{◌≡◌, ◌≤◌, ◌<◌, ◌∙◌, ◌⊎◌, ℕ, List, Ok, inl, inr, length, map, ap, arith, subst, sym, Vec, String, Global}
 use Rattle.std.specs.Prelude.{string_bytes}
 use Rattle.fw_package.specs.Package.{PackageText}
@@ -19,7 +19,7 @@ use Rattle.fwupd_watch.specs.declared.faults.RunFault.TheVariants as faults
 use Rattle.fw_edge.proofs.Rising.{map_length}
 use Rattle.fwupd_jobs.proofs.Packed.{as_many, packages_so, through}
 
--- The text of a package among those that a configuration names.
+-- The text of a package among those of a configuration.
 pub foretold : (files : List ℕ → FileOf) (path : List ℕ) (number : ℕ) (form : Form) (config : Config) (names : List (String Global)) (contents slice : List (Vec ℕ Global)) (ps lent : List PackageText)
     (p : PackageText) (devices : List DeviceConfig) (text : List ℕ) → Says config_of (files path) (config_seen config) → names ≡ config.packages.items
     → ArePacked files (map (λ q. string_bytes q) names) (map (λ f. f.items) contents) → slice ≡ contents → map (λ q. Ok q) ps ≡ map (λ f. package_of f.items) slice
@@ -40,7 +40,7 @@ foretold files path number form config names contents slice ps lent p devices te
       ∙ ap (λ xs. plan_in form number (package_at ps number) (map device_of xs)) all;
 }
 
--- A package of a number that the configuration names is there.
+-- A package of a number within the configuration exists.
 none_there : (n m number : ℕ) → n ≡ m → 1 ≤ number → number ≤ m → (number ≡ 0) ⊎ (n < number) → ⊥
 none_there n m number same counted there (inl none) = absurd (omega arith)
 none_there n m number same counted there (inr few) = absurd (omega arith)
@@ -56,7 +56,7 @@ package_there files number count names contents slice ps lent packed same read a
     ∙ map_length (λ q. string_bytes q) names ∙ sym all)
     counted there none
 
--- It isn't written whole.
+-- The plan isn't written as a whole.
 pub plan_breaks : (files : List ℕ → FileOf) (path : List ℕ) (number : ℕ) (form : Form) (text : List ℕ) (told : RunFault) (before now : OutputOf) → told ≡ faults.Output → Forecasts files path number form text
     → FailsToWriteOutput before now text → PlanEnds files path number form told before now
 plan_breaks files path number form text told before now is forecasts begun = inl (record { is = is; text = text; forecasts = forecasts; begun = begun })

@@ -15,7 +15,7 @@ use Rattle.fwupd_watch.specs.Running.{IsCaused, HasObserverFault, ObserverOf}
 use Rattle.fwupd_watch.specs.declared.faults.RunFault.{RunFault}
 use Rattle.fwupd_watch.specs.declared.faults.RunFault.TheVariants as told
 
--- a device to which no link is opened
+-- a device to which no link can be opened
 pub unlinked_at : (w : WorldOf) (lacks : ℕ → Bool) (place device : ℕ) (n : DeviceNodeOf) (fault : RunFault) → option_map (λ x. x.node) (slice_get w.sites place) ≡ Some n → device ≡ n.endpoint.eid
     → (fault ≡ told.Memory) ⊎ ((fault ≡ told.Socket device) × (lacks device ≡ true)) → (fault ≡ told.Memory) ⊎ IsUnlinked w lacks fault
 unlinked_at w lacks place device n fault at is (inl e) = inl e
@@ -24,7 +24,7 @@ unlinked_at w lacks place device n fault at is (inr h) =
     let own : device ≡ there.0.node.endpoint.eid = is ∙ ap (λ m. m.endpoint.eid) (sym there.2) in
     inr (record { place = place; site = there.0; at = there.1; is = h.0 ∙ ap (λ d. told.Socket d) own; lacking = subst (λ d. lacks d ≡ true) own h.1 })
 
--- a link more, that of the device at its place
+-- one more link, that of the device at its place
 linked_append : {L : Type 0} (IsTo : «Unit» → ℕ → L → Type 0) (xs : List SiteOf) (links : List L) (x : SiteOf) (link : L) → IsTo x.node.half.unit x.node.endpoint.eid link → HaveLinks IsTo xs links
     → HaveLinks IsTo (xs ++ x ∷ []) (links ++ link ∷ [])
 linked_append IsTo [] [] x link own h = (own, tt)
@@ -70,7 +70,7 @@ lost_at w failures links link place device count n lt is told more at named none
       is = named ∙ ap (λ m. m.endpoint.eid) (sym there.2);
     }
 
--- where no link has failed, none did just now
+-- if no link has failed, none failed just now
 rises_some : (o n : ℕ) → CountsOne o n → n ≡ 0 → ⊥
 rises_some o n (inl more) none = absurd (omega (arith, none, more))
 rises_some o n (inr last) none = absurd (let own = last.0 in let same = last.1 in omega (arith, none, own, same))
@@ -104,7 +104,7 @@ none_more failures links link place lt is none h =
     subst (λ n. AllByRecursion (λ k. k ≡ 0) (take n (map failures links))) next
     (none_one (map failures links) place (failures link) (slice_get-map failures links place ∙ ap (option_map failures) (slice_get-get_or links place link lt ∙ ap Some (sym is))) none h)
 
--- what looks on was told of a link where one failed just now
+-- the observer got a device if a link failed just now
 pub lost_told : {A : Type 0} (failures : A → ℕ) (w : WorldOf) (olds news : List A) (lost : Option ℕ) → length news ≡ length w.sites → OneFailed (map failures olds) (map failures news)
     → (length news ≡ length w.sites → AllByRecursion (λ n. n ≡ 0) (map failures news) ⊎ TellsLost w (map failures news) lost) → TellsLost w (map failures news) lost
 lost_told failures w olds news lost devices failed told = elim (told devices) [
@@ -112,7 +112,7 @@ lost_told failures w olds news lost devices failed told = elim (told devices) [
   | inr h ↦ h
 ]
 
--- what it was told changes nothing of why a run doesn't go on
+-- that device doesn't change the cause of the run's fault
 pub caused_still : (number : ℕ) (w v : WorldOf) (fault : RunFault) (before now : ObserverOf) → now.fault ≡ before.fault → now.has_ended ≡ before.has_ended → IsCaused number w v fault before → IsCaused number w v fault now
 caused_still number w v fault before now same ended h =
     record { broken = h.broken; stopped = h.stopped; unwritten = subst (HasObserverFault fault) (sym same) h.unwritten; let_end = ended ∙ h.let_end }

@@ -1,4 +1,4 @@
--- Names that are taken and given back.
+-- Names that are bound and removed.
 use Rattle.std.proofs.Common.{◌≡◌, ◌∷◌, ◌∙◌, ℕ, List, Option, None, Some, ap, drop}
 use Rattle.std.specs.Prelude.{option_map}
 

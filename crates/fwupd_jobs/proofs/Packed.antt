@@ -28,7 +28,7 @@ use Rattle.fwupd_watch.specs.declared.faults.RunFault.TheVariants as faults
 use Rattle.fwupd_watch.specs.declared.files.FileFault.{FileFault}
 use Rattle.fwupd_watch.specs.declared.files.FileFault.TheVariants as unread
 
--- the fault that is told of a text is its first
+-- the reported fault of a text is its first
 pub unsaid_so : {A : Type 0} (read : List ℕ → Result A ScriptFault) (path text : List ℕ) (file : FileOf) (fault : ScriptFault) (told : RunFault)
     → TextFault path fault told → MayHold file text → (fault.cause ≢ causes.Memory → read text ≡ Err fault) → HasNoText read path file told
 unsaid_so read path text file fault (faults.Answer f) h held is = absurd h
@@ -51,7 +51,7 @@ unsaid_so read path text file fault (faults.Session device word) h held is = abs
 unsaid_so read path text file fault faults.Output h held is = absurd h
 unsaid_so read path text file fault faults.Memory h held is = absurd h
 
--- a file's fault is told by its name
+-- the fault of a file has its name
 pub told_unread : {E : Type 0} (path : List ℕ) (name : Result (String Global) E) (fault : FileFault) (told : RunFault) → IfOk name (λ t. string_bytes t ≡ path) → told ≡ run_fault_of_unread name fault
     → (told ≡ faults.Memory) ⊎ ((fault ≡ unread.Unreadable) × IsUnreadable path told)
 told_unread path (Ok name) unread.Unreadable told is e = inr (refl, subst (IsUnreadable path) (sym e) is)
@@ -59,7 +59,7 @@ told_unread path (Ok name) unread.Memory told is e = inl e
 told_unread path (Err x) unread.Unreadable told is e = inl e
 told_unread path (Err x) unread.Memory told is e = inl e
 
--- and a text's
+-- and the fault of a text
 told_named : (E : Type 0) (path : List ℕ) (name : String Global) (cause : ScriptCause) (fault : ScriptFault) (told : RunFault) → string_bytes name ≡ path → fault.cause ≡ cause
     → told ≡ misread_by {E = E} (Ok name) cause fault → (told ≡ faults.Memory) ⊎ TextFault path fault told
 told_named E path name causes.Directive fault told named is e = inr (subst (TextFault path fault) (sym e) (named, refl, λ memory. absurd (cc)))
@@ -78,7 +78,7 @@ pub told_misread : (E : Type 0) (path : List ℕ) (name : Result (String Global)
 told_misread E path (Ok name) fault told named e = told_named E path name fault.cause fault told named refl e
 told_misread E path (Err x) fault told named e = inl e
 
--- a file that isn't read
+-- a file that can't be read
 pub unread_text : {A : Type 0} (read : List ℕ → Result A ScriptFault) (files : List ℕ → FileOf) (path : List ℕ) (fault : FileFault) (told : RunFault)
     → (told ≡ faults.Memory) ⊎ ((fault ≡ unread.Unreadable) × IsUnreadable path told) → (fault ≡ unread.Unreadable → (files path).may_fail ≡ true)
     → (told ≡ faults.Memory) ⊎ TextFails read files path told
@@ -105,7 +105,7 @@ packed_each files [] (c ∷ cs) h = absurd h
 packed_each files (p ∷ ps) [] h = absurd h
 packed_each files (p ∷ ps) (c ∷ cs) h = (h.0.is, packed_each files ps cs h.1)
 
--- they are these
+-- they are equal
 head_is : {A : Type 0} (x y : A) (xs ys : List A) → x ∷ xs ≡ y ∷ ys → x ≡ y
 head_is x y xs ys e = cc
 
@@ -138,14 +138,14 @@ packages_there files (path ∷ paths) (c ∷ cs) h =
     let rest = packages_there files paths cs h.1 in
     (found.0 ∷ rest.0, (record { bytes = c; held = h.0.held; is = found.1 }, rest.1))
 
--- the first that isn't one
+-- the first that isn't a package
 pub fails_there : (files : List ℕ → FileOf) (paths before after contents : List (List ℕ)) (path : List ℕ) (told : RunFault)
     → paths ≡ before ++ path ∷ after → ArePacked files before contents → PackageFails files path told → PackagesFail files paths told
 fails_there files paths before after contents path told e h fails =
     let there = packages_there files before contents h in
     record { before = before; path = path; after = after; packages = there.0; is = e; read = there.1; fails = fails }
 
--- where the paths are texts
+-- if the paths are strings
 pub packed_next : (files : List ℕ → FileOf) (paths : List (String Global)) (i : ℕ) (p : String Global) (name : List ℕ) (contents after : List (Vec ℕ Global)) (more : Vec ℕ Global)
     → i < length paths → p ≡ get_or paths i p → name ≡ string_bytes p → after ≡ contents ++ more ∷ []
     → ArePacked files (map (λ q. string_bytes q) (take i paths)) (map (λ f. f.items) contents) → IsPacked (files name) more.items
@@ -169,7 +169,7 @@ fails_at files paths i p name contents told lt is called h (inr f) =
     (ap (map (λ q. string_bytes q)) split ∙ map-append (λ q. string_bytes q) (take i paths) (p ∷ drop (suc i) paths)) h
     (subst (λ n. PackageFails files n told) called f))
 
--- the packages of a configuration that names one of this number
+-- the packages of a configuration that has one of this number
 pub numbered_fails : (files : List ℕ → FileOf) (path : List ℕ) (number : ℕ) (config : Config) (slice : List (String Global)) (told : RunFault) → Says config_of (files path) (config_seen config) → slice ≡ config.packages.items
     → 1 ≤ number → number ≤ length slice → (told ≡ faults.Memory) ⊎ PackagesFail files (map (λ q. string_bytes q) slice) told → (told ≡ faults.Memory) ⊎ NumberedSetupFails files path number told
 numbered_fails files path number config slice told says is counted there (inl e) = inl e
@@ -200,7 +200,7 @@ pub packed_slice : (files : List ℕ → FileOf) (names : List (List ℕ)) (cont
 packed_slice files names contents slice h e =
     subst (λ fs. AllByRecursion (λ f. IsOk (package_of f.items)) fs) (sym e) (each_through contents (packed_each files names (map (λ f. f.items) contents) h))
 
--- the packages that a configuration names are there
+-- the packages of a configuration exist
 pub named_there : (files : List ℕ → FileOf) (config : Config) (names : List (String Global)) (contents slice : List (Vec ℕ Global)) (ps : List PackageText) → names ≡ config.packages.items
     → ArePacked files (map (λ p. string_bytes p) names) (map (λ f. f.items) contents) → slice ≡ contents → map (λ p. Ok p) ps ≡ map (λ f. package_of f.items) slice
     → ArePackages files (map (λ p. string_bytes p) config.packages.items) ps
@@ -209,7 +209,8 @@ named_there files config names contents slice ps named packed same read =
     (subst (λ ns. ArePacked files (map (λ p. string_bytes p) ns) (map (λ f. f.items) contents)) named packed)
     (read ∙ ap (map (λ f. package_of f.items)) same ∙ through contents)
 
--- a configuration's file with its packages, and with what the stores of its devices keep, is a world
+-- a configuration with its packages, and with the images in the stores of its devices, gives a
+-- world
 pub set_up : (files : List ℕ → FileOf) (source : SourceOf) (config : Config) (ps packs : List PackageText) (devices : List DeviceConfigOf) (w : WorldOf)
     → Says config_of (files source.path) (config_seen config) → ArePackages files (map (λ p. string_bytes p) config.packages.items) ps
     → AreDevices source.stores (map device_of config.devices.items) devices → packs ≡ ps
@@ -224,14 +225,14 @@ set_up files source config ps packs devices w says are stocked lent is = record 
   world = is ∙ ap (λ q. new_world config.agent (nodes_made config.unit config.agent.eid devices) q) lent;
 }
 
--- or the store of a device isn't opened
+-- or the store of a device can't be opened
 pub stores_fail : (files : List ℕ → FileOf) (source : SourceOf) (config : Config) (ps : List PackageText) (told : RunFault) → Says config_of (files source.path) (config_seen config)
     → ArePackages files (map (λ p. string_bytes p) config.packages.items) ps → (told ≡ faults.Memory) ⊎ IsSomeAnd source.stores (λ s. TellsUnopened s (map device_of config.devices.items) told)
     → (told ≡ faults.Memory) ⊎ StoresFail files source told
 stores_fail files source config ps told says are (inl e) = inl e
 stores_fail files source config ps told says are (inr u) = inr (record { config = config_seen config; says = says; packages = ps; are = are; unopened = u })
 
--- what a vector holds that was written as a slice of its length
+-- the content of a vector that was written as a slice of its length
 pub all_written : {A : Type 0} (n : ℕ) (xs ys : List A) → length ys ≡ length xs → n ≡ length xs → take n (ys ++ drop (length ys) xs) ≡ ys
 all_written n xs ys long is =
     ap (λ l. take n (ys ++ l)) (drop_all (length ys) xs (omega (arith, long))) ∙ ap (take n) (append-nil ys) ∙ take_all n ys (omega (arith, long, is))
@@ -240,7 +241,7 @@ all_written n xs ys long is =
 pub none_stocked : (stores : List ℕ → StoresOf) (root : Option (List ℕ)) (devices : List DeviceConfigOf) → root ≡ None → AreDevices (option_map stores root) devices devices
 none_stocked stores root devices e = subst (λ r. AreDevices (option_map stores r) devices devices) (sym e) refl
 
--- and with one they are those that its stores make of them
+-- and with one they have the images in its stores
 pub some_stocked : (stores : List ℕ → StoresOf) (root : Option (List ℕ)) (folder : List ℕ) (configured devices : List DeviceConfigOf) → root ≡ Some folder → HaveStoredImages (stores folder) configured devices
     → AreDevices (option_map stores root) configured devices
 some_stocked stores root folder configured devices e h = subst (λ r. AreDevices (option_map stores r) configured devices) (sym e) h
@@ -256,7 +257,7 @@ pub told_unopened : (s : StoresOf) (devices : List DeviceConfigOf) (u : Unopened
 told_unopened s devices u told (inl e) h = inl e
 told_unopened s devices u told (inr e) h = inr (subst (TellsUnopened s devices) (sym e) h)
 
--- as many packages as there are files of them
+-- the number of packages is that of their files
 pub as_many : (files : List ℕ → FileOf) (paths : List (List ℕ)) (ps : List PackageText) → ArePackages files paths ps → length ps ≡ length paths
 as_many files [] [] h = refl
 as_many files [] (p ∷ ps) h = absurd h
@@ -266,7 +267,7 @@ as_many files (path ∷ paths) (p ∷ ps) h = ap suc (as_many files paths ps h.1
 as_named : (config : Config) → length (map (λ p. string_bytes p) config.packages.items) ≡ config.packages.len
 as_named config = length-map config.packages.items (λ p. string_bytes p) ∙ sym config.packages.ok.0
 
--- The world of a configuration that names these packages, one of which has this number.
+-- The world of a configuration with these packages, one of which has this number.
 pub record NamedWith (files : List ℕ → FileOf) (source : SourceOf) (number : ℕ) (w : WorldOf) (names : List (List ℕ)) : Type 0 where
   pub named : IsNumberedSetup files source number w
   pub is : named.setup.config.packages ≡ names
@@ -297,7 +298,7 @@ same_paths : (files : List ℕ → FileOf) (source : SourceOf) (number : ℕ) (w
     → named.setup.config.packages ≡ names → source.path ∷ named.setup.config.packages ≡ path ∷ names
 same_paths files source number w named path names e same = ap (λ p. p ∷ named.setup.config.packages) e ∙ ap (λ ns. path ∷ ns) same
 
--- where the packets are written over none of them
+-- if the packets overwrite none of the files
 pub watched_by : (files : List ℕ → FileOf) (source : SourceOf) (number : ℕ) (show : ShowOf) (w : WorldOf) (named : IsNumberedSetup files source number w) (path : List ℕ) (names : List (List ℕ))
     → source.path ≡ path → named.setup.config.packages ≡ names → IsApart files show (path ∷ names) → IsObservedSetup files source number show w
 watched_by files source number show w named path names e same apart = record {
@@ -305,7 +306,7 @@ watched_by files source number show w named path names e same apart = record {
   apart = subst (IsApart files show) (sym (same_paths files source number w named path names e same)) apart;
 }
 
--- where what looks on doesn't begin
+-- if the observer doesn't begin
 pub barred_by : (files : List ℕ → FileOf) (source : SourceOf) (number : ℕ) (show : ShowOf) (refuses : List ℕ → Bool) (told : RunFault) (watched : ObserverOf) (w : WorldOf)
     (named : IsNumberedSetup files source number w) (path : List ℕ) (names : List (List ℕ)) → source.path ≡ path → named.setup.config.packages ≡ names
     → (told ≡ faults.Memory) ⊎ IsBarred files refuses show (path ∷ names) told watched → (told ≡ faults.Memory) ⊎ LacksTrace files source number show refuses told watched

@@ -1,4 +1,4 @@
--- Two runs of the same steps that work lead to one world.
+-- Two runs of the same steps without failed calls end in the same world.
 use Rattle.std.proofs.Common.{◌≡◌, ◌∙◌, List, [], ◌∷◌, Ok, ap, subst, sym, true}
 use Rattle.fw_json.specs.Forms.{report_in}
 use Rattle.fw_steps.specs.Headline.{StepsTo, Run, world_after}
@@ -6,7 +6,7 @@ use Rattle.fw_steps.specs.Worlds.{WorldOf}
 use Rattle.fw_steps.specs.declared.step.Step.{Step}
 use Rattle.fwupd_jobs.specs.Recorded.{AllWork, RecordsReplay}
 
--- steps that work lead to one world
+-- the same for one step
 same_after : (w v u : WorldOf) (s : Step) (h : StepsTo w s v) (k : StepsTo w s u) → h.works ≡ true → k.works ≡ true → u ≡ v
 same_after w v u s h k works again =
     k.after ∙ ap (λ b. world_after b k.faults w s) again ∙ ap (λ n. world_after true n w s) (k.worked again ∙ sym (h.worked works))

@@ -1,4 +1,4 @@
--- A soak of the devices of a configuration, and how it ends.
+-- A soak of the devices of a configuration, and its result.
 use Rattle.std.proofs.Common.{◌≡◌, ◌∙◌, ◌∷◌, ℕ, Bool, List, Ok, Option, None, Some, ap, inl, inr, map, refl, subst, Vec, String, Global}
 use Rattle.std.specs.List.{AllByRecursion}
 use Rattle.std.specs.Prelude.{IfSome, option_map, string_bytes}
@@ -21,7 +21,7 @@ use Rattle.fwupd_watch.specs.declared.faults.RunFault.{RunFault}
 use Rattle.fwupd_watch.specs.declared.faults.RunFault.TheVariants as faults
 use Rattle.fwupd_jobs.proofs.Packed.{packages_so, through}
 
--- so many runs of what a configuration's file says
+-- the runs of a configuration in a file
 pub soaks_so : (files : List ℕ → FileOf) (path : List ℕ) (config : Config) (names : List (String Global)) (contents slice : List (Vec ℕ Global)) (ps packs : List PackageText)
     (devices : List DeviceConfig) (file : Option (List ℕ)) (runs : ℕ) (sum : Summary) (kept : Option (List Step)) → Says config_of (files path) (config_seen config) → names ≡ config.packages.items
     → ArePacked files (map (λ p. string_bytes p) names) (map (λ f. f.items) contents) → IfSome file (λ p. AllByRecursion (IsApartFrom files p) (path ∷ map (λ s. string_bytes s) config.packages.items)) → slice ≡ contents → map (λ p. Ok p) ps ≡ map (λ f. package_of f.items) slice
@@ -41,12 +41,12 @@ soaks_so files path config names contents slice ps packs devices file runs sum k
       (subst (λ ds. SoakOk (record { agent = config.agent; unit = config.unit; devices = map device_of ds; packages = packs }) runs sum kept) all soaked);
 }
 
--- what is made of nothing alone is nothing
+-- an optional value is none if its image is
 pub unmapped : {A B : Type 0} (f : A → B) (o : Option A) → option_map f o ≡ None → o ≡ None
 unmapped f None e = refl
 unmapped f (Some x) e = absurd (cc)
 
--- none went wrong
+-- no run had a violation
 pub ends_clean : (files : List ℕ → FileOf) (path : List ℕ) (order : SoakOrder) (file : Option (List ℕ)) (sum : Summary) (kept : Option (List Step)) (before now : OutputOf) → kept ≡ None
     → Soaks files path file order.runs sum kept → sum.violations ≡ 0 → WritesOutput before now (summary_text sum) → SoaksClean files path order file before now
 ends_clean files path order file sum kept before now e h none written = record {
@@ -56,7 +56,7 @@ ends_clean files path order file sum kept before now e h none written = record {
   written = written;
 }
 
--- one did
+-- a run had a violation
 pub ends_wrong : (files : List ℕ → FileOf) (path : List ℕ) (order : SoakOrder) (file : Option (List ℕ)) (told : RunFault) (is_known : Bool) (held : List ℕ → Option (List ℕ)) (sum : Summary)
     (kept : Option (List Step)) (before now : OutputOf) → ReportsViolation kept file told is_known held → Soaks files path file order.runs sum kept → WritesOutput before now (summary_text sum)
     → SoakEnds files path order file told is_known held before now
@@ -64,7 +64,7 @@ ends_wrong files path order file told is_known held sum None before now judged h
 ends_wrong files path order file told is_known held sum (Some steps) before now judged h written =
     inl (record { sum = sum; steps = steps; soaks = h; written = written; judged = judged })
 
--- what is said isn't written whole
+-- the totals aren't written as a whole
 pub ends_broken : (files : List ℕ → FileOf) (path : List ℕ) (order : SoakOrder) (file : Option (List ℕ)) (told : RunFault) (is_known : Bool) (held : List ℕ → Option (List ℕ)) (sum : Summary)
     (kept : Option (List Step)) (before now : OutputOf) → told ≡ faults.Output → Soaks files path file order.runs sum kept → FailsToWriteOutput before now (summary_text sum)
     → SoakEnds files path order file told is_known held before now

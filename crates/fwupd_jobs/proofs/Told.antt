@@ -1,4 +1,4 @@
--- What is told of a job on a world.
+-- The faults of a job on a world.
 use Rattle.std.proofs.Common.{◌++◌, ◌∷◌, take, true, ◌≡◌, ◌⊎◌, ◌<◌, ◌+◌, ℕ, Bool, List, Option, None, Some, inl, inr, length, refl, ap, subst}
 use Rattle.std.specs.Prelude.{IfSome}
 use Rattle.fw_json.specs.Forms.{report_in}
@@ -24,16 +24,16 @@ use Rattle.fw_edge.specs.declared.driving.EdgeFault.TheVariants as edges
 use Rattle.fwupd_watch.specs.declared.faults.RunFault.{RunFault}
 use Rattle.fwupd_watch.specs.declared.faults.RunFault.TheVariants as faults
 
--- the world that steps lead to is safe
+-- the world after the steps is safe
 pub safe_reached : (number : ℕ) (w v : WorldOf) → PacketsAreSafe → IsOpeningWorld w → RunsSteps number w v → IsSafeSince w v
 safe_reached number w v law opens h = record { begins = opens; safe = law w v (starts_of number (take h.started w.sites) ++ h.steps) opens h.run }
 
--- and so is the one that a replay leaves
+-- and so is the world after a replay
 safe_left : (w v : WorldOf) (steps : List Step) (fault : Option (ℕ × StepFault)) → PacketsAreSafe → IsOpeningWorld w → LeavesWorld w steps fault v → IsSafeWorld w v
 safe_left w v steps None law opens h = law w v steps opens h
 safe_left w v steps (Some f) law opens h = law w v (take f.0 steps) opens h.1
 
--- what a replay leaves, and what is promised of it
+-- the world after a replay is safe
 pub replayed_by : (w x v : WorldOf) (steps : List Step) (fault : Option (ℕ × StepFault)) (form : Form) (text : List ℕ) → x ≡ w → IsOpeningWorld x → PacketsAreSafe
     → LeavesWorld x steps fault v → text ≡ report_in form v → IsReplayed w steps fault form text
 replayed_by w x v steps fault form text is opens law left report =
@@ -44,13 +44,13 @@ replayed_by w x v steps fault form text is opens law left report =
       report = report;
     })
 
--- what looks on doesn't begin
+-- the observer doesn't begin
 pub unbegun : (files : List ℕ → FileOf) (source : SourceOf) (number : ℕ) (show : ShowOf) (refuses : List ℕ → Bool) (lacks : ℕ → Bool) (told : RunFault) (watched : ObserverOf) (before : OutputOf)
     → (told ≡ faults.Memory) ⊎ LacksTrace files source number show refuses told watched → UpdateEnds files source number show refuses lacks told watched before before
 unbegun files source number show refuses lacks told watched before (inl e) = inr (inr (record { kept = refl; cause = inl e }))
 unbegun files source number show refuses lacks told watched before (inr h) = inr (inr (record { kept = refl; cause = inr (inr (inr (inr (inl h)))) }))
 
--- no link is opened
+-- a link can't be opened
 unopened : (files : List ℕ → FileOf) (source : SourceOf) (number : ℕ) (show : ShowOf) (refuses : List ℕ → Bool) (lacks : ℕ → Bool) (w : WorldOf) (told : RunFault) (watched : ObserverOf) → IsObservedSetup files source number show w
     → (told ≡ faults.Memory) ⊎ IsUnlinked w lacks told
     → (told ≡ faults.Memory)
@@ -59,7 +59,7 @@ unopened : (files : List ℕ → FileOf) (source : SourceOf) (number : ℕ) (sho
 unopened files source number show refuses lacks w told watched begins (inl e) = inl e
 unopened files source number show refuses lacks w told watched begins (inr u) = inr (inr (inr (inr (inr (record { world = w; begins = begins; unlinked = u })))))
 
--- a run over links that doesn't end well
+-- a run over links that failed
 pub update_ends : (files : List ℕ → FileOf) (source : SourceOf) (number : ℕ) (show : ShowOf) (refuses : List ℕ → Bool) (lacks : ℕ → Bool) (w v : WorldOf) (told : RunFault) (watched : ObserverOf) (before now : OutputOf)
     → IsObservedSetup files source number show w → watched.shows ≡ shown_of show → RunsSteps number w v → IsSafeSince w v → RunsStepsSeen number w v watched.seen → (told ≡ faults.Edge edges.Frame → NamesLost v watched.lost)
     → (IsBrokenRun told → watched.fault ≡ None → IfSome watched.recording (HasRecordedSteps w v)) → (IsBrokenRun told → MayHaveHistoryLines watched.history v.history) → DrivingEnds number show.form lacks w v told watched before now
@@ -71,7 +71,7 @@ update_ends files source number show refuses lacks w v told watched before now b
 update_ends files source number show refuses lacks w v told watched before now begins shown reached promised sees lost recorded kept (inr (inr h)) =
     inr (inr (record { kept = h.1; cause = unopened files source number show refuses lacks w told watched begins h.0 }))
 
--- the store of a device isn't opened
+-- the store of a device can't be opened
 pub stores_end : (files : List ℕ → FileOf) (source : SourceOf) (number : ℕ) (show : ShowOf) (refuses : List ℕ → Bool) (lacks : ℕ → Bool) (told : RunFault) (watched : ObserverOf) (before : OutputOf)
     → (told ≡ faults.Memory) ⊎ StoresFail files source told → UpdateEnds files source number show refuses lacks told watched before before
 stores_end files source number show refuses lacks told watched before (inl e) = inr (inr (record { kept = refl; cause = inl e }))
@@ -82,7 +82,7 @@ pub stores_end_replay : (files : List ℕ → FileOf) (config : SourceOf) (sched
 stores_end_replay files config schedule show refuses told watched before (inl e) = inr (inr (inl (record { kept = refl; cause = inl e })))
 stores_end_replay files config schedule show refuses told watched before (inr h) = inr (inr (inl (record { kept = refl; cause = inr (inr (inl h)) })))
 
--- what comes later is told of no store
+-- later faults aren't those of a store
 pub barred_of_none : (files : List ℕ → FileOf) (refuses : List ℕ → Bool) (show : ShowOf) (paths : List (List ℕ)) (told : RunFault) (watched : ObserverOf)
     → (told ≡ faults.Memory) ⊎ IsBarred files refuses show paths told watched → TellsStore told → ⊥
 barred_of_none files refuses show paths (faults.Store device why) watched (inl e) tells = subst TellsStore e tells
@@ -104,27 +104,27 @@ driven_of_none number form lacks w v told watched before now (inl h) tells = bro
 driven_of_none number form lacks w v told watched before now (inr (inl h)) tells = subst TellsStore h.0 tells
 driven_of_none number form lacks w v told watched before now (inr (inr h)) tells = nothing_of_none w lacks told h.0 tells
 
--- a replay whose schedule isn't read
+-- a replay whose schedule can't be read
 pub schedule_ends : (files : List ℕ → FileOf) (config : SourceOf) (schedule : List ℕ) (show : ShowOf) (refuses : List ℕ → Bool) (w : WorldOf) (told : RunFault) (watched : ObserverOf) (before : OutputOf) → IsSetup files config w
     → (told ≡ faults.Memory) ⊎ TextFails script_of files schedule told → ReplayEnds files config schedule show refuses told watched before before
 schedule_ends files config schedule show refuses w told watched before setup (inl e) = inr (inr (inl (record { kept = refl; cause = inl e })))
 schedule_ends files config schedule show refuses w told watched before setup (inr f) =
     inr (inr (inl (record { kept = refl; cause = inr (inr (inr (record { world = w; setup = setup; fails = f }))) })))
 
--- a replay that what looks on doesn't let begin
+-- a replay whose observer doesn't begin
 pub unkept_ends : (files : List ℕ → FileOf) (config : SourceOf) (schedule : List ℕ) (show : ShowOf) (refuses : List ℕ → Bool) (told : RunFault) (watched : ObserverOf) (before : OutputOf) (c : ConfigOf) (paths : List (List ℕ))
     → Says config_of (files config.path) c → paths ≡ c.packages → (told ≡ faults.Memory) ⊎ IsBarred files refuses show (schedule ∷ config.path ∷ paths) told watched → ReplayEnds files config schedule show refuses told watched before before
 unkept_ends files config schedule show refuses told watched before c paths says same (inl e) = inr (inr (inl (record { kept = refl; cause = inl e })))
 unkept_ends files config schedule show refuses told watched before c paths says same (inr b) =
     inr (inr (inr (inr (record { kept = refl; says = c; is = says; barred = subst (λ ps. IsBarred files refuses show (schedule ∷ config.path ∷ ps) told watched) same b }))))
 
--- a replay whose report is written, and what looked on had a fault
+-- a replay whose report is written, and whose observer had a fault
 pub unseen_ends : (files : List ℕ → FileOf) (config : SourceOf) (schedule : List ℕ) (show : ShowOf) (refuses : List ℕ → Bool) (fault : ObserverFault) (told : RunFault) (watched : ObserverOf) (before now : OutputOf)
     → Reports files config schedule show.form None before now → told ≡ run_fault_of_observer fault → watched.fault ≡ Some fault → watched.has_ended ≡ true → ReplayEnds files config schedule show refuses told watched before now
 unseen_ends files config schedule show refuses fault told watched before now reports is had ended =
     inr (inr (inr (inl (record { reports = reports; fault = fault; is = is; had = had; let_end = ended }))))
 
--- and it had none
+-- and one whose observer had none
 pub seen_ends : (files : List ℕ → FileOf) (config : SourceOf) (schedule : List ℕ) (show : ShowOf) (watched : ObserverOf) (before now : OutputOf) (c : ConfigOf) (paths : List (List ℕ))
     → Says config_of (files config.path) c → paths ≡ c.packages → IsApart files show (schedule ∷ config.path ∷ paths) → watched.shows ≡ shown_of show → watched.fault ≡ None → watched.has_ended ≡ true
     → Reports files config schedule show.form None before now → ReportsReplay files config schedule show watched before now
@@ -136,19 +136,19 @@ seen_ends files config schedule show watched before now c paths says same apart 
   let_end = ended;
 }
 
--- the report of what its steps leave
+-- the report of the world after the steps
 pub report_there : (files : List ℕ → FileOf) (config : SourceOf) (schedule : List ℕ) (form : Form) (w : WorldOf) (steps slice : List Step) (fault : Option (ℕ × StepFault)) (text : List ℕ)
     → IsSetup files config w → Says script_of (files schedule) steps → slice ≡ steps → IsReplayed w slice fault form text → IsReport files config schedule form fault text
 report_there files config schedule form w steps slice fault text setup says same h =
     record { world = w; setup = setup; steps = steps; says = says; replayed = subst (λ ss. IsReplayed w ss fault form text) same h }
 
--- it isn't written whole
+-- the report isn't written as a whole
 pub breaks_off : (files : List ℕ → FileOf) (config : SourceOf) (schedule : List ℕ) (show : ShowOf) (refuses : List ℕ → Bool) (fault : Option (ℕ × StepFault)) (text : List ℕ) (watched : ObserverOf) (before now : OutputOf)
     → IsReport files config schedule show.form fault text → FailsToWriteOutput before now text → ReplayEnds files config schedule show refuses faults.Output watched before now
 breaks_off files config schedule show refuses fault text watched before now report begun =
     inr (inl (record { is = refl; fault = fault; text = text; report = report; begun = begun }))
 
--- a step isn't taken
+-- a step is refused
 pub place_within : (w : WorldOf) (steps : List Step) (fault : Option (ℕ × StepFault)) (form : Form) (text : List ℕ) (place : ℕ) (why : StepFault) → IsReplayed w steps fault form text → fault ≡ Some (place, why)
     → place < length steps
 place_within w steps fault form text place why h e = (subst (λ f. IsReplayed w steps f form text) e h).left.0
@@ -163,7 +163,7 @@ step_ends files config schedule show refuses fault text place number why watched
   reports = record { text = text; report = subst (λ f. IsReport files config schedule show.form f text) e report; written = written };
 })
 
--- all are
+-- all steps are taken
 pub replay_reports : (files : List ℕ → FileOf) (config : SourceOf) (schedule : List ℕ) (form : Form) (fault : Option (ℕ × StepFault)) (text : List ℕ) (before now : OutputOf)
     → IsReport files config schedule form fault text → fault ≡ None → WritesOutput before now text → Reports files config schedule form None before now
 replay_reports files config schedule form fault text before now report e written =

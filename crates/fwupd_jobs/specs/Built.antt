@@ -1,4 +1,4 @@
--- The package that the text in a file asks for, and what is written of it.
+-- The package of a description in a file, and the output of a build.
 use Rattle.std.specs.Prelude.{ℕ, ◌≡◌, ◌++◌, ◌⊎◌, List, [], ◌∷◌, Option, None, Some, Ok, Bool, true, IfSome, IsSomeAnd, length, map, string_bytes}
 use Rattle.std.specs.List.{concat}
 use Rattle.fw_package.specs.Asked.{AskedComponentOf, AskedPackageOf, AskedRecordOf, package_for, refusal_of}
@@ -16,7 +16,7 @@ use Rattle.fwupd_jobs.specs.Setups.{IsUnread, Says, TextFails}
 use Rattle.fwupd_watch.specs.declared.faults.RunFault.{RunFault}
 use Rattle.fwupd_watch.specs.declared.faults.RunFault.TheVariants as faults
 
--- what is asked of a package by a text, with these images
+-- the package of a description, with these images
 abbrev pub record_by : SpecRecordOf → AskedRecordOf
 record_by r = record { flags = r.flags; set_text = r.set_text; descriptors = r.descriptors; uses = r.uses }
 
@@ -45,7 +45,7 @@ asked_by spec images =
       components = components_by spec.components images;
     }
 
--- a component's image: its file's bytes, or none where it has no file
+-- a component's image: its file's bytes, or empty if it has no file
 abbrev pub IsImage : (files : List ℕ → FileOf) → Option (List ℕ) → List ℕ → Type 0
 IsImage files None image = image ≡ []
 IsImage files (Some path) image = MayHold (files path) image
@@ -55,7 +55,7 @@ AreImages files [] [] = Unit {0}
 AreImages files (c ∷ cs) (image ∷ images) = IsImage files c.path image × AreImages files cs images
 AreImages files cs images = ⊥
 
--- Bytes are the package that the text in a file asks for.
+-- The bytes are the package of the description in a file.
 pub record IsBuilt (files : List ℕ → FileOf) (path bytes : List ℕ) : Type 0 where
   pub spec : PackageSpecOf
   pub images : List (List ℕ)
@@ -65,7 +65,7 @@ pub record IsBuilt (files : List ℕ → FileOf) (path bytes : List ℕ) : Type 
   pub is : IsPackage bytes (package_for (asked_by spec images) images)
   pub reads : package_of bytes ≡ Ok (package_for (asked_by spec images) images)
 
--- An image's file isn't read: the first of these.
+-- The first of the images' files that can't be read, and the fault.
 abbrev pub ImageFails : (files : List ℕ → FileOf) → Option (List ℕ) → RunFault → Type 0
 ImageFails files None told = ⊥
 ImageFails files (Some path) told = IsUnread path (files path) told
@@ -79,7 +79,7 @@ pub record ImagesFail (files : List ℕ → FileOf) (components : List SpecCompo
   pub read : AreImages files before images
   pub fails : ImageFails files component.path told
 
--- It can't be written, which is told at the line after the last.
+-- The package can't be encoded, which is reported at the line after the last.
 abbrev pub cause_of : AskedFault → ScriptCause
 cause_of refusals.Uses = causes.Range
 cause_of refusals.Limit = causes.Limit
@@ -96,7 +96,7 @@ abbrev pub IsBuildFault : (path : List ℕ) → PackageSpecOf → List (List ℕ
 IsBuildFault path spec images (faults.Text name told) = (string_bytes name ≡ path) × IsBuildRefusal spec images told
 IsBuildFault path spec images told = ⊥
 
--- why nothing is built of the text in a file
+-- why nothing is built from the description in a file
 pub record SpecFails (files : List ℕ → FileOf) (path : List ℕ) (told : RunFault) : Type 0 where
   pub spec : PackageSpecOf
   pub says : Says package_spec_of (files path) spec
@@ -113,7 +113,7 @@ abbrev pub BuildEnds : (files : List ℕ → FileOf) → (path : List ℕ) → R
 BuildEnds files path told =
     (told ≡ faults.Memory) ⊎ ((told ≡ faults.Output) ⊎ (TextFails package_spec_of files path told ⊎ (SpecFails files path told ⊎ PackageRefused files path told)))
 
--- What is written to a path is written over none of these images' files; or over one.
+-- A write to a path overwrites none of the images' files; or it may overwrite one.
 abbrev pub IsApartFromImages : (files : List ℕ → FileOf) → (written : List ℕ) → List SpecComponentOf → Type 0
 IsApartFromImages files written [] = Unit {0}
 IsApartFromImages files written (c ∷ cs) = IfSome c.path (IsApartFrom files written) × IsApartFromImages files written cs
@@ -122,13 +122,13 @@ abbrev pub IsOverImage : (files : List ℕ → FileOf) → (written : List ℕ) 
 IsOverImage files written [] = ⊥
 IsOverImage files written (c ∷ cs) = IsSomeAnd c.path (IsOver files written) ⊎ IsOverImage files written cs
 
--- The package comes over neither the text that asks for it nor one of its images.
+-- The package overwrites neither its description nor an image.
 pub record BuildsApart (files : List ℕ → FileOf) (path written : List ℕ) : Type 0 where
   pub spec : PackageSpecOf
   pub says : Says package_spec_of (files path) spec
   pub text : IsApartFrom files written path
   pub images : IsApartFromImages files written spec.components
 
--- Where it is known what a path holds, it holds the package.
+-- If the content of a path is known, it is the package.
 abbrev pub Builds : (files : List ℕ → FileOf) → (path : List ℕ) → (is_known : Bool) → Option (List ℕ) → Type 0
 Builds files path is_known held = is_known ≡ true → IsSomeAnd held (λ bytes. IsBuilt files path bytes)

@@ -1,4 +1,4 @@
--- What is looked at to find why a job failed.
+-- The clues to why a job failed.
 use Rattle.std.specs.Prelude.{ℕ, List, Option, None, Some, option_map, string_bytes}
 use Rattle.fwupd_words.specs.declared.asked.Job.{Job}
 use Rattle.fwupd_words.specs.declared.asked.Job.TheVariants as jobs
@@ -23,7 +23,7 @@ clue_seen (clues.Step schedule number) = ClueOf.OfStep schedule.now number
 clue_seen (clues.Unwritten path) = ClueOf.Unwritten path.now
 clue_seen (clues.History folder) = ClueOf.OfHistory folder.now
 
--- the file that isn't written of what is shown
+-- the output that can't be written
 abbrev pub clue_to_shown : Show → RunFault → Option ClueOf
 clue_to_shown show faults.Trace = option_map (λ path. ClueOf.Unwritten path.now) show.trace
 clue_to_shown show faults.Log = option_map (λ path. ClueOf.Unwritten path.now) show.log
@@ -31,7 +31,7 @@ clue_to_shown show faults.Record = option_map (λ path. ClueOf.Unwritten path.no
 clue_to_shown show faults.History = option_map (λ folder. ClueOf.OfHistory folder.now) show.history
 clue_to_shown show fault = None
 
--- a job reads packages of a configuration
+-- a job that reads packages of a configuration
 abbrev pub clue_to_package : Job → Option ClueOf
 clue_to_package (jobs.Replay config schedule show) = Some (ClueOf.NoPackage config.now)
 clue_to_package (jobs.Run config folder order show) = Some (ClueOf.NoPackage config.now)
@@ -43,7 +43,7 @@ abbrev pub clue_to_step : Job → (number : ℕ) → Option ClueOf
 clue_to_step (jobs.Replay config schedule show) number = Some (ClueOf.OfStep schedule.now number)
 clue_to_step job number = None
 
--- a file that a job makes itself isn't written
+-- the file that a job makes and can't write
 abbrev pub clue_to_output : Job → RunFault → Option ClueOf
 clue_to_output (jobs.Soak config order path) faults.Record = option_map (λ p. ClueOf.Unwritten p.now) path
 clue_to_output (jobs.Build spec path) faults.Output = Some (ClueOf.Unwritten path.now)
@@ -51,7 +51,7 @@ clue_to_output (jobs.Replay config schedule show) fault = clue_to_shown show fau
 clue_to_output (jobs.Run config folder order show) fault = clue_to_shown show fault
 clue_to_output job fault = None
 
--- what helps to find why a job ended with a fault
+-- the clue to why a job ended with a fault
 abbrev pub clue_of : Job → RunFault → Option ClueOf
 clue_of job (faults.Unreadable path) = Some (ClueOf.Unread (string_bytes path))
 clue_of job (faults.Package fault) = clue_to_package job

@@ -1,4 +1,4 @@
--- What is written of the package in a file.
+-- The output of the inspection of a package in a file.
 use Rattle.std.specs.Prelude.{ℕ, ◌≡◌, ◌⊎◌, List}
 use Rattle.fw_package.specs.Package.{PackageText}
 use Rattle.fw_json.specs.Forms.{inspection_in}
@@ -11,25 +11,26 @@ use Rattle.fwupd_watch.specs.declared.faults.RunFault.TheVariants as faults
 use Rattle.fwupd_base.specs.declared.inspection.InspectFault.{InspectFault}
 use Rattle.fwupd_base.specs.declared.inspection.InspectFault.TheVariants as inspected
 
--- how it is told that a package isn't inspected
+-- the fault of a package that can't be inspected
 abbrev pub run_fault_of_inspection : InspectFault → RunFault
 run_fault_of_inspection (inspected.Package fault) = faults.Package fault
 run_fault_of_inspection inspected.Memory = faults.Memory
 
--- Its text is.
+-- The text of the package is written.
 pub record Inspects (file : FileOf) (form : Form) (before now : OutputOf) : Type 0 where
   pub contents : PackageText
   pub is : IsPackageFile file contents
   pub written : WritesOutput before now (inspection_in form contents)
 
--- A beginning of it is.
+-- A beginning of the text is written.
 pub record BreaksInspection (file : FileOf) (form : Form) (told : RunFault) (before now : OutputOf) : Type 0 where
   pub is : told ≡ faults.Output
   pub contents : PackageText
   pub read : IsPackageFile file contents
   pub begun : FailsToWriteOutput before now (inspection_in form contents)
 
--- How an inspection ends that doesn't end well: else nothing is written, and memory was refused, or the file isn't read or holds no package.
+-- The result of an inspection that failed. If writing didn't fail, nothing is written, and memory
+-- was refused, or the file can't be read or isn't a package.
 abbrev pub InspectEnds : (files : List ℕ → FileOf) (path : List ℕ) (form : Form) → RunFault → (before now : OutputOf) → Type 0
 InspectEnds files path form told before now =
     BreaksInspection (files path) form told before now ⊎ (((told ≡ faults.Memory) ⊎ PackageFails files path told) × (now ≡ before))

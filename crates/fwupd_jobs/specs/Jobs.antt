@@ -1,4 +1,4 @@
--- What each job does of those that the words of a command line ask for.
+-- The result of each job that arguments request.
 use Rattle.std.specs.Prelude.{ℕ, ◌≡◌, ◌⊎◌, Bool, true, false, List, None, Option, option_map}
 use Rattle.fw_setup.specs.Stocks.{StoresOf}
 use Rattle.fwupd_watch.specs.Answering.{AnswerEnds, AnswersAll}
@@ -17,7 +17,7 @@ use Rattle.fwupd_words.specs.declared.asked.Job.{Job}
 use Rattle.fwupd_words.specs.declared.asked.Job.TheVariants as jobs
 use Rattle.fwupd_watch.specs.declared.faults.RunFault.{RunFault}
 
--- A job is done: what it was asked for is written.
+-- A job is done: its output is written.
 abbrev pub IsDone : Job → (files : List ℕ → FileOf) → (stores : (root : List ℕ) → StoresOf) → (read_before read_now : Option (List ℕ)) → ObserverOf → (is_known : Bool) → (held : List ℕ → Option (List ℕ)) → (before now : OutputOf) → Type 0
 IsDone (jobs.Answer endpoint) files stores read_before read_now watched is_known held before now = AnswersAll endpoint read_before read_now before now
 IsDone (jobs.Inspect path form) files stores read_before read_now watched is_known held before now = Inspects (files path.now) form before now
@@ -28,7 +28,7 @@ IsDone (jobs.Sel path) files stores read_before read_now watched is_known held b
 IsDone (jobs.Soak config order file) files stores read_before read_now watched is_known held before now = SoaksClean files config.now order (option_map (λ p. p.now) file) before now
 IsDone (jobs.Plan config number form) files stores read_before read_now watched is_known held before now = Plans files config.now number form before now
 
--- How a job ends that isn't done.
+-- The result of a job that isn't done.
 abbrev pub JobEnds : Job → (files : List ℕ → FileOf) → (stores : (root : List ℕ) → StoresOf) → (refuses : (trace : List ℕ) → Bool) → (lacks : (folder : List ℕ) → (device : ℕ) → Bool) → (read_before read_now : Option (List ℕ)) → RunFault → ObserverOf → (is_known : Bool) → (held : List ℕ → Option (List ℕ)) → (before now : OutputOf) → Type 0
 JobEnds (jobs.Answer endpoint) files stores refuses lacks read_before read_now told watched is_known held before now = AnswerEnds endpoint read_before read_now told before now
 JobEnds (jobs.Inspect path form) files stores refuses lacks read_before read_now told watched is_known held before now = InspectEnds files path.now form told before now
@@ -42,18 +42,18 @@ JobEnds (jobs.Soak config order file) files stores refuses lacks read_before rea
     SoakEnds files config.now order (option_map (λ p. p.now) file) told is_known held before now
 JobEnds (jobs.Plan config number form) files stores refuses lacks read_before read_now told watched is_known held before now = PlanEnds files config.now number form told before now
 
--- It isn't, and this is so of the fault that is told.
+-- A job isn't done, and this holds for the fault.
 pub record IsUndone (job : Job) (files : List ℕ → FileOf) (stores : (root : List ℕ) → StoresOf) (refuses : (trace : List ℕ) → Bool) (lacks : (folder : List ℕ) → (device : ℕ) → Bool) (read_before read_now : Option (List ℕ)) (watched : ObserverOf) (is_known : Bool) (held : List ℕ → Option (List ℕ)) (before now : OutputOf) : Type 0 where
   pub told : RunFault
   pub ends : JobEnds job files stores refuses lacks read_before read_now told watched is_known held before now
 
--- A status says whether it is: 0, or 1 where it isn't.
+-- The exit status is 0 if the job is done, or 1 if it isn't.
 abbrev pub StatusSays : (status : ℕ) → Job → (files : List ℕ → FileOf) → (stores : (root : List ℕ) → StoresOf) → (refuses : (trace : List ℕ) → Bool) → (lacks : (folder : List ℕ) → (device : ℕ) → Bool) → (read_before read_now : Option (List ℕ)) → ObserverOf → (is_known : Bool) → (held : List ℕ → Option (List ℕ)) → (before now : OutputOf) → Type 0
 StatusSays status job files stores refuses lacks read_before read_now watched is_known held before now =
     ((status ≡ 0) × IsDone job files stores read_before read_now watched is_known held before now)
     ⊎ ((status ≡ 1) × IsUndone job files stores refuses lacks read_before read_now watched is_known held before now)
 
--- So it says of a job over what the system has, of which nothing is known before, and over this output.
+-- This holds for a job with the system's files, of which nothing is known before, and this output.
 pub record SystemSays (status : ℕ) (job : Job) (before now : OutputOf) : Type 0 where
   pub read_before : Option (List ℕ)
   pub read_now : Option (List ℕ)

@@ -1,4 +1,4 @@
--- What is written of an update that isn't begun.
+-- The output of the plan of an update.
 use Rattle.std.specs.Prelude.{ℕ, ◌≡◌, ◌≤◌, ◌⊎◌, List, length}
 use Rattle.fw_package.specs.Package.{PackageText}
 use Rattle.fw_script.specs.Configs.{ConfigOf, config_of}
@@ -11,7 +11,8 @@ use Rattle.fwupd_watch.specs.Files.{FileOf}
 use Rattle.fwupd_watch.specs.declared.faults.RunFault.{RunFault}
 use Rattle.fwupd_watch.specs.declared.faults.RunFault.TheVariants as faults
 
--- A text says what comes of an update of the devices of the configuration in a file, with its package of this number, from 1 on.
+-- A text is the plan of an update of the devices of the configuration in a file, with its package
+-- `number`, counted from 1.
 pub record Forecasts (files : List ℕ → FileOf) (path : List ℕ) (number : ℕ) (form : Form) (text : List ℕ) : Type 0 where
   pub config : ConfigOf
   pub packages : List PackageText
@@ -21,20 +22,21 @@ pub record Forecasts (files : List ℕ → FileOf) (path : List ℕ) (number : �
   pub there : number ≤ length packages
   pub is : text ≡ plan_in form number (package_at packages number) config.devices
 
--- It is written.
+-- The plan is written.
 pub record Plans (files : List ℕ → FileOf) (path : List ℕ) (number : ℕ) (form : Form) (before now : OutputOf) : Type 0 where
   pub text : List ℕ
   pub forecasts : Forecasts files path number form text
   pub written : WritesOutput before now text
 
--- A beginning of it is.
+-- A beginning of the plan is written.
 pub record BreaksPlan (files : List ℕ → FileOf) (path : List ℕ) (number : ℕ) (form : Form) (told : RunFault) (before now : OutputOf) : Type 0 where
   pub is : told ≡ faults.Output
   pub text : List ℕ
   pub forecasts : Forecasts files path number form text
   pub begun : FailsToWriteOutput before now text
 
--- How a forecast ends that doesn't end well: else nothing is written, and memory was refused, or there is no such package.
+-- The result of a plan that failed. If writing didn't fail, nothing is written, and memory was
+-- refused, or an input is missing or faulty.
 abbrev pub PlanEnds : (files : List ℕ → FileOf) (path : List ℕ) (number : ℕ) (form : Form) (told : RunFault) (before now : OutputOf) → Type 0
 PlanEnds files path number form told before now =
     BreaksPlan files path number form told before now

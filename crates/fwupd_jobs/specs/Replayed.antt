@@ -1,4 +1,4 @@
--- What a replay leaves, and what is written of it.
+-- The world after a replay, and the output of a replay.
 use Rattle.std.specs.Prelude.{ℕ, ◌≡◌, ◌<◌, ◌+◌, ◌⊎◌, Bool, true, IfSome, List, ◌∷◌, Option, Some, None, length, slice_get, take}
 use Rattle.fw_script.specs.Configs.{ConfigOf, config_of}
 use Rattle.fw_script.specs.Schedules.{script_of}
@@ -19,24 +19,25 @@ use Rattle.fwupd_watch.specs.declared.running.ObserverFault.{ObserverFault}
 use Rattle.fwupd_watch.specs.declared.faults.RunFault.{RunFault}
 use Rattle.fwupd_watch.specs.declared.faults.RunFault.TheVariants as faults
 
--- all steps are taken; or those before the one that isn't, for this reason
+-- all steps are taken; or those before the one that is refused, for this reason
 abbrev pub LeavesWorld : WorldOf → List Step → Option (ℕ × StepFault) → WorldOf → Type 0
 LeavesWorld w steps None v = Run w steps v
 LeavesWorld w steps (Some f) v = (f.0 < length steps) × Run w (take f.0 steps) v × IfSome (slice_get steps f.0) (λ s. RefusesStep v s f.1)
 
--- how many were taken
+-- the number of steps taken
 abbrev pub taken_of : List Step → Option (ℕ × StepFault) → ℕ
 taken_of steps None = length steps
 taken_of steps (Some f) = f.0
 
--- the report is of the world that is left, which is safe
+-- the report is of the last world, which is safe
 pub record IsReplayed (w : WorldOf) (steps : List Step) (fault : Option (ℕ × StepFault)) (form : Form) (text : List ℕ) : Type 0 where
   pub world : WorldOf
   pub left : LeavesWorld w steps fault world
   pub promised : IsSafeSince w world
   pub report : text ≡ report_in form world
 
--- The report of what the steps in a schedule's file leave of the world that a configuration's file is of.
+-- The report of the world after the steps in a schedule's file, from the world of a configuration's
+-- file.
 pub record IsReport (files : List ℕ → FileOf) (config : SourceOf) (schedule : List ℕ) (form : Form) (fault : Option (ℕ × StepFault)) (text : List ℕ) : Type 0 where
   pub world : WorldOf
   pub setup : IsSetup files config world
@@ -44,20 +45,20 @@ pub record IsReport (files : List ℕ → FileOf) (config : SourceOf) (schedule 
   pub says : Says script_of (files schedule) steps
   pub replayed : IsReplayed world steps fault form text
 
--- It is written.
+-- The report is written.
 pub record Reports (files : List ℕ → FileOf) (config : SourceOf) (schedule : List ℕ) (form : Form) (fault : Option (ℕ × StepFault)) (before now : OutputOf) : Type 0 where
   pub text : List ℕ
   pub report : IsReport files config schedule form fault text
   pub written : WritesOutput before now text
 
--- It is, and a step, numbered from 1, isn't taken.
+-- The report is written, and a step, numbered from 1, is refused.
 pub record ReportsStep (files : List ℕ → FileOf) (config : SourceOf) (schedule : List ℕ) (form : Form) (told : RunFault) (before now : OutputOf) : Type 0 where
   pub place : ℕ
   pub fault : StepFault
   pub is : told ≡ faults.Step (place + 1) fault
   pub reports : Reports files config schedule form (Some (place, fault)) before now
 
--- A beginning of it is.
+-- A beginning of the report is written.
 pub record BreaksOff (files : List ℕ → FileOf) (config : SourceOf) (schedule : List ℕ) (form : Form) (told : RunFault) (before now : OutputOf) : Type 0 where
   pub is : told ≡ faults.Output
   pub fault : Option (ℕ × StepFault)
@@ -65,19 +66,19 @@ pub record BreaksOff (files : List ℕ → FileOf) (config : SourceOf) (schedule
   pub report : IsReport files config schedule form fault text
   pub begun : FailsToWriteOutput before now text
 
--- the world is there, and the schedule isn't
+-- the world exists, and the schedule can't be read
 pub record ScheduleFails (files : List ℕ → FileOf) (config : SourceOf) (schedule : List ℕ) (told : RunFault) : Type 0 where
   pub world : WorldOf
   pub setup : IsSetup files config world
   pub fails : TextFails script_of files schedule told
 
--- Nothing that looks on writes is written over one of the files that a replay reads.
+-- No output of the observer overwrites a file that the replay reads.
 pub record IsReplayApart (files : List ℕ → FileOf) (config : SourceOf) (schedule : List ℕ) (show : ShowOf) : Type 0 where
   pub says : ConfigOf
   pub is : Says config_of (files config.path) says
   pub apart : IsApart files show (schedule ∷ config.path ∷ says.packages)
 
--- The report is written, and what looks on showed what it is to show, had no fault, and was let end.
+-- The report is written. The observer showed the requested outputs, had no fault, and has ended.
 pub record ReportsReplay (files : List ℕ → FileOf) (config : SourceOf) (schedule : List ℕ) (show : ShowOf) (watched : ObserverOf) (before now : OutputOf) : Type 0 where
   pub reports : Reports files config schedule show.form None before now
   pub apart : IsReplayApart files config schedule show
@@ -85,7 +86,7 @@ pub record ReportsReplay (files : List ℕ → FileOf) (config : SourceOf) (sche
   pub seen : watched.fault ≡ None
   pub let_end : watched.has_ended ≡ true
 
--- The report is written of all steps, and what looks on had a fault, which is told.
+-- The report of all steps is written. The observer had a fault, which is reported.
 pub record ReportsUnseen (files : List ℕ → FileOf) (config : SourceOf) (schedule : List ℕ) (show : ShowOf) (told : RunFault) (watched : ObserverOf) (before now : OutputOf) : Type 0 where
   pub reports : Reports files config schedule show.form None before now
   pub fault : ObserverFault
@@ -93,19 +94,20 @@ pub record ReportsUnseen (files : List ℕ → FileOf) (config : SourceOf) (sche
   pub had : watched.fault ≡ Some fault
   pub let_end : watched.has_ended ≡ true
 
--- Nothing is replayed: a file that was read would be written over, or the file to be written is refused.
+-- Nothing is replayed: an input would be overwritten, or an output is refused.
 pub record LacksKept (files : List ℕ → FileOf) (config : SourceOf) (schedule : List ℕ) (show : ShowOf) (refuses : List ℕ → Bool) (told : RunFault) (watched : ObserverOf) (before now : OutputOf) : Type 0 where
   pub kept : now ≡ before
   pub says : ConfigOf
   pub is : Says config_of (files config.path) says
   pub barred : IsBarred files refuses show (schedule ∷ config.path ∷ says.packages) told watched
 
--- Nothing is written: memory was refused, or one of the files isn't what it should be, the first in their order, or a store of a device.
+-- Nothing is written: memory was refused, or one of the inputs, the first in their order, is
+-- faulty, or a device's store is.
 pub record StopsBefore (files : List ℕ → FileOf) (config : SourceOf) (schedule : List ℕ) (told : RunFault) (before now : OutputOf) : Type 0 where
   pub kept : now ≡ before
   pub cause : (told ≡ faults.Memory) ⊎ (SetupFails files config.path told ⊎ (StoresFail files config told ⊎ ScheduleFails files config schedule told))
 
--- How a replay ends that doesn't end well.
+-- The result of a replay that failed.
 abbrev pub ReplayEnds : (files : List ℕ → FileOf) (config : SourceOf) (schedule : List ℕ) (show : ShowOf) (refuses : List ℕ → Bool) (told : RunFault) (watched : ObserverOf) (before now : OutputOf) → Type 0
 ReplayEnds files config schedule show refuses told watched before now =
     ReportsStep files config schedule show.form told before now

@@ -1,4 +1,4 @@
--- Which session of a world isn't Done.
+-- The first session of a world that isn't Done.
 use Rattle.std.specs.Prelude.{◌≡◌, Bool, false, true, if◌then◌else◌, List, [], ◌∷◌, Option, None, Some, codes, ℕ}
 use Rattle.std.specs.List.{AllByRecursion}
 use Rattle.fw_node.specs.Agents.{AgentOf}
@@ -18,7 +18,7 @@ abbrev pub is_done : Option SessionState → Bool
 is_done (Some sessions.Done) = true
 is_done state = false
 
--- the first of these devices whose session isn't
+-- the first of the devices whose session isn't Done
 abbrev pub first_undone : AgentOf → List SiteOf → Option Undone
 first_undone a [] = None
 first_undone a (x ∷ xs) =
@@ -29,13 +29,14 @@ first_undone a (x ∷ xs) =
 abbrev pub undone_in : WorldOf → Option Undone
 undone_in w = first_undone w.agent w.sites
 
--- its word: the cause of its failure, or where it stands; each device has a session
+-- the name of the cause of a failed session, or of the state of another one; each device has a
+-- session
 abbrev pub undone_word : Option SessionState → List ℕ
 undone_word None = codes "-"
 undone_word (Some (sessions.Failed cause)) = cause_name cause
 undone_word (Some state) = session_name state
 
--- a run's fault names this device, and the word of its session
+-- the fault names this device, and the name for its session
 abbrev pub TellsUndone : Undone → RunFault → Type 0
 TellsUndone u (faults.Session eid word) = (eid ≡ u.eid) × (word.now ≡ undone_word u.state)
 TellsUndone u fault = ⊥

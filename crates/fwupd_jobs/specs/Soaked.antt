@@ -1,4 +1,4 @@
--- What is written of a soak, and what is kept of it.
+-- The output of a soak, and the recorded steps.
 use Rattle.std.specs.Prelude.{ℕ, ◌≡◌, ◌⊎◌, Bool, List, ◌∷◌, Option, None, Some, IfSome, IsSome, IsSomeAnd, true}
 use Rattle.std.specs.List.{AllByRecursion}
 use Rattle.fw_package.specs.Package.{PackageText}
@@ -16,12 +16,12 @@ use Rattle.fwupd_watch.specs.Files.{FileOf, IsApartFrom, IsOverOne}
 use Rattle.fwupd_watch.specs.declared.faults.RunFault.{RunFault}
 use Rattle.fwupd_watch.specs.declared.faults.RunFault.TheVariants as faults
 
--- what runs begin with that a configuration says, with these packages
+-- the setup of a configuration with these packages
 abbrev pub setup_of_config : ConfigOf → List PackageText → SetupOf
 setup_of_config c packages = record { agent = c.agent; unit = c.unit; devices = c.devices; packages = packages }
 
--- So many runs were made of the configuration in a file with its packages: this is said of them, and the steps of the first that went
--- wrong are these. The file in which they are to be kept, if one is, is none of those that were read.
+-- The result of `runs` runs of the configuration in a file with its packages: their totals, and the
+-- steps of the first violation. The file for the steps, if one is given, is none of the inputs.
 pub record Soaks (files : List ℕ → FileOf) (path : List ℕ) (file : Option (List ℕ)) (runs : ℕ) (sum : Summary) (kept : Option (List Step)) : Type 0 where
   pub config : ConfigOf
   pub packages : List PackageText
@@ -30,23 +30,23 @@ pub record Soaks (files : List ℕ → FileOf) (path : List ℕ) (file : Option 
   pub apart : IfSome file (λ p. AllByRecursion (IsApartFrom files p) (path ∷ config.packages))
   pub soaked : SoakOk (setup_of_config config packages) runs sum kept
 
--- None went wrong, and that is written.
+-- There was no violation, and the totals are written.
 pub record SoaksClean (files : List ℕ → FileOf) (path : List ℕ) (order : SoakOrder) (file : Option (List ℕ)) (before now : OutputOf) : Type 0 where
   pub sum : Summary
   pub soaks : Soaks files path file order.runs sum None
   pub none : sum.violations ≡ 0
   pub written : WritesOutput before now (summary_text sum)
 
--- What is told where the steps of a run are kept that went wrong, and a file is asked for or isn't: that it did, and then the file
--- holds their schedule; or that they aren't recorded, or that memory was refused.
+-- The fault after a violation. Its file, if one is given, holds the schedule of the steps; or they
+-- couldn't be written, or memory was refused.
 abbrev pub ReportsViolation : Option (List Step) → (file : Option (List ℕ)) → RunFault → (is_known : Bool) → (held : List ℕ → Option (List ℕ)) → Type 0
 ReportsViolation None file told is_known held = ⊥
 ReportsViolation (Some steps) file told is_known held =
     ((told ≡ faults.Violation) ⊎ (IsSome file × ((told ≡ faults.Record) ⊎ (told ≡ faults.Memory))))
     × (told ≡ faults.Violation → is_known ≡ true → IfSome file (λ p. held p ≡ Some (schedule_text steps)))
 
--- One did, and that is written. Where its steps are asked for, they are kept in the file, if it is told that it went wrong, and
--- nothing else.
+-- There was a violation, and the totals are written. If a file is given for the steps and the fault
+-- is the violation, the file holds them.
 pub record SoaksWrong (files : List ℕ → FileOf) (path : List ℕ) (order : SoakOrder) (file : Option (List ℕ)) (told : RunFault) (is_known : Bool) (held : List ℕ → Option (List ℕ)) (before now : OutputOf) : Type 0 where
   pub sum : Summary
   pub steps : List Step
@@ -54,7 +54,7 @@ pub record SoaksWrong (files : List ℕ → FileOf) (path : List ℕ) (order : S
   pub written : WritesOutput before now (summary_text sum)
   pub judged : ReportsViolation (Some steps) file told is_known held
 
--- What is said of the runs isn't written whole.
+-- The totals can't be written.
 pub record BreaksSoak (files : List ℕ → FileOf) (path : List ℕ) (order : SoakOrder) (file : Option (List ℕ)) (told : RunFault) (before now : OutputOf) : Type 0 where
   pub is : told ≡ faults.Output
   pub sum : Summary
@@ -62,14 +62,14 @@ pub record BreaksSoak (files : List ℕ → FileOf) (path : List ℕ) (order : S
   pub soaks : Soaks files path file order.runs sum kept
   pub begun : FailsToWriteOutput before now (summary_text sum)
 
--- The steps would be written over a file that is read.
+-- The steps would overwrite an input.
 pub record WouldWriteOver (files : List ℕ → FileOf) (path : List ℕ) (file : Option (List ℕ)) (told : RunFault) : Type 0 where
   pub is : told ≡ faults.Record
   pub config : ConfigOf
   pub says : Says config_of (files path) config
   pub over : IsSomeAnd file (λ p. IsOverOne files p (path ∷ config.packages))
 
--- How a soak ends that doesn't end well: else nothing is written.
+-- The result of a soak that failed. In the other cases nothing is written.
 abbrev pub SoakEnds : (files : List ℕ → FileOf) (path : List ℕ) (order : SoakOrder) (file : Option (List ℕ)) (told : RunFault) (is_known : Bool) (held : List ℕ → Option (List ℕ)) (before now : OutputOf) → Type 0
 SoakEnds files path order file told is_known held before now =
     SoaksWrong files path order file told is_known held before now

@@ -1,4 +1,4 @@
--- What an update over links comes to, and what is written of it.
+-- The result of an update over links, and its output.
 use Rattle.std.specs.Prelude.{ℕ, suc, ◌≡◌, ◌≤◌, ◌⊎◌, Bool, true, List, [], ◌∷◌, Option, None, Some, IfSome, length, slice_get, take}
 use Rattle.std.specs.List.{AllByRecursion}
 use Rattle.fw_edge.specs.declared.driving.EdgeFault.TheVariants as edges
@@ -22,17 +22,18 @@ use Rattle.fwupd_watch.specs.declared.faults.RunFault.{RunFault}
 use Rattle.fwupd_watch.specs.declared.faults.RunFault.TheVariants as faults
 use Rattle.fwupd_jobs.specs.declared.sessions.Undone.{Undone}
 
--- A link to a device is as rough as asked for, by chances of its own: a stream of its own among those of the seed.
+-- A link to a device has the requested roughness, and random numbers of its own: a stream of the
+-- seed.
 abbrev pub IsRoughLink : Roughness → (device : ℕ) → Roughness → Lcg → Type 0
 IsRoughLink asked device roughness generator = (roughness ≡ asked) × (generator ≡ started 64 multiplier_64 asked.seed (increment_of 64 device))
 
--- Each of these links is that of the device at its place, in a network with its transmission unit.
+-- Each of the links is that of the device at its place, in a network with its transmission unit.
 abbrev pub HaveLinks : {L : Type 0} → («Unit» → (device : ℕ) → L → Type 0) → List SiteOf → List L → Type 0
 HaveLinks IsTo [] [] = Prim.Unit {0}
 HaveLinks IsTo (x ∷ xs) (link ∷ links) = IsTo x.node.half.unit x.node.endpoint.eid link × HaveLinks IsTo xs links
 HaveLinks IsTo xs links = ⊥
 
--- No link to this device of a world is opened, and it may be lacking.
+-- The link to a device of a world can't be opened, which may happen.
 pub record IsUnlinked (w : WorldOf) (lacks : ℕ → Bool) (told : RunFault) : Type 0 where
   pub place : ℕ
   pub site : SiteOf
@@ -40,7 +41,7 @@ pub record IsUnlinked (w : WorldOf) (lacks : ℕ → Bool) (told : RunFault) : T
   pub is : told ≡ faults.Socket site.node.endpoint.eid
   pub lacking : lacks site.node.endpoint.eid ≡ true
 
--- The link at this device's place among those of a world has failed, the first of them.
+-- The link at this device's place is the first that has failed.
 pub record IsLost (w : WorldOf) (failures : List ℕ) (device : ℕ) : Type 0 where
   pub place : ℕ
   pub count : ℕ
@@ -50,40 +51,40 @@ pub record IsLost (w : WorldOf) (failures : List ℕ) (device : ℕ) : Type 0 wh
   pub at : slice_get w.sites place ≡ Some site
   pub is : device ≡ site.node.endpoint.eid
 
--- It is told of that link's device.
+-- The observer got that link's device.
 pub record TellsLost (w : WorldOf) (failures : List ℕ) (lost : Option ℕ) : Type 0 where
   pub device : ℕ
   pub first : IsLost w failures device
   pub told : lost ≡ Some device
 
--- It is told of the link of a device of this world.
+-- The observer got a device of this world.
 pub record NamesLost (w : WorldOf) (lost : Option ℕ) : Type 0 where
   pub place : ℕ
   pub site : SiteOf
   pub at : slice_get w.sites place ≡ Some site
   pub is : lost ≡ Some site.node.endpoint.eid
 
--- Where the links of a world are driven and the run doesn't end well: the report of the world that was reached is written, or a
--- beginning of it, or nothing.
+-- The result of a run over links that failed: the report of the world that was reached is written,
+-- or a beginning of it, or nothing.
 abbrev pub DrivingEnds : (number : ℕ) (form : Form) (lacks : ℕ → Bool) (w v : WorldOf) → RunFault → ObserverOf → (before now : OutputOf) → Type 0
 DrivingEnds number form lacks w v told watched before now =
     (IsCaused number w v told watched × WritesOutput before now (report_in form v))
     ⊎ (((told ≡ faults.Output) × FailsToWriteOutput before now (report_in form v)) ⊎ (((told ≡ faults.Memory) ⊎ IsUnlinked w lacks told) × (now ≡ before)))
 
--- The world of a configuration that names a package of this number, from 1 on.
+-- The world of a configuration that has a package of this number, counted from 1.
 pub record IsNumberedSetup (files : List ℕ → FileOf) (config : SourceOf) (number : ℕ) (w : WorldOf) : Type 0 where
   pub setup : IsSetup files config w
   pub counted : 1 ≤ number
   pub there : number ≤ length w.packages
 
--- The world of a configuration over none of whose files anything is written.
+-- The world of a configuration of which no output overwrites a file.
 pub record IsObservedSetup (files : List ℕ → FileOf) (config : SourceOf) (number : ℕ) (show : ShowOf) (w : WorldOf) : Type 0 where
   pub named : IsNumberedSetup files config number w
   pub apart : IsApart files show (config.path ∷ named.setup.config.packages)
 
--- The report is written of what an update leaves of the world that a configuration's file is of, and what looks on showed what it
--- is to show, saw each turn, had no fault, was told of no link, and was let end. This session of that world is the first that isn't
--- Done, or none is.
+-- The report of an update of the world of a configuration's file is written. The observer showed
+-- the requested outputs, saw each turn, had no fault, got no failed link, and has ended. `undone`
+-- is the first session of that world that isn't Done, if any.
 pub record ReportsUpdate (files : List ℕ → FileOf) (config : SourceOf) (number : ℕ) (show : ShowOf) (watched : ObserverOf) (before now : OutputOf) (undone : Option Undone) : Type 0 where
   pub world : WorldOf
   pub begins : IsObservedSetup files config number show world
@@ -100,8 +101,8 @@ pub record ReportsUpdate (files : List ℕ → FileOf) (config : SourceOf) (numb
   pub kept_up : HasHistoryLinesIfAny watched.history left.history
   pub written : WritesOutput before now (report_in show.form left)
 
--- It is written of what was reached; where a link failed, what looks on was told whose, and where it had no fault of its own, the steps
--- that led there are recorded.
+-- The report of the world that was reached is written. If a link failed, the observer got its
+-- device. If the observer had no fault of its own, the steps to that world are recorded.
 pub record ReportsReached (files : List ℕ → FileOf) (config : SourceOf) (number : ℕ) (show : ShowOf) (told : RunFault) (watched : ObserverOf) (before now : OutputOf) : Type 0 where
   pub world : WorldOf
   pub begins : IsObservedSetup files config number show world
@@ -116,7 +117,7 @@ pub record ReportsReached (files : List ℕ → FileOf) (config : SourceOf) (num
   pub kept_up : MayHaveHistoryLines watched.history left.history
   pub written : WritesOutput before now (report_in show.form left)
 
--- A beginning of it is.
+-- A beginning of the report is written.
 pub record BreaksReport (files : List ℕ → FileOf) (config : SourceOf) (number : ℕ) (show : ShowOf) (told : RunFault) (before now : OutputOf) : Type 0 where
   pub is : told ≡ faults.Output
   pub world : WorldOf
@@ -126,19 +127,20 @@ pub record BreaksReport (files : List ℕ → FileOf) (config : SourceOf) (numbe
   pub promised : IsSafeSince world left
   pub begun : FailsToWriteOutput before now (report_in show.form left)
 
--- Before a link is opened, what looks on doesn't begin.
+-- The observer doesn't begin, before a link is opened.
 pub record LacksTrace (files : List ℕ → FileOf) (config : SourceOf) (number : ℕ) (show : ShowOf) (refuses : List ℕ → Bool) (told : RunFault) (watched : ObserverOf) : Type 0 where
   pub world : WorldOf
   pub named : IsNumberedSetup files config number world
   pub barred : IsBarred files refuses show (config.path ∷ named.setup.config.packages) told watched
 
--- No link to a device of the configuration is opened.
+-- A link to a device of the configuration can't be opened.
 pub record LacksLink (files : List ℕ → FileOf) (config : SourceOf) (number : ℕ) (show : ShowOf) (lacks : ℕ → Bool) (told : RunFault) : Type 0 where
   pub world : WorldOf
   pub begins : IsObservedSetup files config number show world
   pub unlinked : IsUnlinked world lacks told
 
--- Nothing is written: memory was refused, or there is no world, no package, no store, no trace or no link.
+-- Nothing is written: memory was refused, or a world, a package, a store, a trace or a link is
+-- missing.
 pub record ReportsNothing (files : List ℕ → FileOf) (config : SourceOf) (number : ℕ) (show : ShowOf) (refuses : List ℕ → Bool) (lacks : ℕ → Bool) (told : RunFault) (watched : ObserverOf) (before now : OutputOf) : Type 0 where
   pub kept : now ≡ before
   pub cause :
@@ -146,7 +148,7 @@ pub record ReportsNothing (files : List ℕ → FileOf) (config : SourceOf) (num
       ⊎ (NumberedSetupFails files config.path number told
       ⊎ (((told ≡ faults.NoPackage) × LacksPackage files config.path number) ⊎ (StoresFail files config told ⊎ (LacksTrace files config number show refuses told watched ⊎ LacksLink files config number show lacks told))))
 
--- How an update ends that doesn't end well.
+-- The result of an update that failed.
 abbrev pub UpdateEnds : (files : List ℕ → FileOf) (config : SourceOf) (number : ℕ) (show : ShowOf) (refuses : List ℕ → Bool) (lacks : ℕ → Bool) (told : RunFault) (watched : ObserverOf) (before now : OutputOf) → Type 0
 UpdateEnds files config number show refuses lacks told watched before now =
     ReportsReached files config number show told watched before now

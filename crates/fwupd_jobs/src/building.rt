@@ -1,4 +1,4 @@
-//! Building a package that the text in a file asks for.
+//! Builds a package from a description in a file.
 
 ghost use Rattle.std.specs.Prelude.{◌≡◌, ◌⊎◌, ◌++◌, IfErr, IfOk, OnErr, OnOk, false, map, option_map, slice_get, true};
 ghost use Rattle.std.specs.Io.KnownBytes.{Appends};
@@ -21,7 +21,7 @@ use fwupd_watch::{Files, OutputPlaces, RunFault, is_same_file};
 use std::alloc::Global;
 use std::io::Write;
 
-/// What the text in the file of a path asks of a package.
+/// The package description in the file of a path.
 #[tactic(auto, using(crate::proofs::Packed::unread_text))]
 fn package_spec<F: Files>(alloc: Global, files: &F, path: &str) -> Result<PackageSpec, RunFault>
     ensures says { IfOk result (λ spec. Says package_spec_of (F.holds files.now path.now) (spec_seen spec)) }
@@ -73,7 +73,7 @@ fn images<F: Files>(
     Ok(images)
 }
 
-/// Descriptors, as they are asked for.
+/// The descriptors of a description, borrowed.
 fn lent_descriptors<'a>(
     alloc: Global,
     descriptors: &'a [SpecDescriptor],
@@ -94,7 +94,7 @@ fn lent_descriptors<'a>(
     Ok(lent)
 }
 
-/// The descriptors of records, one by one.
+/// The descriptors of each record, borrowed.
 fn all_descriptors<'a>(
     alloc: Global,
     records: &'a [SpecRecord],
@@ -115,7 +115,7 @@ fn all_descriptors<'a>(
     Ok(lent)
 }
 
-/// A record, as it is asked for, with its descriptors.
+/// A record of a description with its descriptors, borrowed.
 fn lent_record<'a, 's: 'a>(
     said: &'s SpecRecord,
     descriptors: &'a [Descriptor<'s>],
@@ -131,7 +131,7 @@ fn lent_record<'a, 's: 'a>(
     }
 }
 
-/// The descriptors of the record in this place.
+/// The descriptors of the record at `place`.
 fn own_descriptors<'a, 's: 'a>(
     all: &'a [Vec<Descriptor<'s>>],
     place: usize,
@@ -144,7 +144,7 @@ fn own_descriptors<'a, 's: 'a>(
     }
 }
 
-/// Records, as they are asked for, with their descriptors.
+/// The records of a description with their descriptors, borrowed.
 fn lent_records<'a, 's: 'a>(
     alloc: Global,
     records: &'s [SpecRecord],
@@ -166,7 +166,7 @@ fn lent_records<'a, 's: 'a>(
     Ok(lent)
 }
 
-/// A component, as it is asked for, with an image of this size.
+/// A component of a description with an image of this size, borrowed.
 fn lent_component<'a>(said: &'a SpecComponent, image: &[u8]) -> AskedComponent<'a>
     ensures { asked_component_of result ≡ component_by (spec_component_of said.now) image.now }
 {
@@ -181,7 +181,7 @@ fn lent_component<'a>(said: &'a SpecComponent, image: &[u8]) -> AskedComponent<'
     }
 }
 
-/// Components, as they are asked for, with their images.
+/// The components of a description with their images, borrowed.
 fn lent_components<'a>(
     alloc: Global,
     components: &'a [SpecComponent],
@@ -202,7 +202,7 @@ fn lent_components<'a>(
     Ok(lent)
 }
 
-/// What is told of a package that can't be written, at the line after its text's last.
+/// The fault of a package that can't be encoded, at the line after the description's last.
 fn refused(alloc: Global, path: &str, spec: &PackageSpec, refusal: AskedFault) -> RunFault
     ensures { (result ≡ RunFault.Memory) ⊎ TextFault path.now (script_fault_of_refusal (spec_seen spec.now) refusal) result }
 {
@@ -214,7 +214,7 @@ fn refused(alloc: Global, path: &str, spec: &PackageSpec, refusal: AskedFault) -
     text_fault(alloc, path, ScriptFault { line, cause })
 }
 
-/// The package that a text asks for, with these records and components.
+/// The package of a description, with these records and components.
 fn asked_package<'a, 'r: 'a, 's: 'r>(
     spec: &'s PackageSpec,
     records: &'r [AskedRecord<'r>],
@@ -230,7 +230,7 @@ fn asked_package<'a, 'r: 'a, 's: 'r>(
     }
 }
 
-/// The header of the package that a text asks for, with these images.
+/// The header of the package of a description, with these images.
 fn header_of(
     alloc: Global,
     path: &str,
@@ -261,10 +261,10 @@ fn header_of(
     }
 }
 
-/// Writes a header, and images behind it.
+/// Writes a header, and then images.
 ///
 /// # Errors
-/// `Output` where they aren't written whole.
+/// `Output` if they can't be written.
 fn write_parts<W: Write>(writer: &mut W, header: &[u8], images: &[Vec<u8>]) -> Result<(), RunFault>
     ensures ok { OnOk result (Appends (W.contents writer.old) (W.contents writer.new) (header.now ++ concat (map (λ i. i.items) images.now))) }
     ensures fault { IfErr result (λ e. e ≡ RunFault.Output) }
@@ -282,7 +282,7 @@ fn write_parts<W: Write>(writer: &mut W, header: &[u8], images: &[Vec<u8>]) -> R
     Ok(())
 }
 
-/// Whether the file of a path is the image of one of these components.
+/// Whether a path may name the image file of a component.
 fn is_over_image<F: Files>(files: &F, path: &str, components: &[SpecComponent]) -> bool
     ensures over { result ≡ true → IsOverImage (F.holds files.now) path.now (map spec_component_of components.now) }
     ensures apart { result ≡ false → IsApartFromImages (F.holds files.now) path.now (map spec_component_of components.now) }
@@ -298,13 +298,13 @@ fn is_over_image<F: Files>(files: &F, path: &str, components: &[SpecComponent]) 
     is_over_image(files, path, rest)
 }
 
-/// Builds the package that the text in a file asks for, into the file of a path: that is the package then. It is as it was where
-/// this fails.
+/// Builds the package that the description at `path` specifies, into the file at `file`. The file
+/// is unchanged if this fails.
 ///
 /// # Errors
-/// Why the text isn't read, or the first image's file that isn't; `Text` with `Limit`, at the line after the last, where the header
-/// has more than 65,535 bytes or the file more than 4,294,967,295; `Output` where the file is the text's or an image's, or isn't
-/// written; `Memory`.
+/// Why the description can't be read, or the first image file that can't; `Text` with `Limit`, at
+/// the line after the last, if the header exceeds 65,535 bytes or the file 4,294,967,295; `Output`
+/// if the file is the description or an image, or can't be written; `Memory`.
 pub fn build_file<F: Files, W: Write + Drop, P: OutputPlaces<W>>(
     alloc: Global,
     files: &F,

@@ -1,4 +1,4 @@
-//! Updating the devices of a configuration, where each session may have to be Done in the end.
+//! Updates the devices of a configuration, and may require each session to end Done.
 
 ghost use Rattle.std.specs.Prelude.{◌≡◌, ◌⊎◌, IfErr, OnOk, option_map};
 ghost use Rattle.fw_setup.specs.Stocks.{stores_in};
@@ -16,12 +16,12 @@ use fwupd_words::{Order, Show};
 use std::alloc::Global;
 use std::io::Write;
 
-/// Updates the devices of the configuration in a file as it is asked for, each over a link of its own, and writes the report of what
-/// that leaves.
+/// Updates the devices of the configuration in a file, each over its own link, and writes the
+/// report of the last world.
 ///
 /// # Errors
-/// Those of `update_files`. `Session`, where that is asked for, of the first session in configured order that isn't Done: the report is
-/// written.
+/// Those of `update_files`; and `Session`, if that check is requested, with the first session in
+/// configured order that isn't Done. The report is written then.
 #[tactic(auto, using(crate::proofs::Checks::checking))]
 pub fn update_checked<
     F: Files,

@@ -1,4 +1,4 @@
-//! What is looked at to find why a job failed.
+//! The clues to why a job failed.
 
 ghost use Rattle.std.specs.Prelude.{◌≡◌, option_map};
 ghost use Rattle.fwupd_jobs.specs.Clues.{clue_of, clue_seen, clue_to_shown};
@@ -6,22 +6,22 @@ ghost use Rattle.fwupd_jobs.specs.Clues.{clue_of, clue_seen, clue_to_shown};
 use fwupd_watch::RunFault;
 use fwupd_words::{Job, Show};
 
-/// What helps to find why a job failed.
+/// A clue to why a job failed.
 #[derive(Clone, Copy)]
 pub enum Clue<'a> {
     /// Why the file of this path can't be read.
     Unread(&'a str),
-    /// Which package of the configuration in the file of this path is none.
+    /// The package that is malformed, of the configuration in the file of this path.
     Package(&'a str),
-    /// Where in the schedule in the file of this path the step of this number stands, counted from 1.
+    /// The line of a step, numbered from 1, in the schedule in the file of this path.
     Step(&'a str, usize),
-    /// Why the file of this path isn't written.
+    /// Why the file of this path can't be written.
     Unwritten(&'a str),
-    /// Why the history of the stores in this folder isn't written.
+    /// Why the history of the stores in this folder can't be written.
     History(&'a str),
 }
 
-/// Which file isn't written of what is shown of a run or a replay.
+/// The output of a run or a replay that can't be written.
 fn clue_to_shown<'a>(show: &Show<'a>, fault: &RunFault) -> Option<Clue<'a>>
     ensures { option_map clue_seen result ≡ clue_to_shown show.now fault.now }
 {
@@ -34,7 +34,7 @@ fn clue_to_shown<'a>(show: &Show<'a>, fault: &RunFault) -> Option<Clue<'a>>
     }
 }
 
-/// What helps to find why a job ended with a fault, if something does.
+/// Returns the clue to why a job ended with a fault, if there is one.
 pub fn clue_to<'a>(job: &Job<'a>, fault: &'a RunFault) -> Option<Clue<'a>>
     ensures { option_map clue_seen result ≡ clue_of job.now fault.now }
 {

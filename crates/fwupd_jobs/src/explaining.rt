@@ -1,4 +1,4 @@
-//! What helps to find why a job failed, beneath the line that says so. It is said on a terminal alone.
+//! Explains why a job failed, below the line that reports it, and only on a terminal.
 
 ghost use Rattle.std.specs.Prelude.{◌≡◌, IfOk, IfSome, is_err, length};
 ghost use Rattle.fw_package.specs.Reading.{package_of};
@@ -14,7 +14,7 @@ use std::fs::OpenOptions;
 use std::io::{self, IsTerminal};
 use std::str;
 
-/// The system's reason why a file can't be read, which is tried once more.
+/// Prints the system's error for a file that can't be read, by reading it once more.
 fn explain_unreadable(rt: &HostRuntime, path: &str) {
     if let Err(error) = SystemFiles::new(rt).read(rt.alloc(), path) {
         if error.kind() != io::ErrorKind::OutOfMemory {
@@ -23,7 +23,8 @@ fn explain_unreadable(rt: &HostRuntime, path: &str) {
     }
 }
 
-/// The bytes of a file, read once more. A pipe, a device or a socket isn't read again: it may have nothing more to give, and wait.
+/// The bytes of a file, read once more. A pipe, a device or a socket isn't read again, since that
+/// may block.
 fn read_again(rt: &HostRuntime, path: &str) -> Option<Vec<u8>> {
     if is_special(rt, path) {
         return None;
@@ -31,7 +32,7 @@ fn read_again(rt: &HostRuntime, path: &str) -> Option<Vec<u8>> {
     SystemFiles::new(rt).read(rt.alloc(), path).ok()
 }
 
-/// Whether bytes are no package.
+/// Whether bytes aren't a package.
 fn is_no_package(bytes: &[u8]) -> bool
     ensures { result ≡ is_err (package_of bytes.now) }
 {
@@ -41,8 +42,8 @@ fn is_no_package(bytes: &[u8]) -> bool
     }
 }
 
-/// Which package of a configuration is none: the first, and its line there. Nothing is said where a package before it can't be read
-/// again.
+/// Prints the first malformed package of a configuration, and its line there. Nothing is printed if
+/// a package before it can't be read again.
 fn explain_package(rt: &HostRuntime, config: &str) {
     let Some(bytes) = read_again(rt, config) else {
         return;
@@ -65,7 +66,7 @@ fn explain_package(rt: &HostRuntime, config: &str) {
     }
 }
 
-/// How many steps a line of a schedule says, where there is memory to read it.
+/// The number of steps of a line of a schedule, if it can be read.
 fn steps_of(alloc: Global, line: &str) -> Option<usize>
     ensures { IfSome result (λ count. IfOk (script_of line.now) (λ steps. count ≡ length steps)) }
 {
@@ -76,7 +77,7 @@ fn steps_of(alloc: Global, line: &str) -> Option<usize>
     }
 }
 
-/// The line of a schedule in which a step stands, numbered from 1.
+/// Prints the line of a schedule that contains a step, numbered from 1.
 fn explain_step(rt: &HostRuntime, schedule: &str, step: usize) {
     let Some(bytes) = read_again(rt, schedule) else {
         return;
@@ -99,7 +100,8 @@ fn explain_step(rt: &HostRuntime, schedule: &str, step: usize) {
     }
 }
 
-/// The system's reason why a file isn't written or made, as far as another try shows it, which makes nothing.
+/// The system's error for a file that can't be written or made, as far as another try shows it,
+/// which makes nothing.
 fn refusal(rt: &HostRuntime, path: &str) -> Option<io::Error> {
     if is_special(rt, path) {
         return None;
@@ -113,7 +115,7 @@ fn refusal(rt: &HostRuntime, path: &str) -> Option<io::Error> {
     }
 }
 
-/// Why a file isn't written, or isn't made.
+/// Prints why a file can't be written or made.
 fn explain_unwritten(rt: &HostRuntime, path: &str) {
     let _ = match refusal(rt, path) {
         Some(error) => eprintln!(rt; "{path}: {error}"),
@@ -123,14 +125,14 @@ fn explain_unwritten(rt: &HostRuntime, path: &str) {
     };
 }
 
-/// Why the history of the stores in a folder isn't written.
+/// Prints why the history of the stores in a folder can't be written.
 fn explain_history(rt: &HostRuntime, folder: &str) {
     if let Ok(path) = format!(in rt.alloc(); "{folder}/history") {
         explain_unwritten(rt, &path);
     }
 }
 
-/// Says on standard error, where that is a terminal, what helps to find why a job failed.
+/// Prints on standard error, if it is a terminal, the clue to why a job failed.
 pub fn explain(rt: &HostRuntime, job: &Job<'_>, fault: &RunFault) {
     if !rt.stderr().is_terminal() {
         return;

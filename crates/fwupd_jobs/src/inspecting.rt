@@ -1,4 +1,4 @@
-//! Inspecting the package in a file, of which its header is read and no more.
+//! Inspects the package in a file, of which only the header is read.
 
 ghost use Rattle.std.specs.Prelude.{◌≡◌, IfErr, OnOk};
 ghost use Rattle.fwupd_jobs.specs.Inspected.{InspectEnds, Inspects, run_fault_of_inspection};
@@ -10,7 +10,7 @@ use fwupd_watch::{Beginning, Files, Output, RunFault};
 use std::alloc::Global;
 use std::io::Write;
 
-/// Why a package couldn't be inspected.
+/// Returns the fault of a package that can't be inspected.
 pub fn inspection_fault(fault: InspectFault) -> RunFault
     ensures { result ≡ run_fault_of_inspection fault }
 {
@@ -20,11 +20,12 @@ pub fn inspection_fault(fault: InspectFault) -> RunFault
     }
 }
 
-/// Inspects the package in a file, and writes what it holds in a form.
+/// Inspects the package in a file, and writes its text in a format.
 ///
 /// # Errors
-/// `Unreadable` where the file can't be read, `Package` where it holds none, and `Memory` where memory is refused: nothing is written
-/// then. `Output` where the text isn't written whole: a beginning of it may be.
+/// `Unreadable` if the file can't be read, `Package` if it isn't a package, and `Memory` if memory
+/// is refused; nothing is written then. `Output` if the text can't be written; a beginning of it
+/// may be written.
 pub fn inspect_file<F: Files, W: Write + Drop>(
     alloc: Global,
     files: &F,

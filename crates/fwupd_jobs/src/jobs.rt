@@ -1,4 +1,4 @@
-//! A job: what the words of a command line ask for, over any files, reader, links, onlooker and output.
+//! A job over any files, reader, links, observer and output.
 
 ghost use Rattle.std.specs.Prelude.{◌≡◌, ◌⊎◌, IfErr, OnOk};
 ghost use Rattle.fw_setup.specs.Stocks.{stores_in};
@@ -22,10 +22,12 @@ use fwupd_words::Job;
 use std::alloc::Global;
 use std::io::{Read, Write};
 
-/// Does a job. What it reads, it reads of the files; what it answers, of the reader; a package that it builds comes to its place.
+/// Performs a job. It reads files from `files` and packets from the reader, and puts the files that
+/// it makes at their places.
 ///
 /// # Errors
-/// Those of the job: of `Output::answer`, `inspect_file`, `replay_files`, `update_checked`, `build_file`, `plan_file`, `soak_file` or `sel_file`.
+/// Those of the job: of `Output::answer`, `inspect_file`, `replay_files`, `update_checked`,
+/// `build_file`, `plan_file`, `soak_file` or `sel_file`.
 pub fn perform_job<
     F: Files,
     D: Folder + Drop,

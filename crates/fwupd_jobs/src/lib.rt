@@ -1,4 +1,5 @@
-//! The jobs of the program: answers, inspections, forecasts, replays and updates over links, and the words that ask for them.
+//! The jobs of the program: answers, inspections, plans, replays, updates over links, and soaks,
+//! and the program that performs what its arguments request.
 #![tactic(auto)]
 
 mod building;

@@ -1,11 +1,11 @@
-//! The numbers of packages, which count from 1.
+//! The numbers of packages, counted from 1.
 
 ghost use Rattle.std.specs.Prelude.{◌≡◌, ◌≤◌, ◌<◌, ◌⊎◌, IfNone, IfSome, false, length, true};
 ghost use Rattle.ua_core.specs.Lent.{package_at};
 
 use fw_package::Package;
 
-/// Whether there is a package of this number, from 1 on, among so many.
+/// Returns whether `number`, counted from 1, is that of one of `count` packages.
 pub fn is_numbered(count: usize, number: usize) -> bool
     ensures there { result ≡ true → (1 ≤ number) × (number ≤ count) }
     ensures none { result ≡ false → (number ≡ 0) ⊎ (count < number) }
@@ -13,7 +13,7 @@ pub fn is_numbered(count: usize, number: usize) -> bool
     1 <= number && number <= count
 }
 
-/// The package of this number, from 1 on, if there is one.
+/// Returns the package with this number, counted from 1, if there is one.
 pub fn numbered<'a>(packages: &'a [Package<'a>], number: usize) -> Option<&'a Package<'a>>
     ensures is { IfSome result (λ p. p.now ≡ package_at packages.now number) }
     ensures there { IfSome result (λ p. (1 ≤ number) × (number ≤ length packages.now)) }

@@ -1,4 +1,4 @@
-//! What an update of the devices of a configuration comes to, before it is begun.
+//! The plan of an update of a configuration's devices.
 
 ghost use Rattle.std.specs.Prelude.{IfErr, OnOk};
 ghost use Rattle.fwupd_jobs.specs.Planned.{PlanEnds, Plans};
@@ -13,13 +13,13 @@ use fwupd_watch::{Files, Output, RunFault};
 use std::alloc::Global;
 use std::io::Write;
 
-/// Writes in a form what an update of the devices of the configuration in a file comes to, with its package of this number, from 1
-/// on. Nothing is begun.
+/// Writes in a format the plan of an update of the devices of the configuration in a file, with its
+/// package `number`, counted from 1. No update is started.
 ///
 /// # Errors
-/// The first fault, in this order: of the configuration's file; `NoPackage` where it names no package of this number; of the
-/// packages that it names, one after the other. `Output` where the text isn't written whole: a beginning of it may be. `Memory` where
-/// memory is refused: nothing is written then.
+/// The first fault, in this order: of the configuration; `NoPackage` if it has no package of this
+/// number; of each of its packages. `Output` if the text can't be written; a beginning of it may be
+/// written. `Memory` if memory is refused; nothing is written then.
 pub fn plan_file<F: Files, W: Write + Drop>(
     alloc: Global,
     files: &F,

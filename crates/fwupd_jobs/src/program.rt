@@ -1,4 +1,4 @@
-//! The program: it reads its words, does what they ask for, and says how that ended.
+//! The program: reads its arguments, performs the job, and returns the exit status.
 
 ghost use Rattle.std.specs.Prelude.{◌≡◌, ◌≢◌, ◌⊎◌, ◌≤◌, IfErr, OnOk};
 ghost use Rattle.std.specs.IoError.{error_kind};
@@ -25,10 +25,10 @@ use fwupd_words::{Job, parse};
 use std::io::{self, ErrorKind, Read, Write};
 use std::process::ExitCode;
 
-/// Wrong usage.
+/// The exit status of a usage error.
 pub(crate) const USAGE: u8 = 2;
 
-/// Prints a fault, where standard error takes it, and gives the status that says so.
+/// Prints a fault on standard error, and returns its exit status.
 pub(crate) fn failed(rt: &HostRuntime, fault: &RunFault) -> ExitCode
     ensures { exit_status result ≡ 1 }
 {
@@ -36,8 +36,8 @@ pub(crate) fn failed(rt: &HostRuntime, fault: &RunFault) -> ExitCode
     ExitCode::FAILURE
 }
 
-/// Does a job over these files, this reader, links, onlooker, places and output, and gives the status: 0 where it is done, and 1
-/// where it isn't, and its fault is printed, with what helps to find its cause below it on a terminal.
+/// Performs a job with these files, reader, links, observer, places and output. Returns the exit
+/// status: 0, or 1 after printing the fault and, on a terminal, its clue.
 fn status<
     F: Files,
     D: Folder + Drop,
@@ -85,7 +85,7 @@ fn status<
     }
 }
 
-/// How many runs a job is to make, if it is a soak.
+/// The number of runs of a job, if it is a soak.
 fn runs_of(job: &Job<'_>) -> u64 {
     match job {
         Job::Soak { order, .. } => u64::from(order.runs),
@@ -93,8 +93,8 @@ fn runs_of(job: &Job<'_>) -> u64 {
     }
 }
 
-/// Does what the words ask for, with the system's files, standard input, sockets, and what looks on, and gives the status. On a
-/// terminal a link's fault is explained below it.
+/// Performs a job with the system's files, standard input and sockets, and returns the exit status.
+/// On a terminal a link's fault is explained.
 fn run<W: Write + Drop>(rt: &HostRuntime, job: &Job<'_>, output: &mut Output<W>) -> ExitCode
     ensures { SystemSays (exit_status result) job.now output.old output.new }
 {
@@ -121,8 +121,8 @@ fn run<W: Write + Drop>(rt: &HostRuntime, job: &Job<'_>, output: &mut Output<W>)
     status
 }
 
-/// The status where a text was printed in place of a job, or couldn't be: 2 for wrong usage; for help 0, also where its reader is
-/// gone, and 1 where standard output takes it not, which is told.
+/// Exit status after printing help or a usage error: 2 for a usage error; 0 for help, even if the
+/// reader closed the pipe; 1, with a message, if writing failed.
 fn printed(rt: &HostRuntime, error: &clap::Error, outcome: io::Result<()>) -> ExitCode
     ensures usage { kind_of error.now ≢ DisplayHelp → kind_of error.now ≢ DisplayVersion → exit_status result ≡ 2 }
     ensures shown { (kind_of error.now ≡ DisplayHelp) ⊎ (kind_of error.now ≡ DisplayVersion) → OnOk outcome (exit_status result ≡ 0) }
@@ -137,8 +137,9 @@ fn printed(rt: &HostRuntime, error: &clap::Error, outcome: io::Result<()>) -> Ex
     }
 }
 
-/// Prints what stands in place of a job, the text of help or of wrong usage, and gives its status: 0 for help, also where its reader
-/// is gone, or 1 where standard output takes it not, and 2 for wrong usage. No contract says which words are which, or that what was printed arrived.
+/// Prints help or a usage error in place of a job, and returns the exit status: 2 for a usage
+/// error; 0 for help, even if the reader closed the pipe; 1 if writing failed or memory was
+/// refused. No contract covers which arguments these are, or that the text was printed.
 fn no_job(rt: &HostRuntime, error: &clap::Error) -> ExitCode
     ensures memory { kind_of error.now ≡ OutOfMemory → exit_status result ≡ 1 }
     ensures shown { (kind_of error.now ≡ DisplayHelp) ⊎ (kind_of error.now ≡ DisplayVersion)
@@ -153,8 +154,8 @@ fn no_job(rt: &HostRuntime, error: &clap::Error) -> ExitCode
     printed(rt, error, error.print(rt))
 }
 
-/// Does what the words of the command line ask for, and gives the status: 0; 1 where a fault is printed on standard error; 2 for
-/// wrong usage.
+/// Performs the job that the command line's arguments request, and returns the exit status: 0; 1
+/// after printing a fault on standard error; 2 for a usage error.
 pub fn perform(rt: &HostRuntime) -> ExitCode
     ensures { exit_status result ≤ 2 }
 {

@@ -1,4 +1,4 @@
-//! A byte stream that is read ahead.
+//! A byte stream with buffered reads.
 
 ghost use Rattle.std.specs.Prelude.{◌≡◌, [], IfErr, IfOk};
 ghost use Rattle.std.specs.IoError.{error_kind};
@@ -7,18 +7,17 @@ ghost use Rattle.std.specs.Io.Buffered.{reader_buffer, reader_inner, reader_rema
 use std::alloc::Global;
 use std::io::{self, BufReader, ErrorKind, Read, Write};
 
-/// A byte stream of which all that has come is read at once, where each frame asks for two pieces. What is written goes to the
-/// stream at once.
+/// A byte stream with buffered reads, since each frame takes two reads. Writes are not buffered.
 #[derive(Drop)]
 pub struct ReadAhead<S: Read + Write + Drop> {
     reader: BufReader<S>,
 }
 
 impl<S: Read + Write + Drop> ReadAhead<S> {
-    /// The stream, of which nothing is read yet.
+    /// Creates the stream with an empty buffer.
     ///
     /// # Errors
-    /// `OutOfMemory` where room for what is read ahead is refused.
+    /// `OutOfMemory` if memory for the buffer is refused.
     pub fn new(alloc: Global, stream: S) -> io::Result<ReadAhead<S>>
         ensures stream { IfOk result (λ s. reader_inner s.reader ≡ stream) }
         ensures none { IfOk result (λ s. reader_buffer s.reader ≡ []) }

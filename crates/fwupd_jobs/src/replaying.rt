@@ -1,4 +1,4 @@
-//! Replaying a schedule on the nodes of a configuration.
+//! Replays a schedule on the nodes of a configuration.
 
 ghost use Rattle.std.specs.Prelude.{◌≡◌, ◌<◌, ◌≤◌, ◌-◌, ◌^◌, ◌⊎◌, ◌∷◌, IfErr, IfOk, IfSome, None, OnErr, OnOk, Some, is_some, length, map, option_map, slice_get, string_bytes, take, true};
 ghost use Rattle.fw_edge.specs.Links.{CountsOne};
@@ -33,19 +33,19 @@ use mctp_wire::Unit;
 use std::alloc::{AllocError, Global};
 use std::io::Write;
 
-/// What a replay leaves: the report of the world, the number of the step that isn't taken, from 0 on, and why, and how what looked
-/// on ended.
+/// The result of a replay: the report of the world; the number of the step that was refused, from
+/// 0, with the cause; and the observer's result.
 #[derive(Drop)]
 pub struct ReplayOutcome {
     /// The report.
     pub report: Vec<u8>,
-    /// The step that isn't taken, if there is one.
+    /// The step that was refused, if any.
     pub fault: Option<(usize, StepFault)>,
-    /// Whether what looked on had a fault.
+    /// The observer's result.
     pub watched: Result<(), ObserverFault>,
 }
 
-/// The step that comes next: one that a line says, or this tick that all nodes count.
+/// The next step: a step of a line, or a tick that all nodes count.
 fn lent<'s>(next: NextStep<'s>, tick: &'s Step) -> &'s Step
     requires { tick.now ≡ full_tick }
     ensures { result.now ≡ step_of_next next.entry }
@@ -56,10 +56,11 @@ fn lent<'s>(next: NextStep<'s>, tick: &'s Step) -> &'s Step
     }
 }
 
-/// Takes a step. What looks on sees the world after it where packets are traced; a fault of its own ends nothing, and stays its own.
+/// Takes a step. The observer sees the world after it, if packets are traced; its faults don't stop
+/// the replay.
 ///
 /// # Errors
-/// Why the step isn't taken. Nothing has changed then.
+/// Why the step is refused; nothing has changed then.
 fn take_observed<B: Bank + Drop, V: Observer>(
     world: &mut World<'_, B>,
     step: &Step,
@@ -83,11 +84,11 @@ fn take_observed<B: Bank + Drop, V: Observer>(
     Ok(())
 }
 
-/// Takes the steps of these lines, one after another, up to the first that isn't taken. What looks on sees the world after each where
-/// packets are traced.
+/// Takes the steps of the lines, one after another, up to the first that is refused. The observer
+/// sees the world after each step, if packets are traced.
 ///
 /// # Errors
-/// The number of the step that isn't taken, counted from 0, and why.
+/// The number of the step that is refused, counted from 0, and the cause.
 fn replay_lines<B: Bank + Drop, V: Observer>(
     world: &mut World<'_, B>,
     lines: &[ScheduleLine],
@@ -114,10 +115,11 @@ fn replay_lines<B: Bank + Drop, V: Observer>(
     Ok(())
 }
 
-/// Replays a schedule on the nodes of a configuration, in a network with its transmission unit, and lets what looks on end.
+/// Replays a schedule on the nodes of a configuration, in a network with its transmission unit, and
+/// ends the observer.
 ///
 /// # Errors
-/// `AllocError` where memory for the nodes or the report is refused.
+/// `AllocError` if memory for the nodes or the report is refused.
 pub fn replayed<'a, V: Observer>(
     alloc: Global,
     unit: Unit,
@@ -152,8 +154,8 @@ pub fn replayed<'a, V: Observer>(
     })
 }
 
-/// Lets what looks on begin, where what it shows isn't written over a file that was read, nor over another that it writes, nor into a
-/// store.
+/// Begins the observer after checking its outputs: none may overwrite an input or another output,
+/// or be in a store.
 fn begin_replay<F: Files, V: Observer>(
     alloc: Global,
     files: &F,
@@ -185,17 +187,19 @@ fn begin_replay<F: Files, V: Observer>(
     }
 }
 
-/// Replays the schedule in a file on the nodes of the configuration in another, and writes in a form the report of what that leaves.
-/// Where a folder of stores is named, each device begins with the images that its store keeps, which is only read. Where packets are
-/// traced, they are seen after each step; the report is the same.
+/// Replays the schedule in a file on the nodes of the configuration in another, and writes in a
+/// format the report of the last world. If a folder of stores is given, each device begins with the
+/// images in its store, which is only read. Tracing packets doesn't change the report.
 ///
 /// # Errors
-/// The first fault, in this order: of the configuration's file, of the packages that it names, one after the other, `Store` of the
-/// first device whose store can't be read, and of the schedule's file; `Trace`, `Log` or `Record` where what looks on can't begin, or would write
-/// over one of these files or over another of its own, or into a store. `Step` where a step isn't taken, whose number counts from 1: the report
-/// is then of the world before it. `Trace`, `Log` or `Record` where what looked on couldn't write: the report is written all the same. `Output`
-/// where the report isn't written whole: a beginning of it may be. `Memory` where memory is refused: nothing is written then, unless it was
-/// what looked on that lacked it.
+/// The first fault, in this order: of the configuration; of each of its packages; `Store` of the
+/// first device whose store can't be read; of the schedule.
+/// `Trace`, `Log` or `Record` if the observer can't begin, or if an output would overwrite one of
+/// these files or another output, or is in a store.
+/// `Step` if a step, numbered from 1, is refused; the report is of the world before it.
+/// `Trace`, `Log` or `Record` if the observer couldn't write; the report is still written.
+/// `Output` if the report can't be written; a beginning of it may be written.
+/// `Memory` if memory is refused; nothing is written then, unless only the observer lacked memory.
 pub fn replay_files<F: Files, D: Folder + Drop, T: Stores<D>, V: Observer, W: Write + Drop>(
     alloc: Global,
     files: &F,

@@ -1,4 +1,4 @@
-//! Which session of a world isn't Done.
+//! The first session of a world that isn't Done.
 
 ghost use Rattle.std.specs.Prelude.{◌≡◌, None};
 ghost use Rattle.fwupd_watch.specs.Running.{observer_fault_of};
@@ -16,7 +16,7 @@ use ua_core::SessionState;
 pub struct Undone {
     /// The device's endpoint identifier.
     pub eid: u8,
-    /// Where the session stands.
+    /// The session's state.
     pub state: Option<SessionState>,
 }
 
@@ -27,7 +27,7 @@ fn is_done(state: Option<SessionState>) -> bool
     matches!(state, Some(SessionState::Done))
 }
 
-/// The first session of a world, in configured order, that isn't Done.
+/// Returns the first session of a world, in configured order, that isn't Done.
 pub fn first_undone<B: Bank + Drop>(world: &World<'_, B>) -> Option<Undone>
     ensures { result ≡ undone_in world.now }
 {
@@ -44,7 +44,7 @@ pub fn first_undone<B: Bank + Drop>(world: &World<'_, B>) -> Option<Undone>
     None
 }
 
-/// The word of a session that isn't Done: the cause of its failure, or where it stands.
+/// The name of the cause of a failed session, or of the state of another one.
 fn undone_word(state: Option<SessionState>) -> &'static str
     ensures { result.now ≡ undone_word state }
 {
@@ -55,7 +55,7 @@ fn undone_word(state: Option<SessionState>) -> &'static str
     }
 }
 
-/// What is told of a session that isn't Done.
+/// Returns the fault for a session that isn't Done.
 pub fn undone_fault(undone: Undone) -> RunFault
     ensures tells { TellsUndone undone result }
     ensures other { observer_fault_of result ≡ None }

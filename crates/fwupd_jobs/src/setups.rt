@@ -1,4 +1,5 @@
-//! What the jobs on worlds begin with: a configuration, the packages that it names, and what the stores of its devices keep.
+//! The inputs of jobs on worlds: a configuration, its packages, and the images in the stores of its
+//! devices.
 
 ghost use Rattle.std.specs.Prelude.{◌≡◌, ◌≢◌, ◌≤◌, ◌-◌, ◌^◌, ◌⊎◌, IfErr, IfOk, IsOk, IsSomeAnd, Ok, OnOk, length, map, option_map, string_bytes, ℕ};
 ghost use Rattle.std.specs.List.{AllByRecursion};
@@ -21,7 +22,7 @@ use fw_store::{Folder, OpenFault};
 use fwupd_watch::{FileFault, Files, RunFault};
 use std::alloc::{AllocError, Global};
 
-/// Why a device's store isn't opened.
+/// The fault of a device's store that can't be opened.
 fn store_fault(unopened: Unopened) -> RunFault
     ensures told { (result ≡ RunFault.Memory) ⊎ (result ≡ RunFault.Store unopened.device unopened.why) }
     ensures memory { unopened.why ≡ OpenFault.Memory → result ≡ RunFault.Memory }
@@ -33,7 +34,8 @@ fn store_fault(unopened: Unopened) -> RunFault
     }
 }
 
-/// What is told of a file of this name that isn't read; without memory for its name, that.
+/// The fault of a file with this name that can't be read; lack of memory, if there was none for the
+/// name.
 fn unread(name: Result<String, AllocError>, fault: FileFault) -> RunFault
     ensures { result ≡ run_fault_of_unread name fault }
 {
@@ -43,7 +45,8 @@ fn unread(name: Result<String, AllocError>, fault: FileFault) -> RunFault
     }
 }
 
-/// What is told of a text of this name that is none of its format; without memory for its name, that.
+/// The fault of a text with this name that isn't of its format; lack of memory, if there was none
+/// for the name.
 fn misread(name: Result<String, AllocError>, fault: ScriptFault) -> RunFault
     ensures { result ≡ run_fault_of_misread name fault }
 {
@@ -53,7 +56,7 @@ fn misread(name: Result<String, AllocError>, fault: ScriptFault) -> RunFault
     }
 }
 
-/// What is told of a file that isn't read.
+/// Returns the fault of a file that can't be read.
 #[tactic(auto, using(crate::proofs::Packed::told_unread))]
 pub fn read_fault(alloc: Global, path: &str, fault: FileFault) -> RunFault
     ensures { (result ≡ RunFault.Memory) ⊎ ((fault ≡ FileFault.Unreadable) × IsUnreadable path.now result) }
@@ -61,7 +64,7 @@ pub fn read_fault(alloc: Global, path: &str, fault: FileFault) -> RunFault
     unread(String::from_str(alloc, path), fault)
 }
 
-/// What is told of a text that is none of its format.
+/// The fault of a text that isn't of its format.
 #[tactic(auto, using(crate::proofs::Packed::told_misread))]
 pub(crate) fn text_fault(alloc: Global, path: &str, fault: ScriptFault) -> RunFault
     ensures { (result ≡ RunFault.Memory) ⊎ TextFault path.now fault result }
@@ -69,10 +72,10 @@ pub(crate) fn text_fault(alloc: Global, path: &str, fault: ScriptFault) -> RunFa
     misread(String::from_str(alloc, path), fault)
 }
 
-/// What the configuration in the file of a path says.
+/// Returns the configuration in the file of a path.
 ///
 /// # Errors
-/// The file can't be read, its text's first fault, or `Memory`.
+/// The file can't be read, the first fault of its text, or `Memory`.
 #[tactic(auto, using(crate::proofs::Packed::unread_text))]
 pub fn configuration<F: Files>(alloc: Global, files: &F, path: &str) -> Result<Config, RunFault>
     ensures says { IfOk result (λ c. Says config_of (F.holds files.now path.now) (config_seen c)) }
@@ -89,10 +92,11 @@ pub fn configuration<F: Files>(alloc: Global, files: &F, path: &str) -> Result<C
     }
 }
 
-/// The lines of the schedule in the file of a path, whose steps 64 bits can count.
+/// Returns the lines of the schedule in the file of a path, whose number of steps fits 64 bits.
 ///
 /// # Errors
-/// The file can't be read, its text's first fault, or `Memory`: also where it says more steps than any memory holds.
+/// The file can't be read, the first fault of its text, or `Memory`, also if the number of steps
+/// doesn't fit 64 bits.
 #[tactic(auto, using(crate::proofs::Packed::unread_text))]
 pub fn schedule<F: Files>(
     alloc: Global,
@@ -134,10 +138,10 @@ fn package_file<F: Files>(alloc: Global, files: &F, path: &str) -> Result<Vec<u8
     Ok(bytes)
 }
 
-/// The bytes of the packages in the files of these paths.
+/// Returns the bytes of the packages in the files of these paths.
 ///
 /// # Errors
-/// Why the first file isn't read that holds no package, or `Memory`.
+/// The fault of the first file that can't be read or isn't a package, or `Memory`.
 pub fn package_files<F: Files>(
     alloc: Global,
     files: &F,
@@ -159,7 +163,7 @@ pub fn package_files<F: Files>(
     Ok(contents)
 }
 
-/// The packages that these bytes are, each of which is one.
+/// Returns the packages in these contents, each of which is one.
 ///
 /// # Errors
 /// `Memory`.
@@ -180,8 +184,8 @@ pub fn packages_in<'p>(alloc: Global, contents: &'p [Vec<u8>]) -> Result<Vec<Pac
     Ok(packages)
 }
 
-/// Puts what the stores in a folder keep, where one is named, in the places of the images that these devices are configured with. The folder
-/// is only read.
+/// Replaces the configured images of the devices by those in the stores in a folder, if one is
+/// given. The folder is only read.
 ///
 /// # Errors
 /// `Store` of the first device whose store can't be read, and `Memory`.
@@ -206,11 +210,11 @@ pub(crate) fn read_kept<D: Folder + Drop, T: Stores<D>>(
     }
 }
 
-/// Opens the stores in a folder, puts what they keep in the places of the images that these devices are configured with, and makes banks
-/// over them.
+/// Opens the stores in a folder, replaces the configured images of the devices by those in the
+/// stores, and creates banks over the stores.
 ///
 /// # Errors
-/// `Store` of the first device whose store isn't opened, and `Memory`.
+/// `Store` of the first device whose store can't be opened, and `Memory`.
 #[tactic(auto, using(crate::proofs::Packed::told_unopened))]
 pub(crate) fn open_kept<D: Folder + Drop, T: Stores<D>>(
     alloc: Global,

@@ -1,27 +1,28 @@
-//! How far a soak is, shown on a terminal.
+//! Shows the progress of a soak on a terminal.
 
 use fw_soak::{SoakObserver, Summary};
 use std::io::{IsTerminal, Print};
 use std::time::{Duration, Instant};
 
-/// How many milliseconds pass at least until progress is shown again.
+/// The least time between two updates of the display, in milliseconds.
 const PAUSE: u64 = 100;
 
-/// A line without progress, which covers one that was shown.
+/// A blank line, which covers one that was shown.
 const BLANK: &str = "                                                ";
 
-/// Shows on standard error, if that is a terminal, how many runs are made, at most ten times a second, until all are.
+/// Shows on standard error, if it is a terminal, the number of runs made, at most ten times a
+/// second, until all are made.
 #[derive(Drop)]
 pub struct SoakProgress<'a> {
     rt: &'a HostRuntime,
     is_terminal: bool,
-    /// How many runs there are to be.
+    /// The number of runs to make.
     runs: u64,
     shown: Option<Instant>,
 }
 
 impl<'a> SoakProgress<'a> {
-    /// Progress of so many runs, of which nothing is shown.
+    /// Creates the progress of `runs` runs, which shows nothing yet.
     pub fn new(rt: &'a HostRuntime, runs: u64) -> SoakProgress<'a> {
         SoakProgress {
             rt,
@@ -31,7 +32,7 @@ impl<'a> SoakProgress<'a> {
         }
     }
 
-    /// Whether progress wasn't shown a moment ago. It counts as shown now.
+    /// Whether the display is due for an update, which it then counts as shown.
     fn is_due(&mut self) -> bool {
         let Ok(now) = Instant::now(self.rt) else {
             return false;
@@ -45,7 +46,7 @@ impl<'a> SoakProgress<'a> {
         }
     }
 
-    /// Takes away what is shown.
+    /// Erases the progress line.
     pub fn end(&mut self) {
         if self.is_terminal && self.shown.take().is_some() {
             let _ = eprint!(self.rt; "\r{BLANK}\r");

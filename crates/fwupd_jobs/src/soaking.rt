@@ -1,4 +1,4 @@
-//! Many rough runs of the devices of a configuration.
+//! Many runs over rough links with the devices of a configuration.
 
 ghost use Rattle.std.specs.Prelude.{◌≡◌, ◌≢◌, ◌⊎◌, IfErr, None, OnErr, OnOk, Some, false, option_map, true};
 ghost use Rattle.fw_script.specs.ScheduleTexts.{schedule_text};
@@ -14,7 +14,7 @@ use fwupd_words::SoakOrder;
 use std::alloc::Global;
 use std::io::Write;
 
-/// The fault of a recording, where a file isn't made.
+/// The fault of a record of steps if its file can't be made.
 fn unrecorded(fault: RunFault) -> RunFault
     ensures memory { fault ≡ RunFault.Memory → result ≡ RunFault.Memory }
     ensures other { fault ≢ RunFault.Memory → result ≡ RunFault.Record }
@@ -25,10 +25,10 @@ fn unrecorded(fault: RunFault) -> RunFault
     }
 }
 
-/// Puts the schedule of these steps into the file of a path, whole.
+/// Writes the schedule of the steps into the file of a path, as a whole.
 ///
 /// # Errors
-/// `Record` where it isn't written, and `Memory`. The file is as it was then.
+/// `Record` if it can't be written, and `Memory`; the file is unchanged then.
 fn keep<W: Write + Drop, P: OutputPlaces<W>>(
     alloc: Global,
     steps: &[Step],
@@ -52,10 +52,10 @@ fn keep<W: Write + Drop, P: OutputPlaces<W>>(
     }
 }
 
-/// What is told of a soak: nothing, or that a run went wrong, whose steps are kept where that is asked for.
+/// Writes the steps of the first violation, if any, into the file that is given for them.
 ///
 /// # Errors
-/// `Violation`; `Record` or `Memory` where the steps aren't kept.
+/// `Violation` if there was one; `Record` or `Memory` if its steps can't be written.
 fn judge<W: Write + Drop, P: OutputPlaces<W>>(
     alloc: Global,
     kept: Option<Vec<Step>>,
@@ -78,13 +78,16 @@ fn judge<W: Write + Drop, P: OutputPlaces<W>>(
     Err(RunFault::Violation)
 }
 
-/// Makes many rough runs of the devices of the configuration in a file with its packages, writes what is said of them, and keeps the
-/// steps of the first that goes wrong in a file, as a schedule, where that is asked for.
+/// Makes many runs over rough links of the configuration in a file with its packages, and writes
+/// the totals. The steps of the first violation are written to a file, as a schedule, if one is
+/// given.
 ///
 /// # Errors
-/// The first fault, in this order: of the configuration's file; `NoPackage` where it names none; of the packages that it names, one
-/// after the other; `Record` where the steps would be written over one of these files; `Memory`, nothing is written then. `Output`
-/// where what is said isn't written whole. `Record` or `Memory` where the steps aren't kept, and else `Violation` where a run went wrong.
+/// The first fault, in this order: of the configuration; `NoPackage` if it has none; of each of its
+/// packages; `Record` if the steps would overwrite one of these files; `Memory`; nothing is written
+/// then.
+/// `Output` if the totals can't be written.
+/// `Record` or `Memory` if the steps can't be written, else `Violation` if there was one.
 pub fn soak_file<F: Files, V: SoakObserver, B: Write + Drop, P: OutputPlaces<B>, W: Write + Drop>(
     alloc: Global,
     files: &F,

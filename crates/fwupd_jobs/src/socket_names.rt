@@ -1,26 +1,28 @@
-//! The names that sockets take in folders.
+//! The names of sockets in folders.
 
 ghost use Rattle.std.specs.Prelude.{◌≡◌, ◌∷◌, List, None, OnErr, OnOk, Option, drop, option_map, ℕ};
 
 use std::os::unix::net::{UnixListener, UnixStream};
 use std::{fs, io};
 
-/// Where sockets take names. Where it is known which names are taken by this program, the last one is the first of the list.
+/// The names of sockets. In contracts, `taken` is the names that this program has bound, the latest
+/// first, if they are known.
 pub trait SocketNames {
     ghost taken: { Self → Option (List (List ℕ)) };
 
-    /// Takes a name that nothing has, for a socket.
+    /// Binds a socket to a name that doesn't exist yet.
     ///
     /// # Errors
-    /// The name is taken already, or the socket can't be made.
+    /// The name exists, or the socket can't be made.
     fn bind(&mut self, path: &str) -> io::Result<UnixListener>
         ensures taken { OnOk result (taken self.new ≡ option_map (λ names. path.now ∷ names) (taken self.old)) }
         ensures kept { OnErr result (taken self.new ≡ taken self.old) };
 
-    /// Both ends of a connection to the socket of a name: the agent's, which accepts it, and the device's.
+    /// Returns both ends of a connection to the socket of a name: the agent's, which accepts it,
+    /// and the device's.
     ///
     /// # Errors
-    /// One of both can't be made.
+    /// One of the two can't be made.
     fn connect(
         &mut self,
         listener: &UnixListener,
@@ -28,19 +30,19 @@ pub trait SocketNames {
     ) -> io::Result<(UnixStream, UnixStream)>
         ensures { taken self.new ≡ taken self.old };
 
-    /// Gives back the name that was taken last.
+    /// Removes the name that was bound last.
     fn release(&mut self, path: &str)
         ensures { taken self.new ≡ option_map (drop 1) (taken self.old) };
 }
 
-/// The system's names, of which nothing is known.
+/// The system's names; contracts know nothing of them.
 #[derive(Drop)]
 pub struct SystemNames<'a> {
     rt: &'a HostRuntime,
 }
 
 impl<'a> SystemNames<'a> {
-    /// The names that a runtime reaches.
+    /// Creates the names of a runtime.
     pub fn new(rt: &'a HostRuntime) -> SystemNames<'a> {
         SystemNames { rt }
     }

@@ -14,27 +14,28 @@ use std::alloc::Global;
 use std::io::{self, IsTerminal};
 use std::os::unix::net::{UnixListener, UnixStream};
 
-/// Unix sockets in folders: that of a device is `EID.sock`, and its name is gone as soon as both of its ends are there.
+/// Unix sockets in folders. The socket of a device is named `EID.sock`; the name is removed when
+/// both ends are connected.
 #[derive(Drop)]
 pub struct Sockets<'a> {
     rt: &'a HostRuntime,
     names: SystemNames<'a>,
-    /// The device whose socket wasn't made last, and why.
+    /// The device whose socket couldn't be made last, and the error.
     refused: Option<(u8, io::Error)>,
 }
 
-/// A socket of which what has come is read at once, and to which what is written is held back until the other end is read.
+/// A socket with buffered reads, whose writes are held back until the other end is read.
 type Socket = ReadAhead<WriteBehind<UnixStream>>;
 
 /// A link over sockets.
 type SocketLink = StreamLink<Socket>;
 
-/// An end of a connection.
+/// The buffered end of a connection.
 fn end(alloc: Global, stream: UnixStream) -> io::Result<Socket> {
     ReadAhead::new(alloc, WriteBehind::new(alloc, stream)?)
 }
 
-/// Both ends of a connection of a socket to itself, as a link.
+/// Connects a socket to itself, as a link.
 fn connected<N: SocketNames>(
     alloc: Global,
     names: &mut N,
@@ -49,10 +50,10 @@ fn connected<N: SocketNames>(
     Ok(StreamLink::new(unit, end(alloc, agent)?, end(alloc, device)?))
 }
 
-/// Makes a socket of this path, and a link over it to itself. The path's name is taken only meanwhile.
+/// Makes a socket at this path, and a link over it to itself. The path exists only meanwhile.
 ///
 /// # Errors
-/// The name is taken already, or the socket can't be made. Nothing is left of it then.
+/// The path exists already, or the socket can't be made. The path doesn't remain then.
 #[tactic(auto, using(crate::proofs::Names::given_back))]
 fn socket_link<N: SocketNames>(
     alloc: Global,
@@ -70,7 +71,7 @@ fn socket_link<N: SocketNames>(
 }
 
 impl<'a> Sockets<'a> {
-    /// The sockets that a runtime reaches.
+    /// Creates the sockets of a runtime.
     pub fn new(rt: &'a HostRuntime) -> Sockets<'a> {
         Sockets {
             rt,
@@ -79,7 +80,8 @@ impl<'a> Sockets<'a> {
         }
     }
 
-    /// Says on standard error, where that is a terminal, why a socket wasn't made, if one wasn't.
+    /// Prints on standard error, if it is a terminal, why a socket couldn't be made, if one
+    /// couldn't.
     pub fn explain(&self) {
         let Some((device, error)) = self.refused else {
             return;

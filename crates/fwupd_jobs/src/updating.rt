@@ -1,4 +1,4 @@
-//! Updating the devices of a configuration.
+//! Updates the devices of a configuration.
 
 ghost use Rattle.std.specs.Prelude.{◌≡◌, ◌⊎◌, Bool, IfErr, IfOk, IfSome, List, None, OnOk, length, map, option_map, string_bytes, true, ℕ};
 ghost use Rattle.std.specs.List.{AllByRecursion};
@@ -30,8 +30,8 @@ use mctp_wire::Unit;
 use std::alloc::Global;
 use std::io::Write;
 
-/// Where links to devices are opened, in a folder. It is known before to which devices they may be lacking, and may be told of a link
-/// that it is one of a network with some transmission unit, in some folder, to some device.
+/// The source of links to devices. In contracts, `lacks` is the devices to which a link may fail to
+/// open, and `is_to` the transmission unit, the folder and the device of a link.
 pub trait Wires<L> {
     ghost use Rattle.mctp_wire.specs.declared.unit.Unit.{«Unit»};
 
@@ -42,14 +42,15 @@ pub trait Wires<L> {
     /// Opens a link to a device in a folder, in a network with this transmission unit.
     ///
     /// # Errors
-    /// `Socket` where it can't be made, and `Memory`.
+    /// `Socket` if it can't be made, and `Memory`.
     fn open(&mut self, unit: Unit, folder: &str, device: u8) -> Result<L, RunFault>
         ensures to { IfOk result (λ link. is_to unit folder.now device link ≡ true) }
         ensures same { lacks self.new ≡ lacks self.old }
         ensures fault { IfErr result (λ e. (e ≡ RunFault.Memory) ⊎ ((e ≡ RunFault.Socket device) × (lacks self.old folder.now device ≡ true))) };
 }
 
-/// Opens a link to each device of a world, in configured order, each as rough as asked for, by chances of its own.
+/// Opens a link to each device of a world, in configured order, each with the requested roughness
+/// and random numbers of its own.
 fn open_all<B: Bank + Drop, L: Link + Drop, S: Wires<L>>(
     alloc: Global,
     world: &World<'_, B>,
@@ -83,7 +84,7 @@ fn open_all<B: Bank + Drop, L: Link + Drop, S: Wires<L>>(
     Ok(links)
 }
 
-/// Writes the report of a world in a form.
+/// Writes the report of a world in a format.
 fn write_report<B: Bank + Drop, W: Write + Drop>(
     alloc: Global,
     world: &World<'_, B>,
@@ -118,7 +119,7 @@ fn lost_device<B: Bank + Drop, L: Link>(world: &World<'_, B>, links: &[L]) -> Op
     None
 }
 
-/// Tells what looks on of the first device whose link has failed, if one has.
+/// Reports the first device whose link has failed, if any, to the observer.
 fn lose_failed<B: Bank + Drop, L: Link, V: Observer>(
     world: &World<'_, B>,
     links: &[L],
@@ -138,11 +139,11 @@ fn lose_failed<B: Bank + Drop, L: Link, V: Observer>(
     }
 }
 
-/// Updates each device of a new world over its link, as rough as asked for, and lets what looks on end; where a link failed, it is
-/// told whose.
+/// Updates each device of a new world over its link, with the requested roughness, and ends the
+/// observer. If a link failed, the observer gets its device.
 ///
 /// # Errors
-/// That of the update, and else what ends the watch.
+/// The fault of the update, or else the observer's.
 fn update_reporting<B: Bank + Drop, L: Link + Drop, V: Observer>(
     alloc: Global,
     world: &mut World<'_, B>,
@@ -179,7 +180,8 @@ fn update_reporting<B: Bank + Drop, L: Link + Drop, V: Observer>(
     }
 }
 
-/// Updates each device of a new world with the package that is asked for over a link of its own, and writes the report of what that leaves.
+/// Updates each device of a new world over its own link, with the requested package, and writes the
+/// report of the last world.
 fn update_over<B: Bank + Drop, L: Link + Drop, S: Wires<L>, V: Observer, W: Write + Drop>(
     alloc: Global,
     world: &mut World<'_, B>,
@@ -229,8 +231,9 @@ fn update_over<B: Bank + Drop, L: Link + Drop, S: Wires<L>, V: Observer, W: Writ
     }
 }
 
-/// Lets what looks on begin, updates each device of a world that is new with the package that is asked for over a link of its own, and
-/// writes the report of what that leaves. The world is that of the configuration in a file, which names these packages.
+/// Begins the observer, updates each device of a new world over its own link, with the requested
+/// package, and writes the report of the last world. The first world is that of the configuration
+/// in a file with these packages.
 fn update_new<F: Files, B: Bank + Drop, L: Link + Drop, S: Wires<L>, V: Observer, W: Write + Drop>(
     alloc: Global,
     files: &F,
@@ -265,17 +268,21 @@ fn update_new<F: Files, B: Bank + Drop, L: Link + Drop, S: Wires<L>, V: Observer
     }
 }
 
-/// Updates the devices of the configuration in a file with the package that is asked for, each over a link of its own, as rough as asked
-/// for, and writes the report of what that leaves. It gives the first session in configured order that isn't Done then. Where a
-/// folder of stores is named, each device begins with the images that its store keeps, and keeps there those that it activates.
+/// Updates the devices of the configuration in a file over links, with the requested package and
+/// roughness, and writes the report of the last world. Returns the first session in configured
+/// order that isn't Done. If a folder of stores is given, each device begins with the images in its
+/// store, and writes activated images there.
 ///
 /// # Errors
-/// The first fault, in this order: of the configuration's file; `NoPackage` where it names no package of this number; of the packages that it
-/// names, one after the other; `Store` of the first device whose store isn't opened; `Trace`, `Log`, `Record` or `History` where what looks on
-/// can't begin, or would write over one of these files or another of its own, or into a store; `Socket` where a link isn't opened. `Edge` where
-/// a link failed or the clock stands at its end, and `Trace`, `Log`, `Record` or `History` where what looks on can't write: the report is then of the world that
-/// was reached. `Output` where the report isn't written whole: a beginning of it may be. `Memory` where memory is refused: nothing is written
-/// then.
+/// The first fault, in this order: of the configuration; `NoPackage` if it has no package of this
+/// number; of each of its packages; `Store` of the first device whose store can't be opened;
+/// `Trace`, `Log`, `Record` or `History` if the observer can't begin, or if an output would
+/// overwrite one of these files or another output, or is in a store; `Socket` if a link can't be
+/// opened.
+/// `Edge` if a link failed or the clock is at its last tick, and `Trace`, `Log`, `Record` or
+/// `History` if the observer can't write; the report is then of the world that was reached.
+/// `Output` if the report can't be written; a beginning of it may be written.
+/// `Memory` if memory is refused; nothing is written then.
 pub fn update_files<
     F: Files,
     D: Folder + Drop,
@@ -338,7 +345,7 @@ pub fn update_files<
         Ok(banks) => banks,
         Err(fault) => return Err(fault),
     };
-    // Each store was opened for the device that it is taken for, so no bank is lacking but for memory.
+    // Each store was opened for its device, so banks are only missing for lack of memory.
     let Ok(mut world) = opening_world_over(
         alloc,
         unit,

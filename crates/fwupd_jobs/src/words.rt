@@ -1,4 +1,4 @@
-//! The words of the command line.
+//! The arguments of the command line.
 
 ghost use Rattle.std.specs.Prelude.{◌≡◌, ◌≢◌, ◌⊎◌, IfErr};
 ghost use Rattle.std.specs.Process.{exit_status};
@@ -8,8 +8,8 @@ use fwupd_watch::RunFault;
 use std::io::ErrorKind;
 use std::process::ExitCode;
 
-/// Prints why the words of the command line can't be read, where standard error takes it, and gives the status that says so: 1 where
-/// memory was refused, and else 2 for wrong usage.
+/// Prints on standard error why the command line's arguments can't be read, and returns the exit
+/// status: 1 if memory was refused, else 2 for a usage error.
 fn no_words(rt: &HostRuntime, kind: ErrorKind) -> ExitCode
     ensures memory { kind ≡ ErrorKind.OutOfMemory → exit_status result ≡ 1 }
     ensures mistake { kind ≢ ErrorKind.OutOfMemory → exit_status result ≡ 2 }
@@ -21,7 +21,7 @@ fn no_words(rt: &HostRuntime, kind: ErrorKind) -> ExitCode
     ExitCode::from(USAGE)
 }
 
-/// The words of the command line, or the status where there are none to read.
+/// The arguments of the command line, or the exit status if they can't be read.
 pub(crate) fn words(rt: &HostRuntime) -> Result<Vec<String>, ExitCode>
     ensures { IfErr result (λ status. (exit_status status ≡ 1) ⊎ (exit_status status ≡ 2)) }
 {

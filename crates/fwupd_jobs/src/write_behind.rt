@@ -1,4 +1,4 @@
-//! A byte stream that is written behind.
+//! A byte stream with held-back writes.
 
 ghost use Rattle.std.specs.Prelude.{◌≡◌, [], IfErr, IfOk, OnOk};
 ghost use Rattle.std.specs.IoError.{error_kind};
@@ -8,17 +8,17 @@ ghost use Rattle.std.specs.Io.KnownBytes.{Keeps};
 use std::alloc::Global;
 use std::io::{self, BufWriter, ErrorKind, Read, Write};
 
-/// A byte stream that holds back what is written to it until it is flushed, or has no more room.
+/// A byte stream that holds back what is written until it is flushed, or its buffer is full.
 #[derive(Drop)]
 pub struct WriteBehind<S: Read + Write + Drop> {
     writer: BufWriter<S>,
 }
 
 impl<S: Read + Write + Drop> WriteBehind<S> {
-    /// The stream, for which nothing is held back yet.
+    /// Creates the stream with an empty buffer.
     ///
     /// # Errors
-    /// `OutOfMemory` where room for what is held back is refused.
+    /// `OutOfMemory` if memory for the buffer is refused.
     pub fn new(alloc: Global, stream: S) -> io::Result<WriteBehind<S>>
         ensures stream { IfOk result (λ s. writer_inner s.writer ≡ stream) }
         ensures none { IfOk result (λ s. writer_buffer s.writer ≡ []) }

@@ -64,7 +64,7 @@ pub record AreTwoPlaces (first second : FileOf) : Type 0 where
   pub of_second : MayLie second other
   pub differ : IfSome one (λ place. other ≢ Some place)
 
--- a file is in a folder, directly or below it
+-- a file is in a folder or in one of its subfolders
 pub record IsInFolder (file folder : FileOf) : Type 0 where
   pub place : FilePlaceOf
   pub own : FileIdentity

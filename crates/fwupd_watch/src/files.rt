@@ -65,8 +65,8 @@ pub trait Files {
         ensures same { result ≡ true → IsOnePlace (holds self.now one.now) (holds self.now other.now) }
         ensures apart { result ≡ false → AreTwoPlaces (holds self.now one.now) (holds self.now other.now) };
 
-    /// Returns whether a path is in a folder, directly or in folders below it, with or without a
-    /// file there.
+    /// Returns whether a path is in a folder or in one of its subfolders, with or without a file
+    /// there. Deeper folders don't count.
     ///
     /// # Errors
     /// `AllocError` if memory is refused.
@@ -94,7 +94,7 @@ impl<'a> SystemFiles<'a> {
         read_whole(alloc, &mut file, size)
     }
 
-    /// Whether a path is in this folder, directly or below it.
+    /// Whether a path is in this folder or in one of its subfolders.
     fn lies_in(&self, alloc: Global, path: &str, folder: FileIdentity) -> Result<bool, AllocError> {
         let (own, _) = folder_and_name(path);
         let Ok(above) = format!(in alloc; "{own}/..") else {
@@ -103,8 +103,8 @@ impl<'a> SystemFiles<'a> {
         Ok(self.identity(own) == Some(folder) || self.identity(&above) == Some(folder))
     }
 
-    /// Whether a path may resolve to a file in this folder, directly or below it. A dangling link
-    /// may lead to any place.
+    /// Whether a path may be a link to a file in this folder or in one of its subfolders. A
+    /// dangling link may lead to any place.
     fn leads_into(
         &self,
         alloc: Global,

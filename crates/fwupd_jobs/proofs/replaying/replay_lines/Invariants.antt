@@ -3,7 +3,7 @@ use Rattle.fw_script.specs.ScheduleLines.{all_steps}
 use Rattle.fw_steps.specs.Headline.{Run}
 use Rattle.fwupd_jobs.proofs.replaying.replay_lines.Given as goal
 
--- so many steps are taken, and seen where that is asked; the others are left
+-- the steps before the place are taken, and observed if that is requested; the others remain
 abbrev pub invariant-loop-next : goal.invariant-loop-next
 invariant-loop-next g l = record {
   run : Run l.fn.world (take l.taken (all_steps l.lines)) l.world;
