@@ -13,8 +13,8 @@ use Rattle.fwupd_jobs.specs.Built.{AreImages, Builds, ImageFails, ImagesFail, Is
 use Rattle.fwupd_watch.specs.Files.{FileOf}
 use Rattle.fwupd_watch.specs.Places.{IsOnDisk}
 use Rattle.fwupd_jobs.specs.Setups.{Says}
-use Rattle.fwupd_watch.specs.declared.faults.RunFault.{RunFault}
-use Rattle.fwupd_watch.specs.declared.faults.RunFault.TheVariants as faults
+use Rattle.fwupd_watch.specs.declared.faults.JobFault.{JobFault}
+use Rattle.fwupd_watch.specs.declared.faults.JobFault.TheVariants as faults
 
 -- the item at a place of a list that was mapped
 pub own_in : {A B : Type 0} (g : A → B) (xs : List A) (i : ℕ) (x : A) (y : B) → i < length xs → x ≡ get_or xs i x → Some y ≡ slice_get (map g xs) i → y ≡ g x
@@ -62,7 +62,7 @@ images_next files cs i c images after image lt is e h k =
     (images_more files (map spec_component_of (take i cs)) (map (λ x. x.items) images) (spec_component_of c) image.items h k))))
 
 -- the first image that can't be read
-pub image_fails_at : (files : List ℕ → FileOf) (cs : List SpecComponent) (i : ℕ) (c : SpecComponent) (images : List (List ℕ)) (told : RunFault)
+pub image_fails_at : (files : List ℕ → FileOf) (cs : List SpecComponent) (i : ℕ) (c : SpecComponent) (images : List (List ℕ)) (told : JobFault)
     → i < length cs → c ≡ get_or cs i c → AreImages files (map spec_component_of (take i cs)) images
     → (told ≡ faults.Memory) ⊎ ImageFails files (spec_component_of c).path told → (told ≡ faults.Memory) ⊎ ImagesFail files (map spec_component_of cs) told
 image_fails_at files cs i c images told lt is h (inl e) = inl e
@@ -119,7 +119,7 @@ put_lasting None held lasting p = tt
 put_lasting (Some x) held lasting p = p.1
 
 pub built_on : {A : Type 0} (files : List ℕ → FileOf) (path : List ℕ) (spec : PackageSpecOf) (images : List (List ℕ)) (header : List ℕ) (known still : Bool)
-    (begun w held lasting : Option (List ℕ)) (end : Result A RunFault)
+    (begun w held lasting : Option (List ℕ)) (end : Result A JobFault)
     → Says package_spec_of (files path) spec → AreImages files spec.components images → header ≡ header_bytes (asked_by spec images) → IsHeaderOf (asked_by spec images) header
     → (known ≡ true → begun ≡ Some []) → still ≡ known → Appends begun w (header ++ concat images) → OnOk end (still ≡ true → IsOnDisk w held lasting) → OnOk end (Builds files path known held)
 built_on files path spec images header known still begun w held lasting (Ok a) says are is of begins same written put =
@@ -127,7 +127,7 @@ built_on files path spec images header known still begun w held lasting (Ok a) s
 built_on files path spec images header known still begun w held lasting (Err fault) says are is of begins same written put = tt
 
 pub built_lasting : {A : Type 0} (files : List ℕ → FileOf) (path : List ℕ) (spec : PackageSpecOf) (images : List (List ℕ)) (header : List ℕ) (known still : Bool)
-    (begun w held lasting : Option (List ℕ)) (end : Result A RunFault)
+    (begun w held lasting : Option (List ℕ)) (end : Result A JobFault)
     → Says package_spec_of (files path) spec → AreImages files spec.components images → header ≡ header_bytes (asked_by spec images) → IsHeaderOf (asked_by spec images) header
     → (known ≡ true → begun ≡ Some []) → still ≡ known → Appends begun w (header ++ concat images) → OnOk end (still ≡ true → IsOnDisk w held lasting) → OnOk end (Builds files path known lasting)
 built_lasting files path spec images header known still begun w held lasting (Ok a) says are is of begins same written put =

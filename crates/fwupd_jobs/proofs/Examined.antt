@@ -4,14 +4,14 @@ use Rattle.std.specs.Result.{result_map_both}
 use Rattle.fw_package.specs.Package.{PackageText}
 use Rattle.fw_package.specs.Reading.{package_of}
 use Rattle.fw_package.specs.declared.fault.PackageFault.{PackageFault}
-use Rattle.fwupd_jobs.specs.Inspected.{BreaksInspection, Inspects, run_fault_of_inspection}
+use Rattle.fwupd_jobs.specs.Inspected.{BreaksInspection, Inspects, job_fault_of_inspection}
 use Rattle.fw_json.specs.Forms.{inspection_in}
 use Rattle.fwupd_base.specs.declared.forms.Form.{Form}
 use Rattle.fwupd_watch.specs.Outputs.{FailsToWriteOutput, OutputOf, WritesOutput}
 use Rattle.fwupd_watch.specs.Files.{FileOf, MayHold}
 use Rattle.fwupd_jobs.specs.Setups.{IsNone, PackageFails}
-use Rattle.fwupd_watch.specs.declared.faults.RunFault.{RunFault}
-use Rattle.fwupd_watch.specs.declared.faults.RunFault.TheVariants as faults
+use Rattle.fwupd_watch.specs.declared.faults.JobFault.{JobFault}
+use Rattle.fwupd_watch.specs.declared.faults.JobFault.TheVariants as faults
 use Rattle.fwupd_base.specs.declared.inspection.InspectFault.{InspectFault}
 use Rattle.fwupd_base.specs.declared.inspection.InspectFault.TheVariants as inspected
 
@@ -20,7 +20,7 @@ refused : (r : Result PackageText PackageFault) (f : PackageFault) → result_ma
 refused (Ok p) f e = absurd cc
 refused (Err g) f e = ap Err (let same : Err (inspected.Package g) ≡ Err (inspected.Package f) = e in cc)
 
-pub inspection_fails : (files : List ℕ → FileOf) (path bytes : List ℕ) (fault : InspectFault) (told : RunFault) → MayHold (files path) bytes → told ≡ run_fault_of_inspection fault
+pub inspection_fails : (files : List ℕ → FileOf) (path bytes : List ℕ) (fault : InspectFault) (told : JobFault) → MayHold (files path) bytes → told ≡ job_fault_of_inspection fault
     → (fault ≢ inspected.Memory → result_map_both (λ p. p) inspected.Package (package_of bytes) ≡ Err fault) → (told ≡ faults.Memory) ⊎ PackageFails files path told
 inspection_fails files path bytes inspected.Memory told held e first = inl e
 inspection_fails files path bytes (inspected.Package f) told held e first =
@@ -37,7 +37,7 @@ inspects file form bytes text before now held is written =
     let found = read form (package_of bytes) text is in
     record { contents = found.0; is = record { bytes = bytes; held = held; is = found.1 }; written = subst (WritesOutput before now) found.2 written }
 
-pub breaks : (file : FileOf) (form : Form) (bytes text : List ℕ) (told : RunFault) (before now : OutputOf) → told ≡ faults.Output → MayHold file bytes → result_map_both (inspection_in form) (λ e. e) (package_of bytes) ≡ Ok text → FailsToWriteOutput before now text
+pub breaks : (file : FileOf) (form : Form) (bytes text : List ℕ) (told : JobFault) (before now : OutputOf) → told ≡ faults.Output → MayHold file bytes → result_map_both (inspection_in form) (λ e. e) (package_of bytes) ≡ Ok text → FailsToWriteOutput before now text
     → BreaksInspection file form told before now
 breaks file form bytes text told before now e held is begun =
     let found = read form (package_of bytes) text is in

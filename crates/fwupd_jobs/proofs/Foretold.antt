@@ -14,8 +14,8 @@ use Rattle.fwupd_watch.specs.Outputs.{FailsToWriteOutput, OutputOf}
 use Rattle.fwupd_jobs.specs.Planned.{Forecasts, PlanEnds}
 use Rattle.fwupd_jobs.specs.Setups.{ArePacked, Says}
 use Rattle.fwupd_watch.specs.Files.{FileOf}
-use Rattle.fwupd_watch.specs.declared.faults.RunFault.{RunFault}
-use Rattle.fwupd_watch.specs.declared.faults.RunFault.TheVariants as faults
+use Rattle.fwupd_watch.specs.declared.faults.JobFault.{JobFault}
+use Rattle.fwupd_watch.specs.declared.faults.JobFault.TheVariants as faults
 use Rattle.fw_edge.proofs.Rising.{map_length}
 use Rattle.fwupd_jobs.proofs.Packed.{as_many, packages_so, through}
 
@@ -57,6 +57,6 @@ package_there files number count names contents slice ps lent packed same read a
     counted there none
 
 -- The plan isn't written as a whole.
-pub plan_breaks : (files : List ℕ → FileOf) (path : List ℕ) (number : ℕ) (form : Form) (text : List ℕ) (told : RunFault) (before now : OutputOf) → told ≡ faults.Output → Forecasts files path number form text
+pub plan_breaks : (files : List ℕ → FileOf) (path : List ℕ) (number : ℕ) (form : Form) (text : List ℕ) (told : JobFault) (before now : OutputOf) → told ≡ faults.Output → Forecasts files path number form text
     → FailsToWriteOutput before now text → PlanEnds files path number form told before now
 plan_breaks files path number form text told before now is forecasts begun = inl (record { is = is; text = text; forecasts = forecasts; begun = begun })

@@ -12,11 +12,11 @@ use Rattle.mctp_wire.specs.declared.unit.Unit.{«Unit»}
 use Rattle.fwupd_jobs.specs.Updated.{HaveLinks, IsLost, IsUnlinked, NamesLost, TellsLost}
 use Rattle.fwupd_watch.proofs.Started.{node_there, take_next}
 use Rattle.fwupd_watch.specs.Running.{IsCaused, HasObserverFault, ObserverOf}
-use Rattle.fwupd_watch.specs.declared.faults.RunFault.{RunFault}
-use Rattle.fwupd_watch.specs.declared.faults.RunFault.TheVariants as told
+use Rattle.fwupd_watch.specs.declared.faults.JobFault.{JobFault}
+use Rattle.fwupd_watch.specs.declared.faults.JobFault.TheVariants as told
 
 -- a device to which no link can be opened
-pub unlinked_at : (w : WorldOf) (lacks : ℕ → Bool) (place device : ℕ) (n : DeviceNodeOf) (fault : RunFault) → option_map (λ x. x.node) (slice_get w.sites place) ≡ Some n → device ≡ n.endpoint.eid
+pub unlinked_at : (w : WorldOf) (lacks : ℕ → Bool) (place device : ℕ) (n : DeviceNodeOf) (fault : JobFault) → option_map (λ x. x.node) (slice_get w.sites place) ≡ Some n → device ≡ n.endpoint.eid
     → (fault ≡ told.Memory) ⊎ ((fault ≡ told.Socket device) × (lacks device ≡ true)) → (fault ≡ told.Memory) ⊎ IsUnlinked w lacks fault
 unlinked_at w lacks place device n fault at is (inl e) = inl e
 unlinked_at w lacks place device n fault at is (inr h) =
@@ -113,6 +113,6 @@ lost_told failures w olds news lost devices failed told = elim (told devices) [
 ]
 
 -- that device doesn't change the cause of the run's fault
-pub caused_still : (number : ℕ) (w v : WorldOf) (fault : RunFault) (before now : ObserverOf) → now.fault ≡ before.fault → now.has_ended ≡ before.has_ended → IsCaused number w v fault before → IsCaused number w v fault now
+pub caused_still : (number : ℕ) (w v : WorldOf) (fault : JobFault) (before now : ObserverOf) → now.fault ≡ before.fault → now.has_ended ≡ before.has_ended → IsCaused number w v fault before → IsCaused number w v fault now
 caused_still number w v fault before now same ended h =
     record { broken = h.broken; stopped = h.stopped; unwritten = subst (HasObserverFault fault) (sym same) h.unwritten; let_end = ended ∙ h.let_end }

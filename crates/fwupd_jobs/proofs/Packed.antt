@@ -21,15 +21,15 @@ use Rattle.fw_setup.specs.declared.stores.Unopened.{Unopened}
 use Rattle.fwupd_watch.specs.Apart.{IsApart, IsBarred}
 use Rattle.fwupd_jobs.specs.Updated.{IsNumberedSetup, IsObservedSetup, LacksTrace}
 use Rattle.fwupd_watch.specs.Running.{ShowOf, ObserverOf}
-use Rattle.fwupd_jobs.specs.Setups.{AreDevices, ArePackages, ArePacked, IsPacked, IsSetup, IsUnreadable, HasNoText, NumberedSetupFails, PackageFails, PackagesFail, Says, SourceOf, StoresFail, TellsUnopened, TextFails, TextFault, misread_by, run_fault_of_misread, run_fault_of_unread}
+use Rattle.fwupd_jobs.specs.Setups.{AreDevices, ArePackages, ArePacked, IsPacked, IsSetup, IsUnreadable, HasNoText, NumberedSetupFails, PackageFails, PackagesFail, Says, SourceOf, StoresFail, TellsUnopened, TextFails, TextFault, misread_by, job_fault_of_misread, job_fault_of_unread}
 use Rattle.fwupd_watch.specs.Files.{FileOf, MayHold}
-use Rattle.fwupd_watch.specs.declared.faults.RunFault.{RunFault}
-use Rattle.fwupd_watch.specs.declared.faults.RunFault.TheVariants as faults
+use Rattle.fwupd_watch.specs.declared.faults.JobFault.{JobFault}
+use Rattle.fwupd_watch.specs.declared.faults.JobFault.TheVariants as faults
 use Rattle.fwupd_watch.specs.declared.files.FileFault.{FileFault}
 use Rattle.fwupd_watch.specs.declared.files.FileFault.TheVariants as unread
 
 -- the reported fault of a text is its first
-pub unsaid_so : {A : Type 0} (read : List ℕ → Result A ScriptFault) (path text : List ℕ) (file : FileOf) (fault : ScriptFault) (told : RunFault)
+pub unsaid_so : {A : Type 0} (read : List ℕ → Result A ScriptFault) (path text : List ℕ) (file : FileOf) (fault : ScriptFault) (told : JobFault)
     → TextFault path fault told → MayHold file text → (fault.cause ≢ causes.Memory → read text ≡ Err fault) → HasNoText read path file told
 unsaid_so read path text file fault (faults.Answer f) h held is = absurd h
 unsaid_so read path text file fault (faults.Unreadable name) h held is = absurd h
@@ -52,7 +52,7 @@ unsaid_so read path text file fault faults.Output h held is = absurd h
 unsaid_so read path text file fault faults.Memory h held is = absurd h
 
 -- the fault of a file has its name
-pub told_unread : {E : Type 0} (path : List ℕ) (name : Result (String Global) E) (fault : FileFault) (told : RunFault) → IfOk name (λ t. string_bytes t ≡ path) → told ≡ run_fault_of_unread name fault
+pub told_unread : {E : Type 0} (path : List ℕ) (name : Result (String Global) E) (fault : FileFault) (told : JobFault) → IfOk name (λ t. string_bytes t ≡ path) → told ≡ job_fault_of_unread name fault
     → (told ≡ faults.Memory) ⊎ ((fault ≡ unread.Unreadable) × IsUnreadable path told)
 told_unread path (Ok name) unread.Unreadable told is e = inr (refl, subst (IsUnreadable path) (sym e) is)
 told_unread path (Ok name) unread.Memory told is e = inl e
@@ -60,7 +60,7 @@ told_unread path (Err x) unread.Unreadable told is e = inl e
 told_unread path (Err x) unread.Memory told is e = inl e
 
 -- and the fault of a text
-told_named : (E : Type 0) (path : List ℕ) (name : String Global) (cause : ScriptCause) (fault : ScriptFault) (told : RunFault) → string_bytes name ≡ path → fault.cause ≡ cause
+told_named : (E : Type 0) (path : List ℕ) (name : String Global) (cause : ScriptCause) (fault : ScriptFault) (told : JobFault) → string_bytes name ≡ path → fault.cause ≡ cause
     → told ≡ misread_by {E = E} (Ok name) cause fault → (told ≡ faults.Memory) ⊎ TextFault path fault told
 told_named E path name causes.Directive fault told named is e = inr (subst (TextFault path fault) (sym e) (named, refl, λ memory. absurd (cc)))
 told_named E path name causes.Fields fault told named is e = inr (subst (TextFault path fault) (sym e) (named, refl, λ memory. absurd (cc)))
@@ -73,19 +73,19 @@ told_named E path name causes.Limit fault told named is e = inr (subst (TextFaul
 told_named E path name causes.Missing fault told named is e = inr (subst (TextFault path fault) (sym e) (named, refl, λ memory. absurd (cc)))
 told_named E path name causes.Memory fault told named is e = inl e
 
-pub told_misread : (E : Type 0) (path : List ℕ) (name : Result (String Global) E) (fault : ScriptFault) (told : RunFault) → IfOk name (λ t. string_bytes t ≡ path) → told ≡ run_fault_of_misread name fault
+pub told_misread : (E : Type 0) (path : List ℕ) (name : Result (String Global) E) (fault : ScriptFault) (told : JobFault) → IfOk name (λ t. string_bytes t ≡ path) → told ≡ job_fault_of_misread name fault
     → (told ≡ faults.Memory) ⊎ TextFault path fault told
 told_misread E path (Ok name) fault told named e = told_named E path name fault.cause fault told named refl e
 told_misread E path (Err x) fault told named e = inl e
 
 -- a file that can't be read
-pub unread_text : {A : Type 0} (read : List ℕ → Result A ScriptFault) (files : List ℕ → FileOf) (path : List ℕ) (fault : FileFault) (told : RunFault)
+pub unread_text : {A : Type 0} (read : List ℕ → Result A ScriptFault) (files : List ℕ → FileOf) (path : List ℕ) (fault : FileFault) (told : JobFault)
     → (told ≡ faults.Memory) ⊎ ((fault ≡ unread.Unreadable) × IsUnreadable path told) → (fault ≡ unread.Unreadable → (files path).may_fail ≡ true)
     → (told ≡ faults.Memory) ⊎ TextFails read files path told
 unread_text read files path fault told (inl e) fails = inl e
 unread_text read files path fault told (inr h) fails = inr (inl (h.1, fails h.0))
 
-pub unread_package : (files : List ℕ → FileOf) (path : List ℕ) (fault : FileFault) (told : RunFault) → (told ≡ faults.Memory) ⊎ ((fault ≡ unread.Unreadable) × IsUnreadable path told)
+pub unread_package : (files : List ℕ → FileOf) (path : List ℕ) (fault : FileFault) (told : JobFault) → (told ≡ faults.Memory) ⊎ ((fault ≡ unread.Unreadable) × IsUnreadable path told)
     → (fault ≡ unread.Unreadable → (files path).may_fail ≡ true) → (told ≡ faults.Memory) ⊎ PackageFails files path told
 unread_package files path fault told (inl e) fails = inl e
 unread_package files path fault told (inr h) fails = inr (inl (h.1, fails h.0))
@@ -139,7 +139,7 @@ packages_there files (path ∷ paths) (c ∷ cs) h =
     (found.0 ∷ rest.0, (record { bytes = c; held = h.0.held; is = found.1 }, rest.1))
 
 -- the first that isn't a package
-pub fails_there : (files : List ℕ → FileOf) (paths before after contents : List (List ℕ)) (path : List ℕ) (told : RunFault)
+pub fails_there : (files : List ℕ → FileOf) (paths before after contents : List (List ℕ)) (path : List ℕ) (told : JobFault)
     → paths ≡ before ++ path ∷ after → ArePacked files before contents → PackageFails files path told → PackagesFail files paths told
 fails_there files paths before after contents path told e h fails =
     let there = packages_there files before contents h in
@@ -159,7 +159,7 @@ packed_next files paths i p name contents after more lt is called e h k =
     (subst (λ fs. ArePacked files (map (λ q. string_bytes q) (take i paths) ++ string_bytes p ∷ []) fs) (sym (map-append (λ f. f.items) contents (more ∷ [])))
     (packed_more files (map (λ q. string_bytes q) (take i paths)) (map (λ f. f.items) contents) (string_bytes p) more.items h (subst (λ n. IsPacked (files n) more.items) called k)))))
 
-pub fails_at : (files : List ℕ → FileOf) (paths : List (String Global)) (i : ℕ) (p : String Global) (name : List ℕ) (contents : List (List ℕ)) (told : RunFault)
+pub fails_at : (files : List ℕ → FileOf) (paths : List (String Global)) (i : ℕ) (p : String Global) (name : List ℕ) (contents : List (List ℕ)) (told : JobFault)
     → i < length paths → p ≡ get_or paths i p → name ≡ string_bytes p → ArePacked files (map (λ q. string_bytes q) (take i paths)) contents
     → (told ≡ faults.Memory) ⊎ PackageFails files name told → (told ≡ faults.Memory) ⊎ PackagesFail files (map (λ q. string_bytes q) paths) told
 fails_at files paths i p name contents told lt is called h (inl e) = inl e
@@ -170,7 +170,7 @@ fails_at files paths i p name contents told lt is called h (inr f) =
     (subst (λ n. PackageFails files n told) called f))
 
 -- the packages of a configuration that has one of this number
-pub numbered_fails : (files : List ℕ → FileOf) (path : List ℕ) (number : ℕ) (config : Config) (slice : List (String Global)) (told : RunFault) → Says config_of (files path) (config_seen config) → slice ≡ config.packages.items
+pub numbered_fails : (files : List ℕ → FileOf) (path : List ℕ) (number : ℕ) (config : Config) (slice : List (String Global)) (told : JobFault) → Says config_of (files path) (config_seen config) → slice ≡ config.packages.items
     → 1 ≤ number → number ≤ length slice → (told ≡ faults.Memory) ⊎ PackagesFail files (map (λ q. string_bytes q) slice) told → (told ≡ faults.Memory) ⊎ NumberedSetupFails files path number told
 numbered_fails files path number config slice told says is counted there (inl e) = inl e
 numbered_fails files path number config slice told says is counted there (inr f) =
@@ -226,7 +226,7 @@ set_up files source config ps packs devices w says are stocked lent is = record 
 }
 
 -- or the store of a device can't be opened
-pub stores_fail : (files : List ℕ → FileOf) (source : SourceOf) (config : Config) (ps : List PackageText) (told : RunFault) → Says config_of (files source.path) (config_seen config)
+pub stores_fail : (files : List ℕ → FileOf) (source : SourceOf) (config : Config) (ps : List PackageText) (told : JobFault) → Says config_of (files source.path) (config_seen config)
     → ArePackages files (map (λ p. string_bytes p) config.packages.items) ps → (told ≡ faults.Memory) ⊎ IsSomeAnd source.stores (λ s. TellsUnopened s (map device_of config.devices.items) told)
     → (told ≡ faults.Memory) ⊎ StoresFail files source told
 stores_fail files source config ps told says are (inl e) = inl e
@@ -246,13 +246,13 @@ pub some_stocked : (stores : List ℕ → StoresOf) (root : Option (List ℕ)) (
     → AreDevices (option_map stores root) configured devices
 some_stocked stores root folder configured devices e h = subst (λ r. AreDevices (option_map stores r) configured devices) (sym e) h
 
-pub some_unopened : (stores : List ℕ → StoresOf) (root : Option (List ℕ)) (folder : List ℕ) (configured : List DeviceConfigOf) (told : RunFault) → root ≡ Some folder
+pub some_unopened : (stores : List ℕ → StoresOf) (root : Option (List ℕ)) (folder : List ℕ) (configured : List DeviceConfigOf) (told : JobFault) → root ≡ Some folder
     → (told ≡ faults.Memory) ⊎ TellsUnopened (stores folder) configured told
     → (told ≡ faults.Memory) ⊎ IsSomeAnd (option_map stores root) (λ s. TellsUnopened s configured told)
 some_unopened stores root folder configured told e (inl memory) = inl memory
 some_unopened stores root folder configured told e (inr h) = inr (subst (λ r. IsSomeAnd (option_map stores r) (λ s. TellsUnopened s configured told)) (sym e) h)
 
-pub told_unopened : (s : StoresOf) (devices : List DeviceConfigOf) (u : Unopened) (told : RunFault) → (told ≡ faults.Memory) ⊎ (told ≡ faults.Store u.device u.why) → IsUnopened s devices u
+pub told_unopened : (s : StoresOf) (devices : List DeviceConfigOf) (u : Unopened) (told : JobFault) → (told ≡ faults.Memory) ⊎ (told ≡ faults.Store u.device u.why) → IsUnopened s devices u
     → (told ≡ faults.Memory) ⊎ TellsUnopened s devices told
 told_unopened s devices u told (inl e) h = inl e
 told_unopened s devices u told (inr e) h = inr (subst (TellsUnopened s devices) (sym e) h)
@@ -307,7 +307,7 @@ watched_by files source number show w named path names e same apart = record {
 }
 
 -- if the observer doesn't begin
-pub barred_by : (files : List ℕ → FileOf) (source : SourceOf) (number : ℕ) (show : ShowOf) (refuses : List ℕ → Bool) (told : RunFault) (watched : ObserverOf) (w : WorldOf)
+pub barred_by : (files : List ℕ → FileOf) (source : SourceOf) (number : ℕ) (show : ShowOf) (refuses : List ℕ → Bool) (told : JobFault) (watched : ObserverOf) (w : WorldOf)
     (named : IsNumberedSetup files source number w) (path : List ℕ) (names : List (List ℕ)) → source.path ≡ path → named.setup.config.packages ≡ names
     → (told ≡ faults.Memory) ⊎ IsBarred files refuses show (path ∷ names) told watched → (told ≡ faults.Memory) ⊎ LacksTrace files source number show refuses told watched
 barred_by files source number show refuses told watched w named path names e same (inl memory) = inl memory

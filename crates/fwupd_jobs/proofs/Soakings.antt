@@ -17,8 +17,8 @@ use Rattle.fwupd_watch.specs.Outputs.{FailsToWriteOutput, OutputOf, WritesOutput
 use Rattle.fwupd_jobs.specs.Setups.{ArePacked, Says}
 use Rattle.fwupd_watch.specs.Files.{FileOf, IsApartFrom}
 use Rattle.fwupd_jobs.specs.Soaked.{ReportsViolation, SoakEnds, Soaks, SoaksClean, setup_of_config}
-use Rattle.fwupd_watch.specs.declared.faults.RunFault.{RunFault}
-use Rattle.fwupd_watch.specs.declared.faults.RunFault.TheVariants as faults
+use Rattle.fwupd_watch.specs.declared.faults.JobFault.{JobFault}
+use Rattle.fwupd_watch.specs.declared.faults.JobFault.TheVariants as faults
 use Rattle.fwupd_jobs.proofs.Packed.{packages_so, through}
 
 -- the runs of a configuration in a file
@@ -57,7 +57,7 @@ ends_clean files path order file sum kept before now e h none written = record {
 }
 
 -- a run had a violation
-pub ends_wrong : (files : List ℕ → FileOf) (path : List ℕ) (order : SoakOrder) (file : Option (List ℕ)) (told : RunFault) (is_known : Bool) (held : List ℕ → Option (List ℕ)) (sum : Summary)
+pub ends_wrong : (files : List ℕ → FileOf) (path : List ℕ) (order : SoakOrder) (file : Option (List ℕ)) (told : JobFault) (is_known : Bool) (held : List ℕ → Option (List ℕ)) (sum : Summary)
     (kept : Option (List Step)) (before now : OutputOf) → ReportsViolation kept file told is_known held → Soaks files path file order.runs sum kept → WritesOutput before now (summary_text sum)
     → SoakEnds files path order file told is_known held before now
 ends_wrong files path order file told is_known held sum None before now judged h written = absurd judged
@@ -65,7 +65,7 @@ ends_wrong files path order file told is_known held sum (Some steps) before now 
     inl (record { sum = sum; steps = steps; soaks = h; written = written; judged = judged })
 
 -- the totals aren't written as a whole
-pub ends_broken : (files : List ℕ → FileOf) (path : List ℕ) (order : SoakOrder) (file : Option (List ℕ)) (told : RunFault) (is_known : Bool) (held : List ℕ → Option (List ℕ)) (sum : Summary)
+pub ends_broken : (files : List ℕ → FileOf) (path : List ℕ) (order : SoakOrder) (file : Option (List ℕ)) (told : JobFault) (is_known : Bool) (held : List ℕ → Option (List ℕ)) (sum : Summary)
     (kept : Option (List Step)) (before now : OutputOf) → told ≡ faults.Output → Soaks files path file order.runs sum kept → FailsToWriteOutput before now (summary_text sum)
     → SoakEnds files path order file told is_known held before now
 ends_broken files path order file told is_known held sum kept before now is h begun =

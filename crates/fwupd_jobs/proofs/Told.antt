@@ -17,12 +17,12 @@ use Rattle.fwupd_watch.specs.Recordings.{HasRecordedSteps}
 use Rattle.fwupd_watch.specs.declared.running.ObserverFault.{ObserverFault}
 use Rattle.fwupd_jobs.specs.Updated.{DrivingEnds, IsUnlinked, IsObservedSetup, LacksLink, LacksTrace, NamesLost, UpdateEnds}
 use Rattle.fwupd_watch.specs.Apart.{IsApart, IsBarred}
-use Rattle.fwupd_watch.specs.Running.{IsBrokenRun, ShowOf, RunsSteps, RunsStepsSeen, ObserverOf, shown_of, starts_of, run_fault_of_observer}
+use Rattle.fwupd_watch.specs.Running.{IsBrokenRun, ShowOf, RunsSteps, RunsStepsSeen, ObserverOf, shown_of, starts_of, job_fault_of_observer}
 use Rattle.fwupd_watch.specs.Files.{FileOf}
 use Rattle.fwupd_jobs.specs.Setups.{IsSetup, LacksPackage, NumberedSetupFails, Says, SourceOf, StoresFail, TellsStore, TextFails}
 use Rattle.fw_edge.specs.declared.driving.EdgeFault.TheVariants as edges
-use Rattle.fwupd_watch.specs.declared.faults.RunFault.{RunFault}
-use Rattle.fwupd_watch.specs.declared.faults.RunFault.TheVariants as faults
+use Rattle.fwupd_watch.specs.declared.faults.JobFault.{JobFault}
+use Rattle.fwupd_watch.specs.declared.faults.JobFault.TheVariants as faults
 
 -- the world after the steps is safe
 pub safe_reached : (number : ℕ) (w v : WorldOf) → PacketsAreSafe → IsOpeningWorld w → RunsSteps number w v → IsSafeSince w v
@@ -45,13 +45,13 @@ replayed_by w x v steps fault form text is opens law left report =
     })
 
 -- the observer doesn't begin
-pub unbegun : (files : List ℕ → FileOf) (source : SourceOf) (number : ℕ) (show : ShowOf) (refuses : List ℕ → Bool) (lacks : ℕ → Bool) (told : RunFault) (watched : ObserverOf) (before : OutputOf)
+pub unbegun : (files : List ℕ → FileOf) (source : SourceOf) (number : ℕ) (show : ShowOf) (refuses : List ℕ → Bool) (lacks : ℕ → Bool) (told : JobFault) (watched : ObserverOf) (before : OutputOf)
     → (told ≡ faults.Memory) ⊎ LacksTrace files source number show refuses told watched → UpdateEnds files source number show refuses lacks told watched before before
 unbegun files source number show refuses lacks told watched before (inl e) = inr (inr (record { kept = refl; cause = inl e }))
 unbegun files source number show refuses lacks told watched before (inr h) = inr (inr (record { kept = refl; cause = inr (inr (inr (inr (inl h)))) }))
 
 -- a link can't be opened
-unopened : (files : List ℕ → FileOf) (source : SourceOf) (number : ℕ) (show : ShowOf) (refuses : List ℕ → Bool) (lacks : ℕ → Bool) (w : WorldOf) (told : RunFault) (watched : ObserverOf) → IsObservedSetup files source number show w
+unopened : (files : List ℕ → FileOf) (source : SourceOf) (number : ℕ) (show : ShowOf) (refuses : List ℕ → Bool) (lacks : ℕ → Bool) (w : WorldOf) (told : JobFault) (watched : ObserverOf) → IsObservedSetup files source number show w
     → (told ≡ faults.Memory) ⊎ IsUnlinked w lacks told
     → (told ≡ faults.Memory)
     ⊎ (NumberedSetupFails files source.path number told
@@ -60,7 +60,7 @@ unopened files source number show refuses lacks w told watched begins (inl e) = 
 unopened files source number show refuses lacks w told watched begins (inr u) = inr (inr (inr (inr (inr (record { world = w; begins = begins; unlinked = u })))))
 
 -- a run over links that failed
-pub update_ends : (files : List ℕ → FileOf) (source : SourceOf) (number : ℕ) (show : ShowOf) (refuses : List ℕ → Bool) (lacks : ℕ → Bool) (w v : WorldOf) (told : RunFault) (watched : ObserverOf) (before now : OutputOf)
+pub update_ends : (files : List ℕ → FileOf) (source : SourceOf) (number : ℕ) (show : ShowOf) (refuses : List ℕ → Bool) (lacks : ℕ → Bool) (w v : WorldOf) (told : JobFault) (watched : ObserverOf) (before now : OutputOf)
     → IsObservedSetup files source number show w → watched.shows ≡ shown_of show → RunsSteps number w v → IsSafeSince w v → RunsStepsSeen number w v watched.seen → (told ≡ faults.Edge edges.Frame → NamesLost v watched.lost)
     → (IsBrokenRun told → watched.fault ≡ None → IfSome watched.recording (HasRecordedSteps w v)) → (IsBrokenRun told → MayHaveHistoryLines watched.history v.history) → DrivingEnds number show.form lacks w v told watched before now
     → UpdateEnds files source number show refuses lacks told watched before now
@@ -72,55 +72,55 @@ update_ends files source number show refuses lacks w v told watched before now b
     inr (inr (record { kept = h.1; cause = unopened files source number show refuses lacks w told watched begins h.0 }))
 
 -- the store of a device can't be opened
-pub stores_end : (files : List ℕ → FileOf) (source : SourceOf) (number : ℕ) (show : ShowOf) (refuses : List ℕ → Bool) (lacks : ℕ → Bool) (told : RunFault) (watched : ObserverOf) (before : OutputOf)
+pub stores_end : (files : List ℕ → FileOf) (source : SourceOf) (number : ℕ) (show : ShowOf) (refuses : List ℕ → Bool) (lacks : ℕ → Bool) (told : JobFault) (watched : ObserverOf) (before : OutputOf)
     → (told ≡ faults.Memory) ⊎ StoresFail files source told → UpdateEnds files source number show refuses lacks told watched before before
 stores_end files source number show refuses lacks told watched before (inl e) = inr (inr (record { kept = refl; cause = inl e }))
 stores_end files source number show refuses lacks told watched before (inr h) = inr (inr (record { kept = refl; cause = inr (inr (inr (inl h))) }))
 
-pub stores_end_replay : (files : List ℕ → FileOf) (config : SourceOf) (schedule : List ℕ) (show : ShowOf) (refuses : List ℕ → Bool) (told : RunFault) (watched : ObserverOf) (before : OutputOf)
+pub stores_end_replay : (files : List ℕ → FileOf) (config : SourceOf) (schedule : List ℕ) (show : ShowOf) (refuses : List ℕ → Bool) (told : JobFault) (watched : ObserverOf) (before : OutputOf)
     → (told ≡ faults.Memory) ⊎ StoresFail files config told → ReplayEnds files config schedule show refuses told watched before before
 stores_end_replay files config schedule show refuses told watched before (inl e) = inr (inr (inl (record { kept = refl; cause = inl e })))
 stores_end_replay files config schedule show refuses told watched before (inr h) = inr (inr (inl (record { kept = refl; cause = inr (inr (inl h)) })))
 
 -- later faults aren't those of a store
-pub barred_of_none : (files : List ℕ → FileOf) (refuses : List ℕ → Bool) (show : ShowOf) (paths : List (List ℕ)) (told : RunFault) (watched : ObserverOf)
+pub barred_of_none : (files : List ℕ → FileOf) (refuses : List ℕ → Bool) (show : ShowOf) (paths : List (List ℕ)) (told : JobFault) (watched : ObserverOf)
     → (told ≡ faults.Memory) ⊎ IsBarred files refuses show paths told watched → TellsStore told → ⊥
 barred_of_none files refuses show paths (faults.Store device why) watched (inl e) tells = subst TellsStore e tells
 barred_of_none files refuses show paths (faults.Store device why) watched (inr (inl h)) tells = h
 barred_of_none files refuses show paths (faults.Store device why) watched (inr (inr h)) tells = h.1
 barred_of_none files refuses show paths told watched h tells = tells
 
-broken_of_none : (told : RunFault) → IsBrokenRun told → TellsStore told → ⊥
+broken_of_none : (told : JobFault) → IsBrokenRun told → TellsStore told → ⊥
 broken_of_none (faults.Store device why) broken tells = broken
 broken_of_none told broken tells = tells
 
-nothing_of_none : (w : WorldOf) (lacks : ℕ → Bool) (told : RunFault) → (told ≡ faults.Memory) ⊎ IsUnlinked w lacks told → TellsStore told → ⊥
+nothing_of_none : (w : WorldOf) (lacks : ℕ → Bool) (told : JobFault) → (told ≡ faults.Memory) ⊎ IsUnlinked w lacks told → TellsStore told → ⊥
 nothing_of_none w lacks told (inl e) tells = subst TellsStore e tells
 nothing_of_none w lacks told (inr u) tells = subst TellsStore u.is tells
 
-pub driven_of_none : (number : ℕ) (form : Form) (lacks : ℕ → Bool) (w v : WorldOf) (told : RunFault) (watched : ObserverOf) (before now : OutputOf) → DrivingEnds number form lacks w v told watched before now
+pub driven_of_none : (number : ℕ) (form : Form) (lacks : ℕ → Bool) (w v : WorldOf) (told : JobFault) (watched : ObserverOf) (before now : OutputOf) → DrivingEnds number form lacks w v told watched before now
     → TellsStore told → ⊥
 driven_of_none number form lacks w v told watched before now (inl h) tells = broken_of_none told h.0.broken tells
 driven_of_none number form lacks w v told watched before now (inr (inl h)) tells = subst TellsStore h.0 tells
 driven_of_none number form lacks w v told watched before now (inr (inr h)) tells = nothing_of_none w lacks told h.0 tells
 
 -- a replay whose schedule can't be read
-pub schedule_ends : (files : List ℕ → FileOf) (config : SourceOf) (schedule : List ℕ) (show : ShowOf) (refuses : List ℕ → Bool) (w : WorldOf) (told : RunFault) (watched : ObserverOf) (before : OutputOf) → IsSetup files config w
+pub schedule_ends : (files : List ℕ → FileOf) (config : SourceOf) (schedule : List ℕ) (show : ShowOf) (refuses : List ℕ → Bool) (w : WorldOf) (told : JobFault) (watched : ObserverOf) (before : OutputOf) → IsSetup files config w
     → (told ≡ faults.Memory) ⊎ TextFails script_of files schedule told → ReplayEnds files config schedule show refuses told watched before before
 schedule_ends files config schedule show refuses w told watched before setup (inl e) = inr (inr (inl (record { kept = refl; cause = inl e })))
 schedule_ends files config schedule show refuses w told watched before setup (inr f) =
     inr (inr (inl (record { kept = refl; cause = inr (inr (inr (record { world = w; setup = setup; fails = f }))) })))
 
 -- a replay whose observer doesn't begin
-pub unkept_ends : (files : List ℕ → FileOf) (config : SourceOf) (schedule : List ℕ) (show : ShowOf) (refuses : List ℕ → Bool) (told : RunFault) (watched : ObserverOf) (before : OutputOf) (c : ConfigOf) (paths : List (List ℕ))
+pub unkept_ends : (files : List ℕ → FileOf) (config : SourceOf) (schedule : List ℕ) (show : ShowOf) (refuses : List ℕ → Bool) (told : JobFault) (watched : ObserverOf) (before : OutputOf) (c : ConfigOf) (paths : List (List ℕ))
     → Says config_of (files config.path) c → paths ≡ c.packages → (told ≡ faults.Memory) ⊎ IsBarred files refuses show (schedule ∷ config.path ∷ paths) told watched → ReplayEnds files config schedule show refuses told watched before before
 unkept_ends files config schedule show refuses told watched before c paths says same (inl e) = inr (inr (inl (record { kept = refl; cause = inl e })))
 unkept_ends files config schedule show refuses told watched before c paths says same (inr b) =
     inr (inr (inr (inr (record { kept = refl; says = c; is = says; barred = subst (λ ps. IsBarred files refuses show (schedule ∷ config.path ∷ ps) told watched) same b }))))
 
 -- a replay whose report is written, and whose observer had a fault
-pub unseen_ends : (files : List ℕ → FileOf) (config : SourceOf) (schedule : List ℕ) (show : ShowOf) (refuses : List ℕ → Bool) (fault : ObserverFault) (told : RunFault) (watched : ObserverOf) (before now : OutputOf)
-    → Reports files config schedule show.form None before now → told ≡ run_fault_of_observer fault → watched.fault ≡ Some fault → watched.has_ended ≡ true → ReplayEnds files config schedule show refuses told watched before now
+pub unseen_ends : (files : List ℕ → FileOf) (config : SourceOf) (schedule : List ℕ) (show : ShowOf) (refuses : List ℕ → Bool) (fault : ObserverFault) (told : JobFault) (watched : ObserverOf) (before now : OutputOf)
+    → Reports files config schedule show.form None before now → told ≡ job_fault_of_observer fault → watched.fault ≡ Some fault → watched.has_ended ≡ true → ReplayEnds files config schedule show refuses told watched before now
 unseen_ends files config schedule show refuses fault told watched before now reports is had ended =
     inr (inr (inr (inl (record { reports = reports; fault = fault; is = is; had = had; let_end = ended }))))
 

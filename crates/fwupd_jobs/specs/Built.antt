@@ -13,8 +13,8 @@ use Rattle.fw_script.specs.declared.faults.ScriptCause.TheVariants as causes
 use Rattle.fw_script.specs.declared.faults.ScriptFault.{ScriptFault}
 use Rattle.fwupd_watch.specs.Files.{FileOf, IsApartFrom, IsOver, MayHold}
 use Rattle.fwupd_jobs.specs.Setups.{IsUnread, Says, TextFails}
-use Rattle.fwupd_watch.specs.declared.faults.RunFault.{RunFault}
-use Rattle.fwupd_watch.specs.declared.faults.RunFault.TheVariants as faults
+use Rattle.fwupd_watch.specs.declared.faults.JobFault.{JobFault}
+use Rattle.fwupd_watch.specs.declared.faults.JobFault.TheVariants as faults
 
 -- the package of a description, with these images
 abbrev pub record_by : SpecRecordOf → AskedRecordOf
@@ -66,11 +66,11 @@ pub record IsBuilt (files : List ℕ → FileOf) (path bytes : List ℕ) : Type 
   pub reads : package_of bytes ≡ Ok (package_for (asked_by spec images) images)
 
 -- The first of the images' files that can't be read, and the fault.
-abbrev pub ImageFails : (files : List ℕ → FileOf) → Option (List ℕ) → RunFault → Type 0
+abbrev pub ImageFails : (files : List ℕ → FileOf) → Option (List ℕ) → JobFault → Type 0
 ImageFails files None told = ⊥
 ImageFails files (Some path) told = IsUnread path (files path) told
 
-pub record ImagesFail (files : List ℕ → FileOf) (components : List SpecComponentOf) (told : RunFault) : Type 0 where
+pub record ImagesFail (files : List ℕ → FileOf) (components : List SpecComponentOf) (told : JobFault) : Type 0 where
   pub before : List SpecComponentOf
   pub component : SpecComponentOf
   pub after : List SpecComponentOf
@@ -92,24 +92,24 @@ pub record IsBuildRefusal (spec : PackageSpecOf) (images : List (List ℕ)) (tol
   pub is : refusal_of (asked_by spec images) ≡ Some refusal
   pub told_so : told ≡ script_fault_of_refusal spec refusal
 
-abbrev pub IsBuildFault : (path : List ℕ) → PackageSpecOf → List (List ℕ) → RunFault → Type 0
+abbrev pub IsBuildFault : (path : List ℕ) → PackageSpecOf → List (List ℕ) → JobFault → Type 0
 IsBuildFault path spec images (faults.Text name told) = (string_bytes name ≡ path) × IsBuildRefusal spec images told
 IsBuildFault path spec images told = ⊥
 
 -- why nothing is built from the description in a file
-pub record SpecFails (files : List ℕ → FileOf) (path : List ℕ) (told : RunFault) : Type 0 where
+pub record SpecFails (files : List ℕ → FileOf) (path : List ℕ) (told : JobFault) : Type 0 where
   pub spec : PackageSpecOf
   pub says : Says package_spec_of (files path) spec
   pub fails : ImagesFail files spec.components told
 
-pub record PackageRefused (files : List ℕ → FileOf) (path : List ℕ) (told : RunFault) : Type 0 where
+pub record PackageRefused (files : List ℕ → FileOf) (path : List ℕ) (told : JobFault) : Type 0 where
   pub spec : PackageSpecOf
   pub images : List (List ℕ)
   pub says : Says package_spec_of (files path) spec
   pub are : AreImages files spec.components images
   pub refused : IsBuildFault path spec images told
 
-abbrev pub BuildEnds : (files : List ℕ → FileOf) → (path : List ℕ) → RunFault → Type 0
+abbrev pub BuildEnds : (files : List ℕ → FileOf) → (path : List ℕ) → JobFault → Type 0
 BuildEnds files path told =
     (told ≡ faults.Memory) ⊎ ((told ≡ faults.Output) ⊎ (TextFails package_spec_of files path told ⊎ (SpecFails files path told ⊎ PackageRefused files path told)))
 

@@ -7,7 +7,7 @@ use Rattle.fwupd_jobs.specs.Sessions.{AllDone, TellsUndone}
 use Rattle.fwupd_watch.specs.Files.{FileOf}
 use Rattle.fwupd_jobs.specs.Setups.{SourceOf}
 use Rattle.fwupd_words.specs.declared.asked.Order.{Order}
-use Rattle.fwupd_watch.specs.declared.faults.RunFault.{RunFault}
+use Rattle.fwupd_watch.specs.declared.faults.JobFault.{JobFault}
 use Rattle.fwupd_jobs.specs.declared.sessions.Undone.{Undone}
 
 -- The report is written. If that is requested, each session of its world is Done.
@@ -17,14 +17,14 @@ pub record ReportsChecked (files : List ℕ → FileOf) (config : SourceOf) (ord
   pub all_done : order.is_checked ≡ true → AllDone reports.left
 
 -- The report is written, and the fault is the first session of its world that isn't Done.
-pub record ReportsUndone (files : List ℕ → FileOf) (config : SourceOf) (order : Order) (show : ShowOf) (told : RunFault) (watched : ObserverOf) (before now : OutputOf) : Type 0 where
+pub record ReportsUndone (files : List ℕ → FileOf) (config : SourceOf) (order : Order) (show : ShowOf) (told : JobFault) (watched : ObserverOf) (before now : OutputOf) : Type 0 where
   pub asked : order.is_checked ≡ true
   pub undone : Undone
   pub reports : ReportsUpdate files config order.number show watched before now (Some undone)
   pub tells : TellsUndone undone told
 
 -- The result of a run that failed.
-abbrev pub CheckedEnds : (files : List ℕ → FileOf) (config : SourceOf) (order : Order) (show : ShowOf) (refuses : List ℕ → Bool) (lacks : ℕ → Bool) (told : RunFault) (watched : ObserverOf) (before now : OutputOf) → Type 0
+abbrev pub CheckedEnds : (files : List ℕ → FileOf) (config : SourceOf) (order : Order) (show : ShowOf) (refuses : List ℕ → Bool) (lacks : ℕ → Bool) (told : JobFault) (watched : ObserverOf) (before now : OutputOf) → Type 0
 CheckedEnds files config order show refuses lacks told watched before now =
     ReportsUndone files config order show told watched before now
     ⊎ UpdateEnds files config order.number show refuses lacks told watched before now

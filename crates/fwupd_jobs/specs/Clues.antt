@@ -5,8 +5,8 @@ use Rattle.fwupd_words.specs.declared.asked.Job.TheVariants as jobs
 use Rattle.fwupd_words.specs.declared.asked.Show.{Show}
 use Rattle.fwupd_jobs.specs.declared.clues.Clue.{Clue}
 use Rattle.fwupd_jobs.specs.declared.clues.Clue.TheVariants as clues
-use Rattle.fwupd_watch.specs.declared.faults.RunFault.{RunFault}
-use Rattle.fwupd_watch.specs.declared.faults.RunFault.TheVariants as faults
+use Rattle.fwupd_watch.specs.declared.faults.JobFault.{JobFault}
+use Rattle.fwupd_watch.specs.declared.faults.JobFault.TheVariants as faults
 
 -- A clue, by the paths that it names.
 pub data ClueOf : Type 0 where
@@ -24,7 +24,7 @@ clue_seen (clues.Unwritten path) = ClueOf.Unwritten path.now
 clue_seen (clues.History folder) = ClueOf.OfHistory folder.now
 
 -- the output that can't be written
-abbrev pub clue_to_shown : Show → RunFault → Option ClueOf
+abbrev pub clue_to_shown : Show → JobFault → Option ClueOf
 clue_to_shown show faults.Trace = option_map (λ path. ClueOf.Unwritten path.now) show.trace
 clue_to_shown show faults.Log = option_map (λ path. ClueOf.Unwritten path.now) show.log
 clue_to_shown show faults.Record = option_map (λ path. ClueOf.Unwritten path.now) show.record
@@ -44,7 +44,7 @@ clue_to_step (jobs.Replay config schedule show) number = Some (ClueOf.OfStep sch
 clue_to_step job number = None
 
 -- the file that a job makes and can't write
-abbrev pub clue_to_output : Job → RunFault → Option ClueOf
+abbrev pub clue_to_output : Job → JobFault → Option ClueOf
 clue_to_output (jobs.Soak config order path) faults.Record = option_map (λ p. ClueOf.Unwritten p.now) path
 clue_to_output (jobs.Build spec path) faults.Output = Some (ClueOf.Unwritten path.now)
 clue_to_output (jobs.Replay config schedule show) fault = clue_to_shown show fault
@@ -52,7 +52,7 @@ clue_to_output (jobs.Run config folder order show) fault = clue_to_shown show fa
 clue_to_output job fault = None
 
 -- the clue to why a job ended with a fault
-abbrev pub clue_of : Job → RunFault → Option ClueOf
+abbrev pub clue_of : Job → JobFault → Option ClueOf
 clue_of job (faults.Unreadable path) = Some (ClueOf.Unread (string_bytes path))
 clue_of job (faults.Package fault) = clue_to_package job
 clue_of job (faults.Step number fault) = clue_to_step job number

@@ -6,15 +6,15 @@ use Rattle.fwupd_base.specs.declared.forms.Form.{Form}
 use Rattle.fwupd_watch.specs.Outputs.{FailsToWriteOutput, OutputOf, WritesOutput}
 use Rattle.fwupd_watch.specs.Files.{FileOf}
 use Rattle.fwupd_jobs.specs.Setups.{IsPackageFile, PackageFails}
-use Rattle.fwupd_watch.specs.declared.faults.RunFault.{RunFault}
-use Rattle.fwupd_watch.specs.declared.faults.RunFault.TheVariants as faults
+use Rattle.fwupd_watch.specs.declared.faults.JobFault.{JobFault}
+use Rattle.fwupd_watch.specs.declared.faults.JobFault.TheVariants as faults
 use Rattle.fwupd_base.specs.declared.inspection.InspectFault.{InspectFault}
 use Rattle.fwupd_base.specs.declared.inspection.InspectFault.TheVariants as inspected
 
 -- the fault of a package that can't be inspected
-abbrev pub run_fault_of_inspection : InspectFault → RunFault
-run_fault_of_inspection (inspected.Package fault) = faults.Package fault
-run_fault_of_inspection inspected.Memory = faults.Memory
+abbrev pub job_fault_of_inspection : InspectFault → JobFault
+job_fault_of_inspection (inspected.Package fault) = faults.Package fault
+job_fault_of_inspection inspected.Memory = faults.Memory
 
 -- The text of the package is written.
 pub record Inspects (file : FileOf) (form : Form) (before now : OutputOf) : Type 0 where
@@ -23,7 +23,7 @@ pub record Inspects (file : FileOf) (form : Form) (before now : OutputOf) : Type
   pub written : WritesOutput before now (inspection_in form contents)
 
 -- A beginning of the text is written.
-pub record BreaksInspection (file : FileOf) (form : Form) (told : RunFault) (before now : OutputOf) : Type 0 where
+pub record BreaksInspection (file : FileOf) (form : Form) (told : JobFault) (before now : OutputOf) : Type 0 where
   pub is : told ≡ faults.Output
   pub contents : PackageText
   pub read : IsPackageFile file contents
@@ -31,6 +31,6 @@ pub record BreaksInspection (file : FileOf) (form : Form) (told : RunFault) (bef
 
 -- The result of an inspection that failed. If writing didn't fail, nothing is written, and memory
 -- was refused, or the file can't be read or isn't a package.
-abbrev pub InspectEnds : (files : List ℕ → FileOf) (path : List ℕ) (form : Form) → RunFault → (before now : OutputOf) → Type 0
+abbrev pub InspectEnds : (files : List ℕ → FileOf) (path : List ℕ) (form : Form) → JobFault → (before now : OutputOf) → Type 0
 InspectEnds files path form told before now =
     BreaksInspection (files path) form told before now ⊎ (((told ≡ faults.Memory) ⊎ PackageFails files path told) × (now ≡ before))

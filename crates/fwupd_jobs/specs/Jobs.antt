@@ -15,7 +15,7 @@ use Rattle.fwupd_jobs.specs.Setups.{any_stores, source_of}
 use Rattle.fwupd_jobs.specs.Soaked.{SoakEnds, SoaksClean}
 use Rattle.fwupd_words.specs.declared.asked.Job.{Job}
 use Rattle.fwupd_words.specs.declared.asked.Job.TheVariants as jobs
-use Rattle.fwupd_watch.specs.declared.faults.RunFault.{RunFault}
+use Rattle.fwupd_watch.specs.declared.faults.JobFault.{JobFault}
 
 -- A job is done: its output is written.
 abbrev pub IsDone : Job → (files : List ℕ → FileOf) → (stores : (root : List ℕ) → StoresOf) → (read_before read_now : Option (List ℕ)) → ObserverOf → (is_known : Bool) → (held : List ℕ → Option (List ℕ)) → (before now : OutputOf) → Type 0
@@ -29,7 +29,7 @@ IsDone (jobs.Soak config order file) files stores read_before read_now watched i
 IsDone (jobs.Plan config number form) files stores read_before read_now watched is_known held before now = Plans files config.now number form before now
 
 -- The result of a job that isn't done.
-abbrev pub JobEnds : Job → (files : List ℕ → FileOf) → (stores : (root : List ℕ) → StoresOf) → (refuses : (trace : List ℕ) → Bool) → (lacks : (folder : List ℕ) → (device : ℕ) → Bool) → (read_before read_now : Option (List ℕ)) → RunFault → ObserverOf → (is_known : Bool) → (held : List ℕ → Option (List ℕ)) → (before now : OutputOf) → Type 0
+abbrev pub JobEnds : Job → (files : List ℕ → FileOf) → (stores : (root : List ℕ) → StoresOf) → (refuses : (trace : List ℕ) → Bool) → (lacks : (folder : List ℕ) → (device : ℕ) → Bool) → (read_before read_now : Option (List ℕ)) → JobFault → ObserverOf → (is_known : Bool) → (held : List ℕ → Option (List ℕ)) → (before now : OutputOf) → Type 0
 JobEnds (jobs.Answer endpoint) files stores refuses lacks read_before read_now told watched is_known held before now = AnswerEnds endpoint read_before read_now told before now
 JobEnds (jobs.Inspect path form) files stores refuses lacks read_before read_now told watched is_known held before now = InspectEnds files path.now form told before now
 JobEnds (jobs.Replay config schedule show) files stores refuses lacks read_before read_now told watched is_known held before now =
@@ -44,7 +44,7 @@ JobEnds (jobs.Plan config number form) files stores refuses lacks read_before re
 
 -- A job isn't done, and this holds for the fault.
 pub record IsUndone (job : Job) (files : List ℕ → FileOf) (stores : (root : List ℕ) → StoresOf) (refuses : (trace : List ℕ) → Bool) (lacks : (folder : List ℕ) → (device : ℕ) → Bool) (read_before read_now : Option (List ℕ)) (watched : ObserverOf) (is_known : Bool) (held : List ℕ → Option (List ℕ)) (before now : OutputOf) : Type 0 where
-  pub told : RunFault
+  pub told : JobFault
   pub ends : JobEnds job files stores refuses lacks read_before read_now told watched is_known held before now
 
 -- The exit status is 0 if the job is done, or 1 if it isn't.

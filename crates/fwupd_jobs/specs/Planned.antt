@@ -8,8 +8,8 @@ use Rattle.fwupd_base.specs.declared.forms.Form.{Form}
 use Rattle.fwupd_watch.specs.Outputs.{FailsToWriteOutput, OutputOf, WritesOutput}
 use Rattle.fwupd_jobs.specs.Setups.{ArePackages, LacksPackage, NumberedSetupFails, Says}
 use Rattle.fwupd_watch.specs.Files.{FileOf}
-use Rattle.fwupd_watch.specs.declared.faults.RunFault.{RunFault}
-use Rattle.fwupd_watch.specs.declared.faults.RunFault.TheVariants as faults
+use Rattle.fwupd_watch.specs.declared.faults.JobFault.{JobFault}
+use Rattle.fwupd_watch.specs.declared.faults.JobFault.TheVariants as faults
 
 -- A text is the plan of an update of the devices of the configuration in a file, with its package
 -- `number`, counted from 1.
@@ -29,7 +29,7 @@ pub record Plans (files : List ℕ → FileOf) (path : List ℕ) (number : ℕ) 
   pub written : WritesOutput before now text
 
 -- A beginning of the plan is written.
-pub record BreaksPlan (files : List ℕ → FileOf) (path : List ℕ) (number : ℕ) (form : Form) (told : RunFault) (before now : OutputOf) : Type 0 where
+pub record BreaksPlan (files : List ℕ → FileOf) (path : List ℕ) (number : ℕ) (form : Form) (told : JobFault) (before now : OutputOf) : Type 0 where
   pub is : told ≡ faults.Output
   pub text : List ℕ
   pub forecasts : Forecasts files path number form text
@@ -37,7 +37,7 @@ pub record BreaksPlan (files : List ℕ → FileOf) (path : List ℕ) (number : 
 
 -- The result of a plan that failed. If writing didn't fail, nothing is written, and memory was
 -- refused, or an input is missing or faulty.
-abbrev pub PlanEnds : (files : List ℕ → FileOf) (path : List ℕ) (number : ℕ) (form : Form) (told : RunFault) (before now : OutputOf) → Type 0
+abbrev pub PlanEnds : (files : List ℕ → FileOf) (path : List ℕ) (number : ℕ) (form : Form) (told : JobFault) (before now : OutputOf) → Type 0
 PlanEnds files path number form told before now =
     BreaksPlan files path number form told before now
     ⊎ (((told ≡ faults.Memory) ⊎ (NumberedSetupFails files path number told ⊎ ((told ≡ faults.NoPackage) × LacksPackage files path number))) × (now ≡ before))

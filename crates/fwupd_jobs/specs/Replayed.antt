@@ -12,12 +12,12 @@ use Rattle.fw_steps.specs.declared.step.StepFault.{StepFault}
 use Rattle.fwupd_watch.specs.Outputs.{FailsToWriteOutput, OutputOf, WritesOutput}
 use Rattle.fwupd_jobs.specs.Promises.{IsSafeSince}
 use Rattle.fwupd_watch.specs.Apart.{IsApart, IsBarred}
-use Rattle.fwupd_watch.specs.Running.{ShowOf, ObserverOf, shown_of, run_fault_of_observer}
+use Rattle.fwupd_watch.specs.Running.{ShowOf, ObserverOf, shown_of, job_fault_of_observer}
 use Rattle.fwupd_watch.specs.Files.{FileOf}
 use Rattle.fwupd_jobs.specs.Setups.{IsSetup, Says, SetupFails, SourceOf, StoresFail, TextFails}
 use Rattle.fwupd_watch.specs.declared.running.ObserverFault.{ObserverFault}
-use Rattle.fwupd_watch.specs.declared.faults.RunFault.{RunFault}
-use Rattle.fwupd_watch.specs.declared.faults.RunFault.TheVariants as faults
+use Rattle.fwupd_watch.specs.declared.faults.JobFault.{JobFault}
+use Rattle.fwupd_watch.specs.declared.faults.JobFault.TheVariants as faults
 
 -- all steps are taken; or those before the one that is refused, for this reason
 abbrev pub LeavesWorld : WorldOf → List Step → Option (ℕ × StepFault) → WorldOf → Type 0
@@ -52,14 +52,14 @@ pub record Reports (files : List ℕ → FileOf) (config : SourceOf) (schedule :
   pub written : WritesOutput before now text
 
 -- The report is written, and a step, numbered from 1, is refused.
-pub record ReportsStep (files : List ℕ → FileOf) (config : SourceOf) (schedule : List ℕ) (form : Form) (told : RunFault) (before now : OutputOf) : Type 0 where
+pub record ReportsStep (files : List ℕ → FileOf) (config : SourceOf) (schedule : List ℕ) (form : Form) (told : JobFault) (before now : OutputOf) : Type 0 where
   pub place : ℕ
   pub fault : StepFault
   pub is : told ≡ faults.Step (place + 1) fault
   pub reports : Reports files config schedule form (Some (place, fault)) before now
 
 -- A beginning of the report is written.
-pub record BreaksOff (files : List ℕ → FileOf) (config : SourceOf) (schedule : List ℕ) (form : Form) (told : RunFault) (before now : OutputOf) : Type 0 where
+pub record BreaksOff (files : List ℕ → FileOf) (config : SourceOf) (schedule : List ℕ) (form : Form) (told : JobFault) (before now : OutputOf) : Type 0 where
   pub is : told ≡ faults.Output
   pub fault : Option (ℕ × StepFault)
   pub text : List ℕ
@@ -67,7 +67,7 @@ pub record BreaksOff (files : List ℕ → FileOf) (config : SourceOf) (schedule
   pub begun : FailsToWriteOutput before now text
 
 -- the world exists, and the schedule can't be read
-pub record ScheduleFails (files : List ℕ → FileOf) (config : SourceOf) (schedule : List ℕ) (told : RunFault) : Type 0 where
+pub record ScheduleFails (files : List ℕ → FileOf) (config : SourceOf) (schedule : List ℕ) (told : JobFault) : Type 0 where
   pub world : WorldOf
   pub setup : IsSetup files config world
   pub fails : TextFails script_of files schedule told
@@ -87,15 +87,15 @@ pub record ReportsReplay (files : List ℕ → FileOf) (config : SourceOf) (sche
   pub let_end : watched.has_ended ≡ true
 
 -- The report of all steps is written. The observer had a fault, which is reported.
-pub record ReportsUnseen (files : List ℕ → FileOf) (config : SourceOf) (schedule : List ℕ) (show : ShowOf) (told : RunFault) (watched : ObserverOf) (before now : OutputOf) : Type 0 where
+pub record ReportsUnseen (files : List ℕ → FileOf) (config : SourceOf) (schedule : List ℕ) (show : ShowOf) (told : JobFault) (watched : ObserverOf) (before now : OutputOf) : Type 0 where
   pub reports : Reports files config schedule show.form None before now
   pub fault : ObserverFault
-  pub is : told ≡ run_fault_of_observer fault
+  pub is : told ≡ job_fault_of_observer fault
   pub had : watched.fault ≡ Some fault
   pub let_end : watched.has_ended ≡ true
 
 -- Nothing is replayed: an input would be overwritten, or an output is refused.
-pub record LacksKept (files : List ℕ → FileOf) (config : SourceOf) (schedule : List ℕ) (show : ShowOf) (refuses : List ℕ → Bool) (told : RunFault) (watched : ObserverOf) (before now : OutputOf) : Type 0 where
+pub record LacksKept (files : List ℕ → FileOf) (config : SourceOf) (schedule : List ℕ) (show : ShowOf) (refuses : List ℕ → Bool) (told : JobFault) (watched : ObserverOf) (before now : OutputOf) : Type 0 where
   pub kept : now ≡ before
   pub says : ConfigOf
   pub is : Says config_of (files config.path) says
@@ -103,12 +103,12 @@ pub record LacksKept (files : List ℕ → FileOf) (config : SourceOf) (schedule
 
 -- Nothing is written: memory was refused, or one of the inputs, the first in their order, is
 -- faulty, or a device's store is.
-pub record StopsBefore (files : List ℕ → FileOf) (config : SourceOf) (schedule : List ℕ) (told : RunFault) (before now : OutputOf) : Type 0 where
+pub record StopsBefore (files : List ℕ → FileOf) (config : SourceOf) (schedule : List ℕ) (told : JobFault) (before now : OutputOf) : Type 0 where
   pub kept : now ≡ before
   pub cause : (told ≡ faults.Memory) ⊎ (SetupFails files config.path told ⊎ (StoresFail files config told ⊎ ScheduleFails files config schedule told))
 
 -- The result of a replay that failed.
-abbrev pub ReplayEnds : (files : List ℕ → FileOf) (config : SourceOf) (schedule : List ℕ) (show : ShowOf) (refuses : List ℕ → Bool) (told : RunFault) (watched : ObserverOf) (before now : OutputOf) → Type 0
+abbrev pub ReplayEnds : (files : List ℕ → FileOf) (config : SourceOf) (schedule : List ℕ) (show : ShowOf) (refuses : List ℕ → Bool) (told : JobFault) (watched : ObserverOf) (before now : OutputOf) → Type 0
 ReplayEnds files config schedule show refuses told watched before now =
     ReportsStep files config schedule show.form told before now
     ⊎ (BreaksOff files config schedule show.form told before now

@@ -6,8 +6,8 @@ use Rattle.fw_script.specs.Reports.{cause_name, session_name, session_of}
 use Rattle.fw_steps.specs.Worlds.{SiteOf, WorldOf}
 use Rattle.ua_core.specs.declared.state.SessionState.{SessionState}
 use Rattle.ua_core.specs.declared.state.SessionState.TheVariants as sessions
-use Rattle.fwupd_watch.specs.declared.faults.RunFault.{RunFault}
-use Rattle.fwupd_watch.specs.declared.faults.RunFault.TheVariants as faults
+use Rattle.fwupd_watch.specs.declared.faults.JobFault.{JobFault}
+use Rattle.fwupd_watch.specs.declared.faults.JobFault.TheVariants as faults
 use Rattle.fwupd_jobs.specs.declared.sessions.Undone.{Undone}
 
 -- each session of a world is Done
@@ -37,6 +37,6 @@ undone_word (Some (sessions.Failed cause)) = cause_name cause
 undone_word (Some state) = session_name state
 
 -- the fault names this device, and the name for its session
-abbrev pub TellsUndone : Undone → RunFault → Type 0
+abbrev pub TellsUndone : Undone → JobFault → Type 0
 TellsUndone u (faults.Session eid word) = (eid ≡ u.eid) × (word.now ≡ undone_word u.state)
 TellsUndone u fault = ⊥

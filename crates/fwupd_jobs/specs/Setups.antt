@@ -14,8 +14,8 @@ use Rattle.fw_steps.specs.Worlds.{WorldOf}
 use Rattle.fw_setup.specs.Nodes.{nodes_made}
 use Rattle.fw_setup.specs.Stocks.{HaveStoredImages, IsUnopened, StoresOf}
 use Rattle.fwupd_watch.specs.Files.{FileOf, MayHold}
-use Rattle.fwupd_watch.specs.declared.faults.RunFault.{RunFault}
-use Rattle.fwupd_watch.specs.declared.faults.RunFault.TheVariants as faults
+use Rattle.fwupd_watch.specs.declared.faults.JobFault.{JobFault}
+use Rattle.fwupd_watch.specs.declared.faults.JobFault.TheVariants as faults
 use Rattle.fwupd_watch.specs.declared.files.FileFault.{FileFault}
 use Rattle.fwupd_watch.specs.declared.files.FileFault.TheVariants as reasons
 
@@ -55,50 +55,50 @@ pub record IsNoPackage (file : FileOf) (fault : PackageFault) : Type 0 where
   pub is : package_of bytes ≡ Err fault
 
 -- the fault is that the file of this path can't be read
-abbrev pub IsUnreadable : (path : List ℕ) → RunFault → Type 0
+abbrev pub IsUnreadable : (path : List ℕ) → JobFault → Type 0
 IsUnreadable path (faults.Unreadable name) = string_bytes name ≡ path
 IsUnreadable path fault = ⊥
 
 -- and that may be the case
-abbrev pub IsUnread : (path : List ℕ) → (file : FileOf) → RunFault → Type 0
+abbrev pub IsUnread : (path : List ℕ) → (file : FileOf) → JobFault → Type 0
 IsUnread path file fault = IsUnreadable path fault × (file.may_fail ≡ true)
 
 -- the fault of a file with this name that can't be read; lack of memory, if there was none for the
 -- name
-abbrev pub run_fault_of_unread : {E : Type 0} → Result (String Global) E → FileFault → RunFault
-run_fault_of_unread (Ok name) reasons.Unreadable = faults.Unreadable name
-run_fault_of_unread name fault = faults.Memory
+abbrev pub job_fault_of_unread : {E : Type 0} → Result (String Global) E → FileFault → JobFault
+job_fault_of_unread (Ok name) reasons.Unreadable = faults.Unreadable name
+job_fault_of_unread name fault = faults.Memory
 
 -- and the fault of a text that isn't of its format
-abbrev pub misread_by : {E : Type 0} → Result (String Global) E → ScriptCause → ScriptFault → RunFault
+abbrev pub misread_by : {E : Type 0} → Result (String Global) E → ScriptCause → ScriptFault → JobFault
 misread_by (Err e) cause fault = faults.Memory
 misread_by (Ok name) causes.Memory fault = faults.Memory
 misread_by (Ok name) cause fault = faults.Text name fault
 
-abbrev pub run_fault_of_misread : {E : Type 0} → Result (String Global) E → ScriptFault → RunFault
-run_fault_of_misread name fault = misread_by name fault.cause fault
+abbrev pub job_fault_of_misread : {E : Type 0} → Result (String Global) E → ScriptFault → JobFault
+job_fault_of_misread name fault = misread_by name fault.cause fault
 
 -- the fault is that of the text in the file of this path
-abbrev pub TextFault : (path : List ℕ) → ScriptFault → RunFault → Type 0
+abbrev pub TextFault : (path : List ℕ) → ScriptFault → JobFault → Type 0
 TextFault path fault (faults.Text name told) = (string_bytes name ≡ path) × (told ≡ fault) × (fault.cause ≢ causes.Memory)
 TextFault path fault other = ⊥
 
 -- the text in the file of this path isn't of its format
-abbrev pub HasNoText : {A : Type 0} → (List ℕ → Result A ScriptFault) → (path : List ℕ) → (file : FileOf) → RunFault → Type 0
+abbrev pub HasNoText : {A : Type 0} → (List ℕ → Result A ScriptFault) → (path : List ℕ) → (file : FileOf) → JobFault → Type 0
 HasNoText read path file (faults.Text name fault) = (string_bytes name ≡ path) × IsFaulty read file fault
 HasNoText read path file fault = ⊥
 
 -- the file isn't a package
-abbrev pub IsNone : (file : FileOf) → RunFault → Type 0
+abbrev pub IsNone : (file : FileOf) → JobFault → Type 0
 IsNone file (faults.Package fault) = IsNoPackage file fault
 IsNone file fault = ⊥
 
 -- why a text can't be read from the file of a path
-abbrev pub TextFails : {A : Type 0} → (List ℕ → Result A ScriptFault) → (files : List ℕ → FileOf) → (path : List ℕ) → RunFault → Type 0
+abbrev pub TextFails : {A : Type 0} → (List ℕ → Result A ScriptFault) → (files : List ℕ → FileOf) → (path : List ℕ) → JobFault → Type 0
 TextFails read files path fault = IsUnread path (files path) fault ⊎ HasNoText read path (files path) fault
 
 -- and why a package can't be
-abbrev pub PackageFails : (files : List ℕ → FileOf) → (path : List ℕ) → RunFault → Type 0
+abbrev pub PackageFails : (files : List ℕ → FileOf) → (path : List ℕ) → JobFault → Type 0
 PackageFails files path fault = IsUnread path (files path) fault ⊎ IsNone (files path) fault
 
 -- the files of the paths are the packages, one by one
@@ -108,7 +108,7 @@ ArePackages files (path ∷ paths) (p ∷ ps) = IsPackageFile (files path) p × 
 ArePackages files paths ps = ⊥
 
 -- the first of the files that isn't a package, and why
-pub record PackagesFail (files : List ℕ → FileOf) (paths : List (List ℕ)) (fault : RunFault) : Type 0 where
+pub record PackagesFail (files : List ℕ → FileOf) (paths : List (List ℕ)) (fault : JobFault) : Type 0 where
   pub before : List (List ℕ)
   pub path : List ℕ
   pub after : List (List ℕ)
@@ -147,38 +147,38 @@ pub record IsSetup (files : List ℕ → FileOf) (source : SourceOf) (w : WorldO
   pub world : w ≡ new_world config.agent (nodes_made config.unit config.agent.eid devices) packages
 
 -- why there is none
-pub record PackagesOfFail (files : List ℕ → FileOf) (path : List ℕ) (fault : RunFault) : Type 0 where
+pub record PackagesOfFail (files : List ℕ → FileOf) (path : List ℕ) (fault : JobFault) : Type 0 where
   pub config : ConfigOf
   pub says : Says config_of (files path) config
   pub fail : PackagesFail files config.packages fault
 
-abbrev pub SetupFails : (files : List ℕ → FileOf) → (path : List ℕ) → RunFault → Type 0
+abbrev pub SetupFails : (files : List ℕ → FileOf) → (path : List ℕ) → JobFault → Type 0
 SetupFails files path fault = TextFails config_of files path fault ⊎ PackagesOfFail files path fault
 
 -- and why there is none if a package `number`, counted from 1, is requested, which is checked
 -- before any package is read
-pub record NumberedFail (files : List ℕ → FileOf) (path : List ℕ) (number : ℕ) (fault : RunFault) : Type 0 where
+pub record NumberedFail (files : List ℕ → FileOf) (path : List ℕ) (number : ℕ) (fault : JobFault) : Type 0 where
   pub config : ConfigOf
   pub says : Says config_of (files path) config
   pub counted : 1 ≤ number
   pub there : number ≤ length config.packages
   pub fail : PackagesFail files config.packages fault
 
-abbrev pub NumberedSetupFails : (files : List ℕ → FileOf) → (path : List ℕ) → (number : ℕ) → RunFault → Type 0
+abbrev pub NumberedSetupFails : (files : List ℕ → FileOf) → (path : List ℕ) → (number : ℕ) → JobFault → Type 0
 NumberedSetupFails files path number fault = TextFails config_of files path fault ⊎ NumberedFail files path number fault
 
 -- the fault is that of the first of the devices whose store can't be opened
-abbrev pub TellsUnopened : StoresOf → List DeviceConfigOf → RunFault → Type 0
+abbrev pub TellsUnopened : StoresOf → List DeviceConfigOf → JobFault → Type 0
 TellsUnopened s devices (faults.Store device why) = IsUnopened s devices (record { device = device; why = why })
 TellsUnopened s devices fault = ⊥
 
 -- a fault is that of a store
-abbrev pub TellsStore : RunFault → Type 0
+abbrev pub TellsStore : JobFault → Type 0
 TellsStore (faults.Store device why) = Unit {0}
 TellsStore fault = ⊥
 
 -- The configuration and its packages are correct, and the store of a device can't be opened.
-pub record StoresFail (files : List ℕ → FileOf) (source : SourceOf) (fault : RunFault) : Type 0 where
+pub record StoresFail (files : List ℕ → FileOf) (source : SourceOf) (fault : JobFault) : Type 0 where
   pub config : ConfigOf
   pub says : Says config_of (files source.path) config
   pub packages : List PackageText

@@ -13,8 +13,8 @@ use Rattle.fwupd_words.specs.declared.asked.SoakOrder.{SoakOrder}
 use Rattle.fwupd_watch.specs.Outputs.{FailsToWriteOutput, OutputOf, WritesOutput}
 use Rattle.fwupd_jobs.specs.Setups.{ArePackages, LacksPackage, NumberedSetupFails, Says}
 use Rattle.fwupd_watch.specs.Files.{FileOf, IsApartFrom, IsOverOne}
-use Rattle.fwupd_watch.specs.declared.faults.RunFault.{RunFault}
-use Rattle.fwupd_watch.specs.declared.faults.RunFault.TheVariants as faults
+use Rattle.fwupd_watch.specs.declared.faults.JobFault.{JobFault}
+use Rattle.fwupd_watch.specs.declared.faults.JobFault.TheVariants as faults
 
 -- the setup of a configuration with these packages
 abbrev pub setup_of_config : ConfigOf → List PackageText → SetupOf
@@ -39,7 +39,7 @@ pub record SoaksClean (files : List ℕ → FileOf) (path : List ℕ) (order : S
 
 -- The fault after a violation. Its file, if one is given, holds the schedule of the steps; or they
 -- couldn't be written, or memory was refused.
-abbrev pub ReportsViolation : Option (List Step) → (file : Option (List ℕ)) → RunFault → (is_known : Bool) → (held : List ℕ → Option (List ℕ)) → Type 0
+abbrev pub ReportsViolation : Option (List Step) → (file : Option (List ℕ)) → JobFault → (is_known : Bool) → (held : List ℕ → Option (List ℕ)) → Type 0
 ReportsViolation None file told is_known held = ⊥
 ReportsViolation (Some steps) file told is_known held =
     ((told ≡ faults.Violation) ⊎ (IsSome file × ((told ≡ faults.Record) ⊎ (told ≡ faults.Memory))))
@@ -47,7 +47,7 @@ ReportsViolation (Some steps) file told is_known held =
 
 -- There was a violation, and the totals are written. If a file is given for the steps and the fault
 -- is the violation, the file holds them.
-pub record SoaksWrong (files : List ℕ → FileOf) (path : List ℕ) (order : SoakOrder) (file : Option (List ℕ)) (told : RunFault) (is_known : Bool) (held : List ℕ → Option (List ℕ)) (before now : OutputOf) : Type 0 where
+pub record SoaksWrong (files : List ℕ → FileOf) (path : List ℕ) (order : SoakOrder) (file : Option (List ℕ)) (told : JobFault) (is_known : Bool) (held : List ℕ → Option (List ℕ)) (before now : OutputOf) : Type 0 where
   pub sum : Summary
   pub steps : List Step
   pub soaks : Soaks files path file order.runs sum (Some steps)
@@ -55,7 +55,7 @@ pub record SoaksWrong (files : List ℕ → FileOf) (path : List ℕ) (order : S
   pub judged : ReportsViolation (Some steps) file told is_known held
 
 -- The totals can't be written.
-pub record BreaksSoak (files : List ℕ → FileOf) (path : List ℕ) (order : SoakOrder) (file : Option (List ℕ)) (told : RunFault) (before now : OutputOf) : Type 0 where
+pub record BreaksSoak (files : List ℕ → FileOf) (path : List ℕ) (order : SoakOrder) (file : Option (List ℕ)) (told : JobFault) (before now : OutputOf) : Type 0 where
   pub is : told ≡ faults.Output
   pub sum : Summary
   pub kept : Option (List Step)
@@ -63,14 +63,14 @@ pub record BreaksSoak (files : List ℕ → FileOf) (path : List ℕ) (order : S
   pub begun : FailsToWriteOutput before now (summary_text sum)
 
 -- The steps would overwrite an input.
-pub record WouldWriteOver (files : List ℕ → FileOf) (path : List ℕ) (file : Option (List ℕ)) (told : RunFault) : Type 0 where
+pub record WouldWriteOver (files : List ℕ → FileOf) (path : List ℕ) (file : Option (List ℕ)) (told : JobFault) : Type 0 where
   pub is : told ≡ faults.Record
   pub config : ConfigOf
   pub says : Says config_of (files path) config
   pub over : IsSomeAnd file (λ p. IsOverOne files p (path ∷ config.packages))
 
 -- The result of a soak that failed. In the other cases nothing is written.
-abbrev pub SoakEnds : (files : List ℕ → FileOf) (path : List ℕ) (order : SoakOrder) (file : Option (List ℕ)) (told : RunFault) (is_known : Bool) (held : List ℕ → Option (List ℕ)) (before now : OutputOf) → Type 0
+abbrev pub SoakEnds : (files : List ℕ → FileOf) (path : List ℕ) (order : SoakOrder) (file : Option (List ℕ)) (told : JobFault) (is_known : Bool) (held : List ℕ → Option (List ℕ)) (before now : OutputOf) → Type 0
 SoakEnds files path order file told is_known held before now =
     SoaksWrong files path order file told is_known held before now
     ⊎ (BreaksSoak files path order file told before now

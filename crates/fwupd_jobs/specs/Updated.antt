@@ -18,8 +18,8 @@ use Rattle.fwupd_watch.specs.Files.{FileOf}
 use Rattle.fwupd_watch.specs.Running.{IsCaused, UpdateOk, ShowOf, RunsSteps, RunsStepsSeen, UpdatesDevices, ObserverOf, shown_of}
 use Rattle.fwupd_watch.specs.Apart.{IsApart, IsBarred}
 use Rattle.fwupd_jobs.specs.Setups.{IsSetup, LacksPackage, NumberedSetupFails, SourceOf, StoresFail}
-use Rattle.fwupd_watch.specs.declared.faults.RunFault.{RunFault}
-use Rattle.fwupd_watch.specs.declared.faults.RunFault.TheVariants as faults
+use Rattle.fwupd_watch.specs.declared.faults.JobFault.{JobFault}
+use Rattle.fwupd_watch.specs.declared.faults.JobFault.TheVariants as faults
 use Rattle.fwupd_jobs.specs.declared.sessions.Undone.{Undone}
 
 -- A link to a device has the requested roughness, and random numbers of its own: a stream of the
@@ -34,7 +34,7 @@ HaveLinks IsTo (x ∷ xs) (link ∷ links) = IsTo x.node.half.unit x.node.endpoi
 HaveLinks IsTo xs links = ⊥
 
 -- The link to a device of a world can't be opened, which may happen.
-pub record IsUnlinked (w : WorldOf) (lacks : ℕ → Bool) (told : RunFault) : Type 0 where
+pub record IsUnlinked (w : WorldOf) (lacks : ℕ → Bool) (told : JobFault) : Type 0 where
   pub place : ℕ
   pub site : SiteOf
   pub at : slice_get w.sites place ≡ Some site
@@ -66,7 +66,7 @@ pub record NamesLost (w : WorldOf) (lost : Option ℕ) : Type 0 where
 
 -- The result of a run over links that failed: the report of the world that was reached is written,
 -- or a beginning of it, or nothing.
-abbrev pub DrivingEnds : (number : ℕ) (form : Form) (lacks : ℕ → Bool) (w v : WorldOf) → RunFault → ObserverOf → (before now : OutputOf) → Type 0
+abbrev pub DrivingEnds : (number : ℕ) (form : Form) (lacks : ℕ → Bool) (w v : WorldOf) → JobFault → ObserverOf → (before now : OutputOf) → Type 0
 DrivingEnds number form lacks w v told watched before now =
     (IsCaused number w v told watched × WritesOutput before now (report_in form v))
     ⊎ (((told ≡ faults.Output) × FailsToWriteOutput before now (report_in form v)) ⊎ (((told ≡ faults.Memory) ⊎ IsUnlinked w lacks told) × (now ≡ before)))
@@ -103,7 +103,7 @@ pub record ReportsUpdate (files : List ℕ → FileOf) (config : SourceOf) (numb
 
 -- The report of the world that was reached is written. If a link failed, the observer got its
 -- device. If the observer had no fault of its own, the steps to that world are recorded.
-pub record ReportsReached (files : List ℕ → FileOf) (config : SourceOf) (number : ℕ) (show : ShowOf) (told : RunFault) (watched : ObserverOf) (before now : OutputOf) : Type 0 where
+pub record ReportsReached (files : List ℕ → FileOf) (config : SourceOf) (number : ℕ) (show : ShowOf) (told : JobFault) (watched : ObserverOf) (before now : OutputOf) : Type 0 where
   pub world : WorldOf
   pub begins : IsObservedSetup files config number show world
   pub shown : watched.shows ≡ shown_of show
@@ -118,7 +118,7 @@ pub record ReportsReached (files : List ℕ → FileOf) (config : SourceOf) (num
   pub written : WritesOutput before now (report_in show.form left)
 
 -- A beginning of the report is written.
-pub record BreaksReport (files : List ℕ → FileOf) (config : SourceOf) (number : ℕ) (show : ShowOf) (told : RunFault) (before now : OutputOf) : Type 0 where
+pub record BreaksReport (files : List ℕ → FileOf) (config : SourceOf) (number : ℕ) (show : ShowOf) (told : JobFault) (before now : OutputOf) : Type 0 where
   pub is : told ≡ faults.Output
   pub world : WorldOf
   pub begins : IsObservedSetup files config number show world
@@ -128,20 +128,20 @@ pub record BreaksReport (files : List ℕ → FileOf) (config : SourceOf) (numbe
   pub begun : FailsToWriteOutput before now (report_in show.form left)
 
 -- The observer doesn't begin, before a link is opened.
-pub record LacksTrace (files : List ℕ → FileOf) (config : SourceOf) (number : ℕ) (show : ShowOf) (refuses : List ℕ → Bool) (told : RunFault) (watched : ObserverOf) : Type 0 where
+pub record LacksTrace (files : List ℕ → FileOf) (config : SourceOf) (number : ℕ) (show : ShowOf) (refuses : List ℕ → Bool) (told : JobFault) (watched : ObserverOf) : Type 0 where
   pub world : WorldOf
   pub named : IsNumberedSetup files config number world
   pub barred : IsBarred files refuses show (config.path ∷ named.setup.config.packages) told watched
 
 -- A link to a device of the configuration can't be opened.
-pub record LacksLink (files : List ℕ → FileOf) (config : SourceOf) (number : ℕ) (show : ShowOf) (lacks : ℕ → Bool) (told : RunFault) : Type 0 where
+pub record LacksLink (files : List ℕ → FileOf) (config : SourceOf) (number : ℕ) (show : ShowOf) (lacks : ℕ → Bool) (told : JobFault) : Type 0 where
   pub world : WorldOf
   pub begins : IsObservedSetup files config number show world
   pub unlinked : IsUnlinked world lacks told
 
 -- Nothing is written: memory was refused, or a world, a package, a store, a trace or a link is
 -- missing.
-pub record ReportsNothing (files : List ℕ → FileOf) (config : SourceOf) (number : ℕ) (show : ShowOf) (refuses : List ℕ → Bool) (lacks : ℕ → Bool) (told : RunFault) (watched : ObserverOf) (before now : OutputOf) : Type 0 where
+pub record ReportsNothing (files : List ℕ → FileOf) (config : SourceOf) (number : ℕ) (show : ShowOf) (refuses : List ℕ → Bool) (lacks : ℕ → Bool) (told : JobFault) (watched : ObserverOf) (before now : OutputOf) : Type 0 where
   pub kept : now ≡ before
   pub cause :
       (told ≡ faults.Memory)
@@ -149,7 +149,7 @@ pub record ReportsNothing (files : List ℕ → FileOf) (config : SourceOf) (num
       ⊎ (((told ≡ faults.NoPackage) × LacksPackage files config.path number) ⊎ (StoresFail files config told ⊎ (LacksTrace files config number show refuses told watched ⊎ LacksLink files config number show lacks told))))
 
 -- The result of an update that failed.
-abbrev pub UpdateEnds : (files : List ℕ → FileOf) (config : SourceOf) (number : ℕ) (show : ShowOf) (refuses : List ℕ → Bool) (lacks : ℕ → Bool) (told : RunFault) (watched : ObserverOf) (before now : OutputOf) → Type 0
+abbrev pub UpdateEnds : (files : List ℕ → FileOf) (config : SourceOf) (number : ℕ) (show : ShowOf) (refuses : List ℕ → Bool) (lacks : ℕ → Bool) (told : JobFault) (watched : ObserverOf) (before now : OutputOf) → Type 0
 UpdateEnds files config number show refuses lacks told watched before now =
     ReportsReached files config number show told watched before now
     ⊎ (BreaksReport files config number show told before now ⊎ ReportsNothing files config number show refuses lacks told watched before now)

@@ -17,15 +17,15 @@ use fw_script::{
     read_package_spec,
 };
 use fwupd_base::write_whole;
-use fwupd_watch::{Files, OutputPlaces, RunFault, is_same_file};
+use fwupd_watch::{Files, JobFault, OutputPlaces, is_same_file};
 use std::alloc::Global;
 use std::io::Write;
 
 /// The package description in the file of a path.
 #[tactic(auto, using(crate::proofs::Packed::unread_text))]
-fn package_spec<F: Files>(alloc: Global, files: &F, path: &str) -> Result<PackageSpec, RunFault>
+fn package_spec<F: Files>(alloc: Global, files: &F, path: &str) -> Result<PackageSpec, JobFault>
     ensures says { IfOk result (λ spec. Says package_spec_of (F.holds files.now path.now) (spec_seen spec)) }
-    ensures fault { IfErr result (λ e. (e ≡ RunFault.Memory) ⊎ TextFails package_spec_of (F.holds files.now) path.now e) }
+    ensures fault { IfErr result (λ e. (e ≡ JobFault.Memory) ⊎ TextFails package_spec_of (F.holds files.now) path.now e) }
 {
     let text = match files.contents(alloc, path) {
         Ok(text) => text,
@@ -38,9 +38,9 @@ fn package_spec<F: Files>(alloc: Global, files: &F, path: &str) -> Result<Packag
 }
 
 /// The image of a component.
-fn image<F: Files>(alloc: Global, files: &F, component: &SpecComponent) -> Result<Vec<u8>, RunFault>
+fn image<F: Files>(alloc: Global, files: &F, component: &SpecComponent) -> Result<Vec<u8>, JobFault>
     ensures held { IfOk result (λ image. IsImage (F.holds files.now) (spec_component_of component.now).path image.items) }
-    ensures fault { IfErr result (λ e. (e ≡ RunFault.Memory) ⊎ ImageFails (F.holds files.now) (spec_component_of component.now).path e) }
+    ensures fault { IfErr result (λ e. (e ≡ JobFault.Memory) ⊎ ImageFails (F.holds files.now) (spec_component_of component.now).path e) }
 {
     let Some(path) = &component.path else {
         return Ok(Vec::new(alloc));
@@ -56,9 +56,9 @@ fn images<F: Files>(
     alloc: Global,
     files: &F,
     components: &[SpecComponent],
-) -> Result<Vec<Vec<u8>>, RunFault>
+) -> Result<Vec<Vec<u8>>, JobFault>
     ensures are { IfOk result (λ images. AreImages (F.holds files.now) (map spec_component_of components.now) (map (λ i. i.items) images.items)) }
-    ensures fault { IfErr result (λ e. (e ≡ RunFault.Memory) ⊎ ImagesFail (F.holds files.now) (map spec_component_of components.now) e) }
+    ensures fault { IfErr result (λ e. (e ≡ JobFault.Memory) ⊎ ImagesFail (F.holds files.now) (map spec_component_of components.now) e) }
 {
     let mut images = Vec::new(alloc);
     for component in components {
@@ -67,7 +67,7 @@ fn images<F: Files>(
             Err(fault) => return Err(fault),
         };
         let Ok(()) = images.push(image) else {
-            return Err(RunFault::Memory);
+            return Err(JobFault::Memory);
         };
     }
     Ok(images)
@@ -77,9 +77,9 @@ fn images<F: Files>(
 fn lent_descriptors<'a>(
     alloc: Global,
     descriptors: &'a [SpecDescriptor],
-) -> Result<Vec<Descriptor<'a>>, RunFault>
+) -> Result<Vec<Descriptor<'a>>, JobFault>
     ensures are { IfOk result (λ lent. map descriptor_of lent.items ≡ map spec_descriptor_of descriptors.now) }
-    ensures fault { IfErr result (λ e. e ≡ RunFault.Memory) }
+    ensures fault { IfErr result (λ e. e ≡ JobFault.Memory) }
 {
     let mut lent = Vec::new(alloc);
     for said in descriptors {
@@ -88,7 +88,7 @@ fn lent_descriptors<'a>(
             bytes: said.bytes.as_slice(),
         };
         let Ok(()) = lent.push(descriptor) else {
-            return Err(RunFault::Memory);
+            return Err(JobFault::Memory);
         };
     }
     Ok(lent)
@@ -98,9 +98,9 @@ fn lent_descriptors<'a>(
 fn all_descriptors<'a>(
     alloc: Global,
     records: &'a [SpecRecord],
-) -> Result<Vec<Vec<Descriptor<'a>>>, RunFault>
+) -> Result<Vec<Vec<Descriptor<'a>>>, JobFault>
     ensures are { IfOk result (λ lent. map (λ ds. map descriptor_of ds.items) lent.items ≡ map (λ r. map spec_descriptor_of r.descriptors.items) records.now) }
-    ensures fault { IfErr result (λ e. e ≡ RunFault.Memory) }
+    ensures fault { IfErr result (λ e. e ≡ JobFault.Memory) }
 {
     let mut lent = Vec::new(alloc);
     for said in records {
@@ -109,7 +109,7 @@ fn all_descriptors<'a>(
             Err(fault) => return Err(fault),
         };
         let Ok(()) = lent.push(descriptors) else {
-            return Err(RunFault::Memory);
+            return Err(JobFault::Memory);
         };
     }
     Ok(lent)
@@ -149,10 +149,10 @@ fn lent_records<'a, 's: 'a>(
     alloc: Global,
     records: &'s [SpecRecord],
     descriptors: &'a [Vec<Descriptor<'s>>],
-) -> Result<Vec<AskedRecord<'a>>, RunFault>
+) -> Result<Vec<AskedRecord<'a>>, JobFault>
     requires { map (λ ds. map descriptor_of ds.items) descriptors.now ≡ map (λ r. map spec_descriptor_of r.descriptors.items) records.now }
     ensures are { IfOk result (λ lent. map asked_record_of lent.items ≡ map record_by (map spec_record_of records.now)) }
-    ensures fault { IfErr result (λ e. e ≡ RunFault.Memory) }
+    ensures fault { IfErr result (λ e. e ≡ JobFault.Memory) }
 {
     let mut lent = Vec::new(alloc);
     for (place, said) in records.iter().enumerate() {
@@ -160,7 +160,7 @@ fn lent_records<'a, 's: 'a>(
             unreachable!()
         };
         let Ok(()) = lent.push(lent_record(said, own)) else {
-            return Err(RunFault::Memory);
+            return Err(JobFault::Memory);
         };
     }
     Ok(lent)
@@ -186,9 +186,9 @@ fn lent_components<'a>(
     alloc: Global,
     components: &'a [SpecComponent],
     images: &[Vec<u8>],
-) -> Result<Vec<AskedComponent<'a>>, RunFault>
+) -> Result<Vec<AskedComponent<'a>>, JobFault>
     ensures are { IfOk result (λ lent. map asked_component_of lent.items ≡ components_by (map spec_component_of components.now) (map (λ i. i.items) images.now)) }
-    ensures fault { IfErr result (λ e. e ≡ RunFault.Memory) }
+    ensures fault { IfErr result (λ e. e ≡ JobFault.Memory) }
 {
     let mut lent = Vec::new(alloc);
     for (place, said) in components.iter().enumerate() {
@@ -196,15 +196,15 @@ fn lent_components<'a>(
             return Ok(lent);
         };
         let Ok(()) = lent.push(lent_component(said, image)) else {
-            return Err(RunFault::Memory);
+            return Err(JobFault::Memory);
         };
     }
     Ok(lent)
 }
 
 /// The fault of a package that can't be encoded, at the line after the description's last.
-fn refused(alloc: Global, path: &str, spec: &PackageSpec, refusal: AskedFault) -> RunFault
-    ensures { (result ≡ RunFault.Memory) ⊎ TextFault path.now (script_fault_of_refusal (spec_seen spec.now) refusal) result }
+fn refused(alloc: Global, path: &str, spec: &PackageSpec, refusal: AskedFault) -> JobFault
+    ensures { (result ≡ JobFault.Memory) ⊎ TextFault path.now (script_fault_of_refusal (spec_seen spec.now) refusal) result }
 {
     let cause = match refusal {
         AskedFault::Uses => ScriptCause::Range,
@@ -237,10 +237,10 @@ fn header_of(
     spec: &PackageSpec,
     images: &[Vec<u8>],
     header: &mut Header,
-) -> Result<(), RunFault>
+) -> Result<(), JobFault>
     ensures bytes { OnOk result (header.new.items ≡ header_bytes (asked_by (spec_seen spec.now) (map (λ i. i.items) images.now))) }
     ensures header { OnOk result (IsHeaderOf (asked_by (spec_seen spec.now) (map (λ i. i.items) images.now)) header.new.items) }
-    ensures fault { IfErr result (λ e. (e ≡ RunFault.Memory) ⊎ IsBuildFault path.now (spec_seen spec.now) (map (λ i. i.items) images.now) e) }
+    ensures fault { IfErr result (λ e. (e ≡ JobFault.Memory) ⊎ IsBuildFault path.now (spec_seen spec.now) (map (λ i. i.items) images.now) e) }
 {
     let descriptors = match all_descriptors(alloc, spec.records.as_slice()) {
         Ok(descriptors) => descriptors,
@@ -265,18 +265,18 @@ fn header_of(
 ///
 /// # Errors
 /// `Output` if they can't be written.
-fn write_parts<W: Write>(writer: &mut W, header: &[u8], images: &[Vec<u8>]) -> Result<(), RunFault>
+fn write_parts<W: Write>(writer: &mut W, header: &[u8], images: &[Vec<u8>]) -> Result<(), JobFault>
     ensures ok { OnOk result (Appends (W.contents writer.old) (W.contents writer.new) (header.now ++ concat (map (λ i. i.items) images.now))) }
-    ensures fault { IfErr result (λ e. e ≡ RunFault.Output) }
+    ensures fault { IfErr result (λ e. e ≡ JobFault.Output) }
 {
     match write_whole(writer, header) {
         Ok(()) => {}
-        Err(_) => return Err(RunFault::Output),
+        Err(_) => return Err(JobFault::Output),
     }
     for image in images {
         match write_whole(writer, image) {
             Ok(()) => {}
-            Err(_) => return Err(RunFault::Output),
+            Err(_) => return Err(JobFault::Output),
         }
     }
     Ok(())
@@ -311,7 +311,7 @@ pub fn build_file<F: Files, W: Write + Drop, P: OutputPlaces<W>>(
     path: &str,
     file: &str,
     places: &mut P,
-) -> Result<(), RunFault>
+) -> Result<(), JobFault>
     ensures ok { OnOk result (Builds (F.holds files.now) path.now (P.is_known places.old) (P.held places.new file.now)) }
     ensures lasting { OnOk result (Builds (F.holds files.now) path.now (P.is_known places.old)
         (P.lasting places.new file.now)) }
@@ -335,7 +335,7 @@ pub fn build_file<F: Files, W: Write + Drop, P: OutputPlaces<W>>(
         Err(fault) => return Err(fault),
     }
     if is_same_file(files, path, file) || is_over_image(files, file, spec.components.as_slice()) {
-        return Err(RunFault::Output);
+        return Err(JobFault::Output);
     }
     let mut beside = match places.begin(file) {
         Ok(beside) => beside,

@@ -11,7 +11,7 @@ use crate::updating::{Wires, update_files};
 use fw_edge::Link;
 use fw_setup::Stores;
 use fw_store::Folder;
-use fwupd_watch::{Files, Observer, Output, RunFault};
+use fwupd_watch::{Files, JobFault, Observer, Output};
 use fwupd_words::{Order, Show};
 use std::alloc::Global;
 use std::io::Write;
@@ -43,7 +43,7 @@ pub fn update_checked<
     wires: &mut S,
     watch: &mut V,
     output: &mut Output<W>,
-) -> Result<(), RunFault>
+) -> Result<(), JobFault>
     ensures ok { OnOk result (ReportsChecked (F.holds files.now) (source_of (stores_in (T.is_known stores.now) (T.files stores.now)) (option_map (λ p. p.now) store.entry) config.now) order (show_of show.entry) (V.watched watch.new) output.old output.new) }
     ensures fault { IfErr result (λ e. CheckedEnds (F.holds files.now) (source_of (stores_in (T.is_known stores.now) (T.files stores.now)) (option_map (λ p. p.now) store.entry) config.now) order (show_of show.entry) (V.refuses watch.old) (S.lacks wires.old folder.now) e (V.watched watch.new) output.old output.new) }
     ensures untouched { IfErr result (λ e. (watch.new ≡ watch.old) ⊎ HasObserverFault e (V.watched watch.new).fault) }

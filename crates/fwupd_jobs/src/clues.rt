@@ -3,7 +3,7 @@
 ghost use Rattle.std.specs.Prelude.{◌≡◌, option_map};
 ghost use Rattle.fwupd_jobs.specs.Clues.{clue_of, clue_seen, clue_to_shown};
 
-use fwupd_watch::RunFault;
+use fwupd_watch::JobFault;
 use fwupd_words::{Job, Show};
 
 /// A clue to why a job failed.
@@ -22,33 +22,33 @@ pub enum Clue<'a> {
 }
 
 /// The output of a run or a replay that can't be written.
-fn clue_to_shown<'a>(show: &Show<'a>, fault: &RunFault) -> Option<Clue<'a>>
+fn clue_to_shown<'a>(show: &Show<'a>, fault: &JobFault) -> Option<Clue<'a>>
     ensures { option_map clue_seen result ≡ clue_to_shown show.now fault.now }
 {
     match fault {
-        RunFault::Trace => Some(Clue::Unwritten(show.trace?)),
-        RunFault::Log => Some(Clue::Unwritten(show.log?)),
-        RunFault::Record => Some(Clue::Unwritten(show.record?)),
-        RunFault::History => Some(Clue::History(show.history?)),
+        JobFault::Trace => Some(Clue::Unwritten(show.trace?)),
+        JobFault::Log => Some(Clue::Unwritten(show.log?)),
+        JobFault::Record => Some(Clue::Unwritten(show.record?)),
+        JobFault::History => Some(Clue::History(show.history?)),
         _ => None,
     }
 }
 
 /// Returns the clue to why a job ended with a fault, if there is one.
-pub fn clue_to<'a>(job: &Job<'a>, fault: &'a RunFault) -> Option<Clue<'a>>
+pub fn clue_to<'a>(job: &Job<'a>, fault: &'a JobFault) -> Option<Clue<'a>>
     ensures { option_map clue_seen result ≡ clue_of job.now fault.now }
 {
     match (fault, job) {
-        (RunFault::Unreadable(path), _) => Some(Clue::Unread(path.as_str())),
-        (RunFault::Package(_), Job::Replay { config, .. })
-        | (RunFault::Package(_), Job::Run { config, .. })
-        | (RunFault::Package(_), Job::Soak { config, .. })
-        | (RunFault::Package(_), Job::Plan { config, .. }) => Some(Clue::Package(config)),
-        (RunFault::Step(number, _), Job::Replay { schedule, .. }) => {
+        (JobFault::Unreadable(path), _) => Some(Clue::Unread(path.as_str())),
+        (JobFault::Package(_), Job::Replay { config, .. })
+        | (JobFault::Package(_), Job::Run { config, .. })
+        | (JobFault::Package(_), Job::Soak { config, .. })
+        | (JobFault::Package(_), Job::Plan { config, .. }) => Some(Clue::Package(config)),
+        (JobFault::Step(number, _), Job::Replay { schedule, .. }) => {
             Some(Clue::Step(schedule, *number))
         }
-        (RunFault::Record, Job::Soak { record, .. }) => Some(Clue::Unwritten((*record)?)),
-        (RunFault::Output, Job::Build { package, .. }) => Some(Clue::Unwritten(package)),
+        (JobFault::Record, Job::Soak { record, .. }) => Some(Clue::Unwritten((*record)?)),
+        (JobFault::Output, Job::Build { package, .. }) => Some(Clue::Unwritten(package)),
         (fault, Job::Replay { show, .. }) => clue_to_shown(show, fault),
         (fault, Job::Run { show, .. }) => clue_to_shown(show, fault),
         _ => None,

@@ -7,7 +7,7 @@ ghost use Rattle.fw_script.specs.Schedules.{script_of};
 use crate::clues::{Clue, clue_to};
 use fw_package::Package;
 use fw_script::{ScriptCause, read_schedule};
-use fwupd_watch::{Files, RunFault, SystemFiles, folder_and_name, is_special};
+use fwupd_watch::{Files, JobFault, SystemFiles, folder_and_name, is_special};
 use fwupd_words::Job;
 use std::alloc::Global;
 use std::fs::OpenOptions;
@@ -133,7 +133,7 @@ fn explain_history(rt: &HostRuntime, folder: &str) {
 }
 
 /// Prints on standard error, if it is a terminal, the clue to why a job failed.
-pub fn explain(rt: &HostRuntime, job: &Job<'_>, fault: &RunFault) {
+pub fn explain(rt: &HostRuntime, job: &Job<'_>, fault: &JobFault) {
     if !rt.stderr().is_terminal() {
         return;
     }

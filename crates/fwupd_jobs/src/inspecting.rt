@@ -1,22 +1,22 @@
 //! Inspects the package in a file, of which only the header is read.
 
 ghost use Rattle.std.specs.Prelude.{◌≡◌, IfErr, OnOk};
-ghost use Rattle.fwupd_jobs.specs.Inspected.{InspectEnds, Inspects, run_fault_of_inspection};
+ghost use Rattle.fwupd_jobs.specs.Inspected.{InspectEnds, Inspects, job_fault_of_inspection};
 
 use crate::setups::read_fault;
 use fw_json::inspect_beginning_in;
 use fwupd_base::{Form, InspectFault};
-use fwupd_watch::{Beginning, Files, Output, RunFault};
+use fwupd_watch::{Beginning, Files, JobFault, Output};
 use std::alloc::Global;
 use std::io::Write;
 
 /// Returns the fault of a package that can't be inspected.
-pub fn inspection_fault(fault: InspectFault) -> RunFault
-    ensures { result ≡ run_fault_of_inspection fault }
+pub fn inspection_fault(fault: InspectFault) -> JobFault
+    ensures { result ≡ job_fault_of_inspection fault }
 {
     match fault {
-        InspectFault::Memory => RunFault::Memory,
-        InspectFault::Package(fault) => RunFault::Package(fault),
+        InspectFault::Memory => JobFault::Memory,
+        InspectFault::Package(fault) => JobFault::Package(fault),
     }
 }
 
@@ -32,7 +32,7 @@ pub fn inspect_file<F: Files, W: Write + Drop>(
     path: &str,
     form: Form,
     output: &mut Output<W>,
-) -> Result<(), RunFault>
+) -> Result<(), JobFault>
     ensures ok { OnOk result (Inspects (F.holds files.now path.now) form output.old output.new) }
     ensures fault { IfErr result (λ e. InspectEnds (F.holds files.now) path.now form e output.old output.new) }
 {

@@ -17,7 +17,7 @@ use fw_edge::Link;
 use fw_setup::Stores;
 use fw_soak::SoakObserver;
 use fw_store::Folder;
-use fwupd_watch::{Files, Observer, Output, OutputPlaces, RunFault};
+use fwupd_watch::{Files, JobFault, Observer, Output, OutputPlaces};
 use fwupd_words::Job;
 use std::alloc::Global;
 use std::io::{Read, Write};
@@ -51,7 +51,7 @@ pub fn perform_job<
     onlooker: &mut O,
     places: &mut P,
     output: &mut Output<W>,
-) -> Result<(), RunFault>
+) -> Result<(), JobFault>
     ensures ok { OnOk result (IsDone job.now (F.holds files.now) (stores_in (T.is_known stores.now) (T.files stores.now)) (R.remaining reader.old) (R.remaining reader.new) (V.watched watch.new) (P.is_known places.old) (P.held places.new) output.old output.new) }
     ensures fault { IfErr result (λ e. JobEnds job.now (F.holds files.now) (stores_in (T.is_known stores.now) (T.files stores.now)) (V.refuses watch.old) (S.lacks wires.old) (R.remaining reader.old) (R.remaining reader.new) e (V.watched watch.new) (P.is_known places.old) (P.held places.new) output.old output.new) }
     ensures untouched { IfErr result (λ e. (watch.new ≡ watch.old) ⊎ HasObserverFault e (V.watched watch.new).fault) }

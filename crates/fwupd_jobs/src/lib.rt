@@ -28,8 +28,8 @@ mod write_behind;
 pub use building::build_file;
 pub use checking::update_checked;
 pub use fwupd_watch::{
-    Beginning, Durable, FileCalls, FileFault, FileIdentity, Files, HistoryFile, Observer,
-    ObserverFault, Output, OutputPlaces, Recording, RunFault, WholeFiles, texts_are_lines,
+    Beginning, Durable, FileCalls, FileFault, FileIdentity, Files, HistoryFile, JobFault, Observer,
+    ObserverFault, Output, OutputPlaces, Recording, WholeFiles, texts_are_lines,
 };
 pub use fwupd_words::{Job, Order, Show, SoakOrder, TraceForm, parse};
 pub use inspecting::{inspect_file, inspection_fault};

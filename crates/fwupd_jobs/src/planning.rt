@@ -9,7 +9,7 @@ use fw_json::plan_in;
 use fw_script::Config;
 use fw_setup::forecast;
 use fwupd_base::Form;
-use fwupd_watch::{Files, Output, RunFault};
+use fwupd_watch::{Files, JobFault, Output};
 use std::alloc::Global;
 use std::io::Write;
 
@@ -27,7 +27,7 @@ pub fn plan_file<F: Files, W: Write + Drop>(
     number: usize,
     form: Form,
     output: &mut Output<W>,
-) -> Result<(), RunFault>
+) -> Result<(), JobFault>
     ensures ok { OnOk result (Plans (F.holds files.now) config.now number form output.old output.new) }
     ensures fault { IfErr result (λ e. PlanEnds (F.holds files.now) config.now number form e output.old output.new) }
 {
@@ -41,7 +41,7 @@ pub fn plan_file<F: Files, W: Write + Drop>(
         Err(fault) => return Err(fault),
     };
     if !is_numbered(paths.len(), number) {
-        return Err(RunFault::NoPackage);
+        return Err(JobFault::NoPackage);
     }
     let contents = match package_files(alloc, files, paths.as_slice()) {
         Ok(contents) => contents,
@@ -55,7 +55,7 @@ pub fn plan_file<F: Files, W: Write + Drop>(
         unreachable!()
     };
     let Ok(text) = plan_in(alloc, number, contents, devices.as_slice(), form) else {
-        return Err(RunFault::Memory);
+        return Err(JobFault::Memory);
     };
     match output.write(&text) {
         Ok(()) => Ok(()),

@@ -19,7 +19,7 @@ use fw_setup::{Stores, SystemStores};
 use fw_soak::SoakObserver;
 use fw_store::Folder;
 use fwupd_watch::{
-    Files, Observer, Observers, Output, OutputPlaces, RunFault, SystemFiles, system_places,
+    Files, JobFault, Observer, Observers, Output, OutputPlaces, SystemFiles, system_places,
 };
 use fwupd_words::{Job, parse};
 use std::io::{self, ErrorKind, Read, Write};
@@ -29,7 +29,7 @@ use std::process::ExitCode;
 pub(crate) const USAGE: u8 = 2;
 
 /// Prints a fault on standard error, and returns its exit status.
-pub(crate) fn failed(rt: &HostRuntime, fault: &RunFault) -> ExitCode
+pub(crate) fn failed(rt: &HostRuntime, fault: &JobFault) -> ExitCode
     ensures { exit_status result ≡ 1 }
 {
     let _ = eprintln!(rt; "fwupd: {fault}");
@@ -133,7 +133,7 @@ fn printed(rt: &HostRuntime, error: &clap::Error, outcome: io::Result<()>) -> Ex
         Ok(()) => ExitCode::from(error.exit_code() as u8),
         Err(_) if error.use_stderr() => ExitCode::from(USAGE),
         Err(failure) if failure.kind() == ErrorKind::BrokenPipe => ExitCode::SUCCESS,
-        Err(_) => failed(rt, &RunFault::Output),
+        Err(_) => failed(rt, &JobFault::Output),
     }
 }
 
@@ -149,7 +149,7 @@ fn no_job(rt: &HostRuntime, error: &clap::Error) -> ExitCode
     ensures known { exit_status result ≤ 2 }
 {
     if error.kind() == clap::error::ErrorKind::OutOfMemory {
-        return failed(rt, &RunFault::Memory);
+        return failed(rt, &JobFault::Memory);
     }
     printed(rt, error, error.print(rt))
 }

@@ -25,7 +25,7 @@ use fw_store::Folder;
 use fw_world::{Missed, Step, StepFault, World, packets_are_safe};
 use fwupd_base::Form;
 use fwupd_watch::{
-    Files, Observer, ObserverFault, Output, RunFault, begin_apart, is_one_path, observer_fault,
+    Files, JobFault, Observer, ObserverFault, Output, begin_apart, is_one_path, observer_fault,
 };
 use fwupd_words::Show;
 use mctp_ctl::Endpoint;
@@ -164,22 +164,22 @@ fn begin_replay<F: Files, V: Observer>(
     packages: &[String],
     show: Show<'_>,
     watch: &mut V,
-) -> Result<(), RunFault>
+) -> Result<(), JobFault>
     ensures shows { OnOk result ((V.watched watch.new).shows ≡ shown_of (show_of show.entry)) }
     ensures anew { OnOk result ((V.watched watch.new).seen ≡ 0) }
     ensures apart { OnOk result (IsApart (F.holds files.now) (show_of show.entry) (schedule.now ∷ config.now ∷ map (λ p. string_bytes p) packages.now)) }
     ensures untouched { IfErr result (λ e. (watch.new ≡ watch.old) ⊎ HasObserverFault e (V.watched watch.new).fault) }
-    ensures fault { IfErr result (λ e. (e ≡ RunFault.Memory)
+    ensures fault { IfErr result (λ e. (e ≡ JobFault.Memory)
         ⊎ IsBarred (F.holds files.now) (V.refuses watch.old) (show_of show.entry) (schedule.now ∷ config.now ∷ map (λ p. string_bytes p) packages.now) e (V.watched watch.new)) }
 {
     if is_one_path(files, show.trace, schedule) {
-        return Err(RunFault::Trace);
+        return Err(JobFault::Trace);
     }
     if is_one_path(files, show.log, schedule) {
-        return Err(RunFault::Log);
+        return Err(JobFault::Log);
     }
     if is_one_path(files, show.record, schedule) {
-        return Err(RunFault::Record);
+        return Err(JobFault::Record);
     }
     match begin_apart(alloc, files, config, packages, show, watch) {
         Ok(()) => Ok(()),
@@ -210,7 +210,7 @@ pub fn replay_files<F: Files, D: Folder + Drop, T: Stores<D>, V: Observer, W: Wr
     show: Show<'_>,
     watch: &mut V,
     output: &mut Output<W>,
-) -> Result<(), RunFault>
+) -> Result<(), JobFault>
     ensures ok { OnOk result (ReportsReplay (F.holds files.now) (source_of (stores_in (T.is_known stores.now) (T.files stores.now)) (option_map (λ p. p.now) store.entry) config.now) steps.now (show_of show.entry) (V.watched watch.new) output.old output.new) }
     ensures fault { IfErr result (λ e. ReplayEnds (F.holds files.now) (source_of (stores_in (T.is_known stores.now) (T.files stores.now)) (option_map (λ p. p.now) store.entry) config.now) steps.now (show_of show.entry) (V.refuses watch.old) e (V.watched watch.new) output.old output.new) }
     ensures untouched { IfErr result (λ e. (watch.new ≡ watch.old) ⊎ HasObserverFault e (V.watched watch.new).fault) }
@@ -255,14 +255,14 @@ pub fn replay_files<F: Files, D: Folder + Drop, T: Stores<D>, V: Observer, W: Wr
         show,
         watch,
     ) else {
-        return Err(RunFault::Memory);
+        return Err(JobFault::Memory);
     };
     match output.write(&outcome.report) {
         Ok(()) => {}
-        Err(_) => return Err(RunFault::Output),
+        Err(_) => return Err(JobFault::Output),
     }
     match outcome.fault {
-        Some((place, fault)) => return Err(RunFault::Step(place.saturating_add(1), fault)),
+        Some((place, fault)) => return Err(JobFault::Step(place.saturating_add(1), fault)),
         None => {}
     }
     match outcome.watched {

@@ -8,7 +8,7 @@ ghost use Rattle.fwupd_jobs.specs.Setups.{TellsStore};
 use fd_core::Bank;
 use fw_script::{cause_name, session_name, session_of};
 use fw_world::World;
-use fwupd_watch::RunFault;
+use fwupd_watch::JobFault;
 use ua_core::SessionState;
 
 /// A session that isn't Done.
@@ -56,10 +56,10 @@ fn undone_word(state: Option<SessionState>) -> &'static str
 }
 
 /// Returns the fault for a session that isn't Done.
-pub fn undone_fault(undone: Undone) -> RunFault
+pub fn undone_fault(undone: Undone) -> JobFault
     ensures tells { TellsUndone undone result }
     ensures other { observer_fault_of result ≡ None }
     ensures store { TellsStore result → ⊥ }
 {
-    RunFault::Session(undone.eid, undone_word(undone.state))
+    JobFault::Session(undone.eid, undone_word(undone.state))
 }

@@ -10,7 +10,7 @@ ghost use Rattle.fw_script.specs.Schedules.{script_of};
 ghost use Rattle.fw_script.specs.Seen.{config_seen, device_of};
 ghost use Rattle.fw_script.specs.Whole.{AreWhole};
 ghost use Rattle.fw_setup.specs.Stocks.{HaveStoredImages, stores_in};
-ghost use Rattle.fwupd_jobs.specs.Setups.{AreDevices, ArePacked, IsPacked, IsUnreadable, PackageFails, PackagesFail, Says, TellsUnopened, TextFails, TextFault, run_fault_of_misread, run_fault_of_unread};
+ghost use Rattle.fwupd_jobs.specs.Setups.{AreDevices, ArePacked, IsPacked, IsUnreadable, PackageFails, PackagesFail, Says, TellsUnopened, TextFails, TextFault, job_fault_of_misread, job_fault_of_unread};
 
 use fw_package::Package;
 use fw_script::{
@@ -19,55 +19,55 @@ use fw_script::{
 };
 use fw_setup::{StoreBanks, Stores, Unopened, open_stores, read_stores};
 use fw_store::{Folder, OpenFault};
-use fwupd_watch::{FileFault, Files, RunFault};
+use fwupd_watch::{FileFault, Files, JobFault};
 use std::alloc::{AllocError, Global};
 
 /// The fault of a device's store that can't be opened.
-fn store_fault(unopened: Unopened) -> RunFault
-    ensures told { (result ≡ RunFault.Memory) ⊎ (result ≡ RunFault.Store unopened.device unopened.why) }
-    ensures memory { unopened.why ≡ OpenFault.Memory → result ≡ RunFault.Memory }
-    ensures other { unopened.why ≢ OpenFault.Memory → result ≡ RunFault.Store unopened.device unopened.why }
+fn store_fault(unopened: Unopened) -> JobFault
+    ensures told { (result ≡ JobFault.Memory) ⊎ (result ≡ JobFault.Store unopened.device unopened.why) }
+    ensures memory { unopened.why ≡ OpenFault.Memory → result ≡ JobFault.Memory }
+    ensures other { unopened.why ≢ OpenFault.Memory → result ≡ JobFault.Store unopened.device unopened.why }
 {
     match unopened.why {
-        OpenFault::Memory => RunFault::Memory,
-        why => RunFault::Store(unopened.device, why),
+        OpenFault::Memory => JobFault::Memory,
+        why => JobFault::Store(unopened.device, why),
     }
 }
 
 /// The fault of a file with this name that can't be read; lack of memory, if there was none for the
 /// name.
-fn unread(name: Result<String, AllocError>, fault: FileFault) -> RunFault
-    ensures { result ≡ run_fault_of_unread name fault }
+fn unread(name: Result<String, AllocError>, fault: FileFault) -> JobFault
+    ensures { result ≡ job_fault_of_unread name fault }
 {
     match (fault, name) {
-        (FileFault::Unreadable, Ok(name)) => RunFault::Unreadable(name),
-        _ => RunFault::Memory,
+        (FileFault::Unreadable, Ok(name)) => JobFault::Unreadable(name),
+        _ => JobFault::Memory,
     }
 }
 
 /// The fault of a text with this name that isn't of its format; lack of memory, if there was none
 /// for the name.
-fn misread(name: Result<String, AllocError>, fault: ScriptFault) -> RunFault
-    ensures { result ≡ run_fault_of_misread name fault }
+fn misread(name: Result<String, AllocError>, fault: ScriptFault) -> JobFault
+    ensures { result ≡ job_fault_of_misread name fault }
 {
     match (fault.cause, name) {
-        (ScriptCause::Memory, _) | (_, Err(_)) => RunFault::Memory,
-        (_, Ok(name)) => RunFault::Text(name, fault),
+        (ScriptCause::Memory, _) | (_, Err(_)) => JobFault::Memory,
+        (_, Ok(name)) => JobFault::Text(name, fault),
     }
 }
 
 /// Returns the fault of a file that can't be read.
 #[tactic(auto, using(crate::proofs::Packed::told_unread))]
-pub fn read_fault(alloc: Global, path: &str, fault: FileFault) -> RunFault
-    ensures { (result ≡ RunFault.Memory) ⊎ ((fault ≡ FileFault.Unreadable) × IsUnreadable path.now result) }
+pub fn read_fault(alloc: Global, path: &str, fault: FileFault) -> JobFault
+    ensures { (result ≡ JobFault.Memory) ⊎ ((fault ≡ FileFault.Unreadable) × IsUnreadable path.now result) }
 {
     unread(String::from_str(alloc, path), fault)
 }
 
 /// The fault of a text that isn't of its format.
 #[tactic(auto, using(crate::proofs::Packed::told_misread))]
-pub(crate) fn text_fault(alloc: Global, path: &str, fault: ScriptFault) -> RunFault
-    ensures { (result ≡ RunFault.Memory) ⊎ TextFault path.now fault result }
+pub(crate) fn text_fault(alloc: Global, path: &str, fault: ScriptFault) -> JobFault
+    ensures { (result ≡ JobFault.Memory) ⊎ TextFault path.now fault result }
 {
     misread(String::from_str(alloc, path), fault)
 }
@@ -77,10 +77,10 @@ pub(crate) fn text_fault(alloc: Global, path: &str, fault: ScriptFault) -> RunFa
 /// # Errors
 /// The file can't be read, the first fault of its text, or `Memory`.
 #[tactic(auto, using(crate::proofs::Packed::unread_text))]
-pub fn configuration<F: Files>(alloc: Global, files: &F, path: &str) -> Result<Config, RunFault>
+pub fn configuration<F: Files>(alloc: Global, files: &F, path: &str) -> Result<Config, JobFault>
     ensures says { IfOk result (λ c. Says config_of (F.holds files.now path.now) (config_seen c)) }
     ensures whole { IfOk result (λ c. AreWhole c.agent.eid (map device_of c.devices.items)) }
-    ensures fault { IfErr result (λ e. (e ≡ RunFault.Memory) ⊎ TextFails config_of (F.holds files.now) path.now e) }
+    ensures fault { IfErr result (λ e. (e ≡ JobFault.Memory) ⊎ TextFails config_of (F.holds files.now) path.now e) }
 {
     let text = match files.contents(alloc, path) {
         Ok(text) => text,
@@ -102,10 +102,10 @@ pub fn schedule<F: Files>(
     alloc: Global,
     files: &F,
     path: &str,
-) -> Result<Vec<ScheduleLine>, RunFault>
+) -> Result<Vec<ScheduleLine>, JobFault>
     ensures says { IfOk result (λ lines. Says script_of (F.holds files.now path.now) (all_steps lines.items)) }
     ensures countable { IfOk result (λ lines. length (all_steps lines.items) ≤ 2 ^ 64 - 1) }
-    ensures fault { IfErr result (λ e. (e ≡ RunFault.Memory) ⊎ TextFails script_of (F.holds files.now) path.now e) }
+    ensures fault { IfErr result (λ e. (e ≡ JobFault.Memory) ⊎ TextFails script_of (F.holds files.now) path.now e) }
 {
     let text = match files.contents(alloc, path) {
         Ok(text) => text,
@@ -116,16 +116,16 @@ pub fn schedule<F: Files>(
         Err(fault) => return Err(text_fault(alloc, path, fault)),
     };
     if step_count(&lines).is_none() {
-        return Err(RunFault::Memory);
+        return Err(JobFault::Memory);
     }
     Ok(lines)
 }
 
 /// The bytes of the package in the file of a path.
 #[tactic(auto, using(crate::proofs::Packed::unread_package))]
-fn package_file<F: Files>(alloc: Global, files: &F, path: &str) -> Result<Vec<u8>, RunFault>
+fn package_file<F: Files>(alloc: Global, files: &F, path: &str) -> Result<Vec<u8>, JobFault>
     ensures packed { IfOk result (λ bytes. IsPacked (F.holds files.now path.now) bytes.items) }
-    ensures fault { IfErr result (λ e. (e ≡ RunFault.Memory) ⊎ PackageFails (F.holds files.now) path.now e) }
+    ensures fault { IfErr result (λ e. (e ≡ JobFault.Memory) ⊎ PackageFails (F.holds files.now) path.now e) }
 {
     let bytes = match files.contents(alloc, path) {
         Ok(bytes) => bytes,
@@ -133,7 +133,7 @@ fn package_file<F: Files>(alloc: Global, files: &F, path: &str) -> Result<Vec<u8
     };
     match Package::read(&bytes) {
         Ok(_) => {}
-        Err(fault) => return Err(RunFault::Package(fault)),
+        Err(fault) => return Err(JobFault::Package(fault)),
     }
     Ok(bytes)
 }
@@ -146,9 +146,9 @@ pub fn package_files<F: Files>(
     alloc: Global,
     files: &F,
     paths: &[String],
-) -> Result<Vec<Vec<u8>>, RunFault>
+) -> Result<Vec<Vec<u8>>, JobFault>
     ensures packed { IfOk result (λ fs. ArePacked (F.holds files.now) (map (λ p. string_bytes p) paths.now) (map (λ f. f.items) fs.items)) }
-    ensures fault { IfErr result (λ e. (e ≡ RunFault.Memory) ⊎ PackagesFail (F.holds files.now) (map (λ p. string_bytes p) paths.now) e) }
+    ensures fault { IfErr result (λ e. (e ≡ JobFault.Memory) ⊎ PackagesFail (F.holds files.now) (map (λ p. string_bytes p) paths.now) e) }
 {
     let mut contents = Vec::new(alloc);
     for path in paths {
@@ -157,7 +157,7 @@ pub fn package_files<F: Files>(
             Err(fault) => return Err(fault),
         };
         let Ok(()) = contents.push(bytes) else {
-            return Err(RunFault::Memory);
+            return Err(JobFault::Memory);
         };
     }
     Ok(contents)
@@ -167,10 +167,10 @@ pub fn package_files<F: Files>(
 ///
 /// # Errors
 /// `Memory`.
-pub fn packages_in<'p>(alloc: Global, contents: &'p [Vec<u8>]) -> Result<Vec<Package<'p>>, RunFault>
+pub fn packages_in<'p>(alloc: Global, contents: &'p [Vec<u8>]) -> Result<Vec<Package<'p>>, JobFault>
     requires { AllByRecursion (λ f. IsOk (package_of f.items)) contents.now }
     ensures is { IfOk result (λ ps. map (λ p. Ok p) ps.items ≡ map (λ f. package_of f.items) contents.now) }
-    ensures fault { IfErr result (λ e. e ≡ RunFault.Memory) }
+    ensures fault { IfErr result (λ e. e ≡ JobFault.Memory) }
 {
     let mut packages = Vec::new(alloc);
     for bytes in contents {
@@ -178,7 +178,7 @@ pub fn packages_in<'p>(alloc: Global, contents: &'p [Vec<u8>]) -> Result<Vec<Pac
             unreachable!()
         };
         let Ok(()) = packages.push(package) else {
-            return Err(RunFault::Memory);
+            return Err(JobFault::Memory);
         };
     }
     Ok(packages)
@@ -195,10 +195,10 @@ pub(crate) fn read_kept<D: Folder + Drop, T: Stores<D>>(
     stores: &T,
     root: Option<&str>,
     devices: &mut Vec<DeviceConfig>,
-) -> Result<(), RunFault>
+) -> Result<(), JobFault>
     ensures devices { OnOk result (AreDevices (option_map (stores_in (T.is_known stores.now) (T.files stores.now)) (option_map (λ p. p.now) root.entry)) (map device_of devices.old.items) (map device_of devices.new.items)) }
     ensures whole { OnOk result ((agent : ℕ) → AreWhole agent (map device_of devices.old.items) → AreWhole agent (map device_of devices.new.items)) }
-    ensures fault { IfErr result (λ e. (e ≡ RunFault.Memory)
+    ensures fault { IfErr result (λ e. (e ≡ JobFault.Memory)
         ⊎ IsSomeAnd (option_map (stores_in (T.is_known stores.now) (T.files stores.now)) (option_map (λ p. p.now) root.entry)) (λ s. TellsUnopened s (map device_of devices.old.items) e)) }
 {
     let Some(root) = root else {
@@ -221,10 +221,10 @@ pub(crate) fn open_kept<D: Folder + Drop, T: Stores<D>>(
     stores: &T,
     root: &str,
     devices: &mut Vec<DeviceConfig>,
-) -> Result<StoreBanks<D>, RunFault>
+) -> Result<StoreBanks<D>, JobFault>
     ensures stocked { OnOk result (HaveStoredImages (stores_in (T.is_known stores.now) (T.files stores.now) root.now) (map device_of devices.old.items) (map device_of devices.new.items)) }
     ensures whole { OnOk result ((agent : ℕ) → AreWhole agent (map device_of devices.old.items) → AreWhole agent (map device_of devices.new.items)) }
-    ensures fault { IfErr result (λ e. (e ≡ RunFault.Memory) ⊎ TellsUnopened (stores_in (T.is_known stores.now) (T.files stores.now) root.now) (map device_of devices.old.items) e) }
+    ensures fault { IfErr result (λ e. (e ≡ JobFault.Memory) ⊎ TellsUnopened (stores_in (T.is_known stores.now) (T.files stores.now) root.now) (map device_of devices.old.items) e) }
 {
     match open_stores(alloc, stores, root, devices.as_mut_slice()) {
         Ok(banks) => Ok(banks),

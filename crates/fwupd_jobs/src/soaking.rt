@@ -9,19 +9,19 @@ use crate::setups::{configuration, package_files, packages_in};
 use fw_script::{Config, write_schedule};
 use fw_soak::{Setup, SoakObserver, soak, summary_text};
 use fw_world::Step;
-use fwupd_watch::{Files, Output, OutputPlaces, RunFault, is_over_read, write_file};
+use fwupd_watch::{Files, JobFault, Output, OutputPlaces, is_over_read, write_file};
 use fwupd_words::SoakOrder;
 use std::alloc::Global;
 use std::io::Write;
 
 /// The fault of a record of steps if its file can't be made.
-fn unrecorded(fault: RunFault) -> RunFault
-    ensures memory { fault ≡ RunFault.Memory → result ≡ RunFault.Memory }
-    ensures other { fault ≢ RunFault.Memory → result ≡ RunFault.Record }
+fn unrecorded(fault: JobFault) -> JobFault
+    ensures memory { fault ≡ JobFault.Memory → result ≡ JobFault.Memory }
+    ensures other { fault ≢ JobFault.Memory → result ≡ JobFault.Record }
 {
     match fault {
-        RunFault::Memory => RunFault::Memory,
-        _ => RunFault::Record,
+        JobFault::Memory => JobFault::Memory,
+        _ => JobFault::Record,
     }
 }
 
@@ -34,17 +34,17 @@ fn keep<W: Write + Drop, P: OutputPlaces<W>>(
     steps: &[Step],
     path: &str,
     places: &mut P,
-) -> Result<(), RunFault>
+) -> Result<(), JobFault>
     ensures ok { OnOk result (P.is_known places.old ≡ true → P.held places.new path.now ≡ Some (schedule_text steps.now)) }
     ensures lasting { OnOk result (P.is_known places.old ≡ true
         → P.lasting places.new path.now ≡ Some (schedule_text steps.now)) }
     ensures kept { OnErr result (P.held places.new ≡ P.held places.old) }
     ensures stays { OnErr result (P.lasting places.new ≡ P.lasting places.old) }
     ensures left { P.is_begun places.old ≡ false → P.is_begun places.new ≡ false }
-    ensures fault { IfErr result (λ e. (e ≡ RunFault.Memory) ⊎ (e ≡ RunFault.Record)) }
+    ensures fault { IfErr result (λ e. (e ≡ JobFault.Memory) ⊎ (e ≡ JobFault.Record)) }
 {
     let Ok(text) = write_schedule(alloc, steps) else {
-        return Err(RunFault::Memory);
+        return Err(JobFault::Memory);
     };
     match write_file(places, path, &text) {
         Ok(()) => Ok(()),
@@ -61,7 +61,7 @@ fn judge<W: Write + Drop, P: OutputPlaces<W>>(
     kept: Option<Vec<Step>>,
     file: Option<&str>,
     places: &mut P,
-) -> Result<(), RunFault>
+) -> Result<(), JobFault>
     ensures ok { OnOk result (option_map (λ k. k.items) kept ≡ None) }
     ensures fault { IfErr result (λ e. ReportsViolation (option_map (λ k. k.items) kept) (option_map (λ p. p.now) file.entry) e (P.is_known places.old) (P.held places.new)) }
     ensures left { P.is_begun places.old ≡ false → P.is_begun places.new ≡ false }
@@ -75,7 +75,7 @@ fn judge<W: Write + Drop, P: OutputPlaces<W>>(
             Err(fault) => return Err(fault),
         }
     }
-    Err(RunFault::Violation)
+    Err(JobFault::Violation)
 }
 
 /// Makes many runs over rough links of the configuration in a file with its packages, and writes
@@ -97,7 +97,7 @@ pub fn soak_file<F: Files, V: SoakObserver, B: Write + Drop, P: OutputPlaces<B>,
     onlooker: &mut V,
     places: &mut P,
     output: &mut Output<W>,
-) -> Result<(), RunFault>
+) -> Result<(), JobFault>
     ensures ok { OnOk result (SoaksClean (F.holds files.now) config.now order (option_map (λ p. p.now) file.entry) output.old output.new) }
     ensures fault { IfErr result (λ e. SoakEnds (F.holds files.now) config.now order (option_map (λ p. p.now) file.entry) e (P.is_known places.old) (P.held places.new) output.old output.new) }
     ensures left { P.is_begun places.old ≡ false → P.is_begun places.new ≡ false }
@@ -112,7 +112,7 @@ pub fn soak_file<F: Files, V: SoakObserver, B: Write + Drop, P: OutputPlaces<B>,
         Err(fault) => return Err(fault),
     };
     if !is_numbered(paths.len(), 1) {
-        return Err(RunFault::NoPackage);
+        return Err(JobFault::NoPackage);
     }
     let contents = match package_files(alloc, files, paths.as_slice()) {
         Ok(contents) => contents,
@@ -123,7 +123,7 @@ pub fn soak_file<F: Files, V: SoakObserver, B: Write + Drop, P: OutputPlaces<B>,
         Err(fault) => return Err(fault),
     };
     if is_over_read(files, file, config, paths.as_slice()) {
-        return Err(RunFault::Record);
+        return Err(JobFault::Record);
     }
     let setup = Setup {
         agent,
@@ -132,10 +132,10 @@ pub fn soak_file<F: Files, V: SoakObserver, B: Write + Drop, P: OutputPlaces<B>,
         packages: packages.as_slice(),
     };
     let Ok(soaked) = soak(alloc, &setup, order.roughness, order.runs, onlooker) else {
-        return Err(RunFault::Memory);
+        return Err(JobFault::Memory);
     };
     let Ok(text) = summary_text(alloc, &soaked.summary) else {
-        return Err(RunFault::Memory);
+        return Err(JobFault::Memory);
     };
     match output.write(&text) {
         Ok(()) => {}

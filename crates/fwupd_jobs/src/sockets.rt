@@ -8,7 +8,7 @@ use crate::socket_names::{SocketNames, SystemNames};
 use crate::updating::Wires;
 use crate::write_behind::WriteBehind;
 use fw_edge::StreamLink;
-use fwupd_watch::RunFault;
+use fwupd_watch::JobFault;
 use mctp_wire::Unit;
 use std::alloc::Global;
 use std::io::{self, IsTerminal};
@@ -103,16 +103,16 @@ impl<'a> Wires<SocketLink> for Sockets<'a> {
 
     ghost is_to = { λ unit folder device link. bytes_of link.unit == bytes_of unit };
 
-    fn open(&mut self, unit: Unit, folder: &str, device: u8) -> Result<SocketLink, RunFault> {
+    fn open(&mut self, unit: Unit, folder: &str, device: u8) -> Result<SocketLink, JobFault> {
         let Ok(path) = format!(in self.rt.alloc(); "{folder}/{device}.sock") else {
-            return Err(RunFault::Memory);
+            return Err(JobFault::Memory);
         };
         match socket_link(self.rt.alloc(), &mut self.names, unit, &path) {
             Ok(link) => Ok(link),
-            Err(error) if error.kind() == io::ErrorKind::OutOfMemory => Err(RunFault::Memory),
+            Err(error) if error.kind() == io::ErrorKind::OutOfMemory => Err(JobFault::Memory),
             Err(error) => {
                 self.refused = Some((device, error));
-                Err(RunFault::Socket(device))
+                Err(JobFault::Socket(device))
             }
         }
     }

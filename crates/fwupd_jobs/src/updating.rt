@@ -24,7 +24,7 @@ use fw_setup::{Stores, opening_world, opening_world_over};
 use fw_store::Folder;
 use fw_world::{World, packets_are_safe};
 use fwupd_base::{Form, Roughness};
-use fwupd_watch::{Files, Observer, Output, RunFault, begin_apart, update_observed};
+use fwupd_watch::{Files, JobFault, Observer, Output, begin_apart, update_observed};
 use fwupd_words::{Order, Show};
 use mctp_wire::Unit;
 use std::alloc::Global;
@@ -43,10 +43,10 @@ pub trait Wires<L> {
     ///
     /// # Errors
     /// `Socket` if it can't be made, and `Memory`.
-    fn open(&mut self, unit: Unit, folder: &str, device: u8) -> Result<L, RunFault>
+    fn open(&mut self, unit: Unit, folder: &str, device: u8) -> Result<L, JobFault>
         ensures to { IfOk result (λ link. is_to unit folder.now device link ≡ true) }
         ensures same { lacks self.new ≡ lacks self.old }
-        ensures fault { IfErr result (λ e. (e ≡ RunFault.Memory) ⊎ ((e ≡ RunFault.Socket device) × (lacks self.old folder.now device ≡ true))) };
+        ensures fault { IfErr result (λ e. (e ≡ JobFault.Memory) ⊎ ((e ≡ JobFault.Socket device) × (lacks self.old folder.now device ≡ true))) };
 }
 
 /// Opens a link to each device of a world, in configured order, each with the requested roughness
@@ -57,11 +57,11 @@ fn open_all<B: Bank + Drop, L: Link + Drop, S: Wires<L>>(
     folder: &str,
     roughness: Roughness,
     wires: &mut S,
-) -> Result<Vec<Rough<L>>, RunFault>
+) -> Result<Vec<Rough<L>>, JobFault>
     ensures links { IfOk result (λ links. length links.items ≡ length world.now.sites) }
     ensures each { IfOk result (λ links. HaveLinks (λ unit device link. S.is_to unit folder.now device link.link ≡ true) world.now.sites links.items) }
     ensures rough { IfOk result (λ links. HaveLinks (λ unit device link. IsRoughLink roughness device link.roughness link.generator) world.now.sites links.items) }
-    ensures fault { IfErr result (λ e. (e ≡ RunFault.Memory) ⊎ IsUnlinked world.now (S.lacks wires.old folder.now) e) }
+    ensures fault { IfErr result (λ e. (e ≡ JobFault.Memory) ⊎ IsUnlinked world.now (S.lacks wires.old folder.now) e) }
 {
     let mut links = Vec::new(alloc);
     for place in 0..world.device_count() {
@@ -75,10 +75,10 @@ fn open_all<B: Bank + Drop, L: Link + Drop, S: Wires<L>>(
         let stream = u64::from(node.eid());
         let rough = match Rough::with_room(alloc, link, roughness, stream) {
             Ok(rough) => rough,
-            Err(_) => return Err(RunFault::Memory),
+            Err(_) => return Err(JobFault::Memory),
         };
         let Ok(()) = links.push(rough) else {
-            return Err(RunFault::Memory);
+            return Err(JobFault::Memory);
         };
     }
     Ok(links)
@@ -90,12 +90,12 @@ fn write_report<B: Bank + Drop, W: Write + Drop>(
     world: &World<'_, B>,
     form: Form,
     output: &mut Output<W>,
-) -> Result<(), RunFault>
+) -> Result<(), JobFault>
     ensures ok { OnOk result (WritesOutput output.old output.new (report_in form world.now)) }
-    ensures fault { IfErr result (λ e. ((e ≡ RunFault.Memory) × (output.new ≡ output.old)) ⊎ ((e ≡ RunFault.Output) × FailsToWriteOutput output.old output.new (report_in form world.now))) }
+    ensures fault { IfErr result (λ e. ((e ≡ JobFault.Memory) × (output.new ≡ output.old)) ⊎ ((e ≡ JobFault.Output) × FailsToWriteOutput output.old output.new (report_in form world.now))) }
 {
     let Ok(text) = report_in(alloc, world, form) else {
-        return Err(RunFault::Memory);
+        return Err(JobFault::Memory);
     };
     match output.write(&text) {
         Ok(()) => Ok(()),
@@ -150,7 +150,7 @@ fn update_reporting<B: Bank + Drop, L: Link + Drop, V: Observer>(
     order: Order,
     links: &mut [Rough<L>],
     watch: &mut V,
-) -> Result<(), RunFault>
+) -> Result<(), JobFault>
     requires each { length links.old ≡ length world.old.sites }
     requires rough { HaveLinks (λ unit device link. IsRoughLink order.roughness device link.roughness link.generator) world.old.sites links.old }
     ensures updated { OnOk result (UpdateOk order.number world.old world.new) }
@@ -163,16 +163,16 @@ fn update_reporting<B: Bank + Drop, L: Link + Drop, V: Observer>(
     ensures ended { (V.watched watch.new).has_ended ≡ true }
     ensures same { (V.watched watch.new).shows ≡ (V.watched watch.old).shows }
     ensures turns { OnOk result ((V.watched watch.old).seen ≡ 0 → UpdatesDevices order.number world.old world.new (V.watched watch.new).seen) }
-    ensures lost { IfErr result (λ e. e ≡ RunFault.Edge EdgeFault.Frame → TellsLost world.new (map (λ l. l.tally.failures) links.new) (V.watched watch.new).lost) }
+    ensures lost { IfErr result (λ e. e ≡ JobFault.Edge EdgeFault.Frame → TellsLost world.new (map (λ l. l.tally.failures) links.new) (V.watched watch.new).lost) }
     ensures none_lost { OnOk result ((V.watched watch.new).lost ≡ (V.watched watch.old).lost) }
-    ensures fault { IfErr result (λ e. (e ≡ RunFault.Memory) ⊎ IsCaused order.number world.old world.new e (V.watched watch.new)) }
+    ensures fault { IfErr result (λ e. (e ≡ JobFault.Memory) ⊎ IsCaused order.number world.old world.new e (V.watched watch.new)) }
     ensures kept { OnOk result (map (λ l. l.tally.failures) links.new ≡ map (λ l. l.tally.failures) links.old) }
     ensures failed { IfErr result (λ e. ReportsLinkFailures e (map (λ l. l.tally.failures) links.old) (map (λ l. l.tally.failures) links.new)) }
     ensures sees { (V.watched watch.old).seen ≡ 0 → RunsStepsSeen order.number world.old world.new (V.watched watch.new).seen }
 {
     match update_observed(alloc, world, order.number, links, watch) {
         Ok(()) => Ok(()),
-        Err(RunFault::Memory) => Err(RunFault::Memory),
+        Err(JobFault::Memory) => Err(JobFault::Memory),
         Err(fault) => {
             lose_failed(world, links, watch);
             Err(fault)
@@ -191,7 +191,7 @@ fn update_over<B: Bank + Drop, L: Link + Drop, S: Wires<L>, V: Observer, W: Writ
     wires: &mut S,
     watch: &mut V,
     output: &mut Output<W>,
-) -> Result<Option<Undone>, RunFault>
+) -> Result<Option<Undone>, JobFault>
     ensures updated { OnOk result (UpdateOk order.number world.old world.new) }
     ensures seen { OnOk result ((V.watched watch.new).fault ≡ None) }
     ensures recorded { OnOk result (IfSome (V.watched watch.old).recording IsNewRecording → IfSome (V.watched watch.new).recording (HasRecordedSteps world.old world.new)) }
@@ -200,7 +200,7 @@ fn update_over<B: Bank + Drop, L: Link + Drop, S: Wires<L>, V: Observer, W: Writ
     ensures history_still { IfErr result (λ e. IsBrokenRun e → HasHistoryLinesIfAny (V.watched watch.old).history world.old.history → MayHaveHistoryLines (V.watched watch.new).history world.new.history) }
     ensures let_end { OnOk result ((V.watched watch.new).has_ended ≡ true) }
     ensures turns { OnOk result ((V.watched watch.old).seen ≡ 0 → UpdatesDevices order.number world.old world.new (V.watched watch.new).seen) }
-    ensures lost { IfErr result (λ e. e ≡ RunFault.Edge EdgeFault.Frame → NamesLost world.new (V.watched watch.new).lost) }
+    ensures lost { IfErr result (λ e. e ≡ JobFault.Edge EdgeFault.Frame → NamesLost world.new (V.watched watch.new).lost) }
     ensures none_lost { OnOk result ((V.watched watch.new).lost ≡ (V.watched watch.old).lost) }
     ensures unwritten { IfErr result (λ e. HasObserverFault e (V.watched watch.new).fault) }
     ensures same { (V.watched watch.new).shows ≡ (V.watched watch.old).shows }
@@ -216,7 +216,7 @@ fn update_over<B: Bank + Drop, L: Link + Drop, S: Wires<L>, V: Observer, W: Writ
     };
     match update_reporting(alloc, world, order, links.as_mut_slice(), watch) {
         Ok(()) => {}
-        Err(RunFault::Memory) => return Err(RunFault::Memory),
+        Err(JobFault::Memory) => return Err(JobFault::Memory),
         Err(fault) => {
             match write_report(alloc, world, form, output) {
                 Ok(()) => {}
@@ -246,7 +246,7 @@ fn update_new<F: Files, B: Bank + Drop, L: Link + Drop, S: Wires<L>, V: Observer
     wires: &mut S,
     watch: &mut V,
     output: &mut Output<W>,
-) -> Result<Option<Undone>, RunFault>
+) -> Result<Option<Undone>, JobFault>
     requires { IsOpeningWorld world.old }
     ensures ok { IfOk result (λ undone. (source : SourceOf) (named : IsNumberedSetup (F.holds files.now) source order.number world.old) → source.path ≡ config.now
         → named.setup.config.packages ≡ map (λ p. string_bytes p) packages.now
@@ -303,7 +303,7 @@ pub fn update_files<
     wires: &mut S,
     watch: &mut V,
     output: &mut Output<W>,
-) -> Result<Option<Undone>, RunFault>
+) -> Result<Option<Undone>, JobFault>
     ensures ok { IfOk result (λ undone. ReportsUpdate (F.holds files.now) (source_of (stores_in (T.is_known stores.now) (T.files stores.now)) (option_map (λ p. p.now) store.entry) config.now) order.number (show_of show.entry) (V.watched watch.new) output.old output.new undone) }
     ensures fault { IfErr result (λ e. UpdateEnds (F.holds files.now) (source_of (stores_in (T.is_known stores.now) (T.files stores.now)) (option_map (λ p. p.now) store.entry) config.now) order.number (show_of show.entry) (V.refuses watch.old) (S.lacks wires.old folder.now) e (V.watched watch.new) output.old output.new) }
     ensures untouched { IfErr result (λ e. (watch.new ≡ watch.old) ⊎ HasObserverFault e (V.watched watch.new).fault) }
@@ -319,7 +319,7 @@ pub fn update_files<
         Err(fault) => return Err(fault),
     };
     if !is_numbered(paths.len(), order.number) {
-        return Err(RunFault::NoPackage);
+        return Err(JobFault::NoPackage);
     }
     let contents = match package_files(alloc, files, paths.as_slice()) {
         Ok(contents) => contents,
@@ -331,7 +331,7 @@ pub fn update_files<
     };
     let Some(root) = store else {
         let Ok(mut world) = opening_world(alloc, unit, agent, devices, packages.as_slice()) else {
-            return Err(RunFault::Memory);
+            return Err(JobFault::Memory);
         };
         match update_new(
             alloc, files, config, &paths, &mut world, order, folder, show, wires, watch, output,
@@ -354,7 +354,7 @@ pub fn update_files<
         packages.as_slice(),
         &mut banks,
     ) else {
-        return Err(RunFault::Memory);
+        return Err(JobFault::Memory);
     };
     match update_new(
         alloc, files, config, &paths, &mut world, order, folder, show, wires, watch, output,

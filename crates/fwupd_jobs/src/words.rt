@@ -4,7 +4,7 @@ ghost use Rattle.std.specs.Prelude.{◌≡◌, ◌≢◌, ◌⊎◌, IfErr};
 ghost use Rattle.std.specs.Process.{exit_status};
 
 use crate::program::{USAGE, failed};
-use fwupd_watch::RunFault;
+use fwupd_watch::JobFault;
 use std::io::ErrorKind;
 use std::process::ExitCode;
 
@@ -15,7 +15,7 @@ fn no_words(rt: &HostRuntime, kind: ErrorKind) -> ExitCode
     ensures mistake { kind ≢ ErrorKind.OutOfMemory → exit_status result ≡ 2 }
 {
     if kind == ErrorKind::OutOfMemory {
-        return failed(rt, &RunFault::Memory);
+        return failed(rt, &JobFault::Memory);
     }
     let _ = eprintln!(rt; "error: an argument isn't UTF-8 text");
     ExitCode::from(USAGE)
@@ -31,6 +31,6 @@ pub(crate) fn words(rt: &HostRuntime) -> Result<Vec<String>, ExitCode>
     };
     match args.collect(rt.alloc()) {
         Ok(words) => Ok(words),
-        Err(_) => Err(failed(rt, &RunFault::Memory)),
+        Err(_) => Err(failed(rt, &JobFault::Memory)),
     }
 }

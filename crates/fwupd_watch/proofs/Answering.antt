@@ -9,7 +9,7 @@ use Rattle.fwupd_base.specs.declared.stream.AnswerFault.{AnswerFault}
 use Rattle.fwupd_base.specs.declared.stream.AnswerFault.TheVariants as answers
 use Rattle.fwupd_watch.specs.Answering.{AnswerEnds, IsAnswered}
 use Rattle.fwupd_watch.specs.Outputs.{OutputOf}
-use Rattle.fwupd_watch.specs.declared.faults.RunFault.TheVariants as faults
+use Rattle.fwupd_watch.specs.declared.faults.JobFault.TheVariants as faults
 
 -- nothing is held back
 pub held_none : (known : Option (List ℕ)) (held : List ℕ) → held ≡ [] → append_known known held ≡ known

@@ -19,9 +19,9 @@ use Rattle.fw_steps.specs.declared.step.Step.{Step}
 use Rattle.fw_steps.specs.declared.step.Step.TheVariants as steps
 use Rattle.fw_edge.specs.declared.driving.EdgeFault.{EdgeFault}
 use Rattle.fw_edge.specs.declared.driving.EdgeFault.TheVariants as edges
-use Rattle.fwupd_watch.specs.Running.{ReportsLinkFailures, IsCaused, IsRefusedStart, HasObserverFault, MayEnd, MayStart, RunsSteps, RunsStepsSeen, UpdatesDevices, ObserverOf, starts_of, run_fault_of_observer, run_fault_of, observer_fault_of}
-use Rattle.fwupd_watch.specs.declared.faults.RunFault.{RunFault}
-use Rattle.fwupd_watch.specs.declared.faults.RunFault.TheVariants as told
+use Rattle.fwupd_watch.specs.Running.{ReportsLinkFailures, IsCaused, IsRefusedStart, HasObserverFault, MayEnd, MayStart, RunsSteps, RunsStepsSeen, UpdatesDevices, ObserverOf, starts_of, job_fault_of_observer, job_fault_of, observer_fault_of}
+use Rattle.fwupd_watch.specs.declared.faults.JobFault.{JobFault}
+use Rattle.fwupd_watch.specs.declared.faults.JobFault.TheVariants as told
 use Rattle.fwupd_watch.specs.declared.running.ObserverFault.{ObserverFault}
 use Rattle.fwupd_watch.specs.declared.running.ObserverFault.TheVariants as watches
 
@@ -205,31 +205,31 @@ begun_seen number w v place h =
     record { lead = begun_reached number w v place h; each = omega arith; few = omega arith }
 
 -- an observer's fault differs from that of a turn
-pub watched_apart : (f : ObserverFault) (e : EdgeFault) → run_fault_of_observer f ≡ told.Edge e → ⊥
+pub watched_apart : (f : ObserverFault) (e : EdgeFault) → job_fault_of_observer f ≡ told.Edge e → ⊥
 watched_apart watches.Unwritten e h = cc
 watched_apart watches.Unlogged e h = cc
 watched_apart watches.Unrecorded e h = cc
 watched_apart watches.Unkept e h = cc
 watched_apart watches.Memory e h = cc
 
-pub turned_apart : (e : EdgeFault) (fault : RunFault) (seen : Option ObserverFault) → fault ≡ run_fault_of e → HasObserverFault fault seen
+pub turned_apart : (e : EdgeFault) (fault : JobFault) (seen : Option ObserverFault) → fault ≡ job_fault_of e → HasObserverFault fault seen
 turned_apart edges.Frame fault seen e = rw e tt
 turned_apart edges.Step fault seen e = rw e tt
 turned_apart edges.Memory fault seen e = rw e tt
 
 -- a link's fault is reported as one, after turns in which none failed
-pub told_links : (e : EdgeFault) (fault : RunFault) (os ms ns : List ℕ) → fault ≡ run_fault_of e → ms ≡ os
+pub told_links : (e : EdgeFault) (fault : JobFault) (os ms ns : List ℕ) → fault ≡ job_fault_of e → ms ≡ os
     → (e ≡ edges.Frame → OneFailed ms ns) × (e ≢ edges.Frame → ns ≡ ms) → ReportsLinkFailures fault os ns
 told_links edges.Frame fault os ms ns e same h = (λ is. subst (λ xs. OneFailed xs ns) same (h.0 refl), λ other. absurd (other e))
 told_links edges.Step fault os ms ns e same h = (λ is. absurd (let no = sym e ∙ is in cc), λ other. h.1 (λ no. cc) ∙ same)
 told_links edges.Memory fault os ms ns e same h = (λ is. absurd (let no = sym e ∙ is in cc), λ other. h.1 (λ no. cc) ∙ same)
 
 -- a fault that isn't an observer's
-pub none_unwritten : (fault : RunFault) (seen : Option ObserverFault) → observer_fault_of fault ≡ None → HasObserverFault fault seen
+pub none_unwritten : (fault : JobFault) (seen : Option ObserverFault) → observer_fault_of fault ≡ None → HasObserverFault fault seen
 none_unwritten fault seen e = rw e tt
 
 -- an output of the observer can't be written
-pub unwritten_by : (f : ObserverFault) (seen : Option ObserverFault) (fault : RunFault) → fault ≡ run_fault_of_observer f → seen ≡ Some f → HasObserverFault fault seen
+pub unwritten_by : (f : ObserverFault) (seen : Option ObserverFault) (fault : JobFault) → fault ≡ job_fault_of_observer f → seen ≡ Some f → HasObserverFault fault seen
 unwritten_by watches.Unwritten seen fault e is = rw e is
 unwritten_by watches.Unlogged seen fault e is = rw e is
 unwritten_by watches.Unrecorded seen fault e is = rw e is
@@ -242,7 +242,7 @@ first_still r old new f e first after =
     let is : r ≡ Err f = subst (λ o. IfSome o (λ g. r ≡ Err g)) e first in
     subst (λ q. IfErr q (λ g. new ≡ Some g)) is after
 
-pub unwritten_still : (r : Result (Prim.Unit {0}) ObserverFault) (old new : Option ObserverFault) (fault : RunFault) → HasObserverFault fault old → IfSome old (λ g. r ≡ Err g) → IfErr r (λ g. new ≡ Some g) → HasObserverFault fault new
+pub unwritten_still : (r : Result (Prim.Unit {0}) ObserverFault) (old new : Option ObserverFault) (fault : JobFault) → HasObserverFault fault old → IfSome old (λ g. r ≡ Err g) → IfErr r (λ g. new ≡ Some g) → HasObserverFault fault new
 unwritten_still r old new fault h first after = go (observer_fault_of fault) h
   where
     go : (o : Option ObserverFault) → IfSome o (λ f. old ≡ Some f) → IfSome o (λ f. new ≡ Some f)
@@ -250,12 +250,12 @@ unwritten_still r old new fault h first after = go (observer_fault_of fault) h
     go (Some f) is = first_still r old new f is first after
 
 -- the cause of an update's end
-pub update_caused : (number : ℕ) (w v : WorldOf) (fault : RunFault) (watched : ObserverOf) → MayEnd fault → (fault ≡ told.Edge edges.Step → IsRefusedStart number w v ⊎ (v.now ≡ 2 ^ 32 - 1))
+pub update_caused : (number : ℕ) (w v : WorldOf) (fault : JobFault) (watched : ObserverOf) → MayEnd fault → (fault ≡ told.Edge edges.Step → IsRefusedStart number w v ⊎ (v.now ≡ 2 ^ 32 - 1))
     → HasObserverFault fault watched.fault → watched.has_ended ≡ true → (fault ≡ told.Memory) ⊎ IsCaused number w v fault watched
 update_caused number w v fault watched (inl e) step unwritten ended = inl e
 update_caused number w v fault watched (inr b) step unwritten ended = inr (record { broken = b; stopped = step; unwritten = unwritten; let_end = ended })
 
-pub caused_unwritten : (number : ℕ) (w v : WorldOf) (fault : RunFault) (watched : ObserverOf) → (fault ≡ told.Memory) ⊎ IsCaused number w v fault watched → HasObserverFault fault watched.fault
+pub caused_unwritten : (number : ℕ) (w v : WorldOf) (fault : JobFault) (watched : ObserverOf) → (fault ≡ told.Memory) ⊎ IsCaused number w v fault watched → HasObserverFault fault watched.fault
 caused_unwritten number w v fault watched (inl e) = rw e tt
 caused_unwritten number w v fault watched (inr h) = h.unwritten
 

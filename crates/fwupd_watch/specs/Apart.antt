@@ -3,8 +3,8 @@ use Rattle.std.specs.Prelude.{ℕ, ◌⊎◌, Bool, List, Option, None, IfSome, 
 use Rattle.std.specs.List.{AllByRecursion}
 use Rattle.fwupd_watch.specs.Files.{FileOf, IsApartFrom, IsInFolder, IsOutsideFolder, IsOver, IsOverOne}
 use Rattle.fwupd_watch.specs.Running.{HasObserverFault, MayRefuse, ShowOf, ObserverOf}
-use Rattle.fwupd_watch.specs.declared.faults.RunFault.{RunFault}
-use Rattle.fwupd_watch.specs.declared.faults.RunFault.TheVariants as faults
+use Rattle.fwupd_watch.specs.declared.faults.JobFault.{JobFault}
+use Rattle.fwupd_watch.specs.declared.faults.JobFault.TheVariants as faults
 
 -- An output, if there is one, may overwrite one of the paths or one of two other outputs; or it
 -- overwrites none of them.
@@ -33,12 +33,12 @@ IsApart files show paths =
     × (IsApartFromUsed files show.record_path show.trace show.log paths × IsOutOfStore files show.record_path show.store))
 
 -- The output of this fault would overwrite one of the paths or another output, or is in a store.
-abbrev pub IsOverRead : (files : List ℕ → FileOf) → ShowOf → List (List ℕ) → RunFault → Type 0
+abbrev pub IsOverRead : (files : List ℕ → FileOf) → ShowOf → List (List ℕ) → JobFault → Type 0
 IsOverRead files show paths faults.Trace = IsOverUsed files show.trace None None paths ⊎ IsInStore files show.trace show.store
 IsOverRead files show paths faults.Log = IsOverUsed files show.log show.trace None paths ⊎ IsInStore files show.log show.store
 IsOverRead files show paths faults.Record = IsOverUsed files show.record_path show.trace show.log paths ⊎ IsInStore files show.record_path show.store
 IsOverRead files show paths told = ⊥
 
 -- The observer doesn't begin, for this fault.
-abbrev pub IsBarred : (files : List ℕ → FileOf) (refuses : List ℕ → Bool) (show : ShowOf) (paths : List (List ℕ)) (told : RunFault) (watched : ObserverOf) → Type 0
+abbrev pub IsBarred : (files : List ℕ → FileOf) (refuses : List ℕ → Bool) (show : ShowOf) (paths : List (List ℕ)) (told : JobFault) (watched : ObserverOf) → Type 0
 IsBarred files refuses show paths told watched = IsOverRead files show paths told ⊎ (HasObserverFault told watched.fault × MayRefuse refuses show told)

@@ -15,8 +15,8 @@ use Rattle.fwupd_watch.specs.Histories.{HistoryOf}
 use Rattle.fwupd_watch.specs.Recordings.{RecordingOf}
 use Rattle.fwupd_words.specs.declared.asked.Show.{Show}
 use Rattle.fwupd_words.specs.declared.asked.TraceForm.{TraceForm}
-use Rattle.fwupd_watch.specs.declared.faults.RunFault.{RunFault}
-use Rattle.fwupd_watch.specs.declared.faults.RunFault.TheVariants as faults
+use Rattle.fwupd_watch.specs.declared.faults.JobFault.{JobFault}
+use Rattle.fwupd_watch.specs.declared.faults.JobFault.TheVariants as faults
 use Rattle.fwupd_watch.specs.declared.running.ObserverFault.{ObserverFault}
 use Rattle.fwupd_watch.specs.declared.running.ObserverFault.TheVariants as watches
 
@@ -57,7 +57,7 @@ pub record RunsStepsSeen (number : ℕ) (w v : WorldOf) (seen : ℕ) : Type 0 wh
   pub few : seen ≤ ticks_in lead.steps + 1
 
 -- a fault that stops a run, after which its world is reported; lack of memory is reported alone
-abbrev pub IsBrokenRun : RunFault → Type 0
+abbrev pub IsBrokenRun : JobFault → Type 0
 IsBrokenRun (faults.Edge edges.Frame) = Prim.Unit {0}
 IsBrokenRun (faults.Edge edges.Step) = Prim.Unit {0}
 IsBrokenRun faults.Trace = Prim.Unit {0}
@@ -67,20 +67,20 @@ IsBrokenRun faults.History = Prim.Unit {0}
 IsBrokenRun fault = ⊥
 
 -- the fault of a run that stops within a turn
-abbrev pub run_fault_of : EdgeFault → RunFault
-run_fault_of edges.Memory = faults.Memory
-run_fault_of fault = faults.Edge fault
+abbrev pub job_fault_of : EdgeFault → JobFault
+job_fault_of edges.Memory = faults.Memory
+job_fault_of fault = faults.Edge fault
 
 -- and the fault of a run whose observer failed
-abbrev pub run_fault_of_observer : ObserverFault → RunFault
-run_fault_of_observer watches.Unwritten = faults.Trace
-run_fault_of_observer watches.Unlogged = faults.Log
-run_fault_of_observer watches.Unrecorded = faults.Record
-run_fault_of_observer watches.Unkept = faults.History
-run_fault_of_observer watches.Memory = faults.Memory
+abbrev pub job_fault_of_observer : ObserverFault → JobFault
+job_fault_of_observer watches.Unwritten = faults.Trace
+job_fault_of_observer watches.Unlogged = faults.Log
+job_fault_of_observer watches.Unrecorded = faults.Record
+job_fault_of_observer watches.Unkept = faults.History
+job_fault_of_observer watches.Memory = faults.Memory
 
 -- the observer's fault of a run's fault, if it is one
-abbrev pub observer_fault_of : RunFault → Option ObserverFault
+abbrev pub observer_fault_of : JobFault → Option ObserverFault
 observer_fault_of faults.Trace = Some watches.Unwritten
 observer_fault_of faults.Log = Some watches.Unlogged
 observer_fault_of faults.Record = Some watches.Unrecorded
@@ -88,11 +88,11 @@ observer_fault_of faults.History = Some watches.Unkept
 observer_fault_of fault = None
 
 -- If the fault is that an output can't be written, the observer has that fault.
-abbrev pub HasObserverFault : RunFault → Option ObserverFault → Type 0
+abbrev pub HasObserverFault : JobFault → Option ObserverFault → Type 0
 HasObserverFault told fault = IfSome (observer_fault_of told) (λ f. fault ≡ Some f)
 
 -- The fault is that of a link exactly if a link failed.
-abbrev pub ReportsLinkFailures : RunFault → List ℕ → List ℕ → Type 0
+abbrev pub ReportsLinkFailures : JobFault → List ℕ → List ℕ → Type 0
 ReportsLinkFailures told os ns = (told ≡ faults.Edge edges.Frame → OneFailed os ns) × (told ≢ faults.Edge edges.Frame → ns ≡ os)
 
 -- The updates of the devices before one are started, and the start of its update with package
@@ -115,7 +115,7 @@ pub record MayStart (number : ℕ) (w v : WorldOf) : Type 0 where
   pub allowed : (fault : StepFault) → fault ≢ stops.Memory → may_step v (steps.Start site.node.endpoint.eid number) ≢ Some fault
 
 -- such a fault, or lack of memory
-abbrev pub MayEnd : RunFault → Type 0
+abbrev pub MayEnd : JobFault → Type 0
 MayEnd fault = (fault ≡ faults.Memory) ⊎ IsBrokenRun fault
 
 -- The requested outputs of a run: whether progress is suppressed; the path and the format of the
@@ -189,7 +189,7 @@ pub record ObserverOf : Type 0 where
   pub history : Option HistoryOf
 
 -- The output of this fault may be refused.
-abbrev pub MayRefuse : (refuses : List ℕ → Bool) → ShowOf → RunFault → Type 0
+abbrev pub MayRefuse : (refuses : List ℕ → Bool) → ShowOf → JobFault → Type 0
 MayRefuse refuses show faults.Trace = IsSomeAnd show.trace (λ path. refuses path ≡ true)
 MayRefuse refuses show faults.Log = IsSomeAnd show.log (λ path. refuses path ≡ true)
 MayRefuse refuses show faults.Record = IsSomeAnd show.record_path (λ path. refuses path ≡ true)
@@ -198,7 +198,7 @@ MayRefuse refuses show told = ⊥
 
 -- The cause of a run's fault: a start is refused or the clock is at its last tick, or an output of
 -- the observer can't be written. The observer has ended.
-pub record IsCaused (number : ℕ) (w v : WorldOf) (told : RunFault) (watched : ObserverOf) : Type 0 where
+pub record IsCaused (number : ℕ) (w v : WorldOf) (told : JobFault) (watched : ObserverOf) : Type 0 where
   pub broken : IsBrokenRun told
   pub stopped : told ≡ faults.Edge edges.Step → IsRefusedStart number w v ⊎ (v.now ≡ 2 ^ 32 - 1)
   pub unwritten : HasObserverFault told watched.fault

@@ -8,7 +8,7 @@ ghost use Rattle.fwupd_watch.specs.Recordings.{IsNewRecording};
 ghost use Rattle.fwupd_watch.specs.Running.{HasObserverFault, show_of, shown_of};
 ghost use Rattle.fwupd_watch.specs.Apart.{IsApart, IsApartFromUsed, IsBarred, IsInStore, IsOutOfStore, IsOverUsed};
 
-use crate::faults::RunFault;
+use crate::faults::JobFault;
 use crate::files::{Files, is_read, is_same_file};
 use crate::running::{Observer, observer_fault};
 use fwupd_words::Show;
@@ -99,14 +99,14 @@ pub fn begin_apart<F: Files, V: Observer>(
     packages: &[String],
     show: Show<'_>,
     watch: &mut V,
-) -> Result<(), RunFault>
+) -> Result<(), JobFault>
     ensures shows { OnOk result ((V.watched watch.new).shows ≡ shown_of (show_of show.entry)) }
     ensures anew { OnOk result (((V.watched watch.new).seen ≡ 0) × ((V.watched watch.new).lost ≡ None)) }
     ensures recording { OnOk result (IfSome (V.watched watch.new).recording IsNewRecording) }
     ensures history { OnOk result (IfSome (V.watched watch.new).history HasNoLines) }
     ensures apart { OnOk result (IsApart (F.holds files.now) (show_of show.entry) (config.now ∷ map (λ p. string_bytes p) packages.now)) }
     ensures untouched { IfErr result (λ e. (watch.new ≡ watch.old) ⊎ HasObserverFault e (V.watched watch.new).fault) }
-    ensures fault { IfErr result (λ e. (e ≡ RunFault.Memory)
+    ensures fault { IfErr result (λ e. (e ≡ JobFault.Memory)
         ⊎ IsBarred (F.holds files.now) (V.refuses watch.old) (show_of show.entry) (config.now ∷ map (λ p. string_bytes p) packages.now) e (V.watched watch.new)) }
 {
     let store = show.store;
@@ -114,15 +114,15 @@ pub fn begin_apart<F: Files, V: Observer>(
         alloc, files, show.trace, None, None, config, packages, store,
     ) {
         Ok(false) => {}
-        Ok(true) => return Err(RunFault::Trace),
-        Err(_) => return Err(RunFault::Memory),
+        Ok(true) => return Err(JobFault::Trace),
+        Err(_) => return Err(JobFault::Memory),
     }
     match is_barred(
         alloc, files, show.log, show.trace, None, config, packages, store,
     ) {
         Ok(false) => {}
-        Ok(true) => return Err(RunFault::Log),
-        Err(_) => return Err(RunFault::Memory),
+        Ok(true) => return Err(JobFault::Log),
+        Err(_) => return Err(JobFault::Memory),
     }
     match is_barred(
         alloc,
@@ -135,8 +135,8 @@ pub fn begin_apart<F: Files, V: Observer>(
         store,
     ) {
         Ok(false) => {}
-        Ok(true) => return Err(RunFault::Record),
-        Err(_) => return Err(RunFault::Memory),
+        Ok(true) => return Err(JobFault::Record),
+        Err(_) => return Err(JobFault::Memory),
     }
     match watch.begin(show) {
         Ok(()) => Ok(()),

@@ -2,7 +2,7 @@
 
 ghost use Rattle.std.specs.Prelude.{◌≡◌, None, OnErr, false, is_some};
 
-use crate::faults::RunFault;
+use crate::faults::JobFault;
 use crate::files::{Files, SystemFiles, folder_and_name};
 use crate::history_opening::sync_names;
 use crate::places::{FileCalls, WholeFiles};
@@ -124,21 +124,21 @@ impl<'a> FileCalls<File> for SystemCalls<'a> {
 
     ghost is_made = { λ c. is_some c.made };
 
-    fn make(&mut self, path: &str) -> Result<File, RunFault> {
+    fn make(&mut self, path: &str) -> Result<File, JobFault> {
         match self.make_beside(path) {
             Ok(file) => Ok(file),
-            Err(error) if error.kind() == ErrorKind::OutOfMemory => Err(RunFault::Memory),
-            Err(_) => Err(RunFault::Output),
+            Err(error) if error.kind() == ErrorKind::OutOfMemory => Err(JobFault::Memory),
+            Err(_) => Err(JobFault::Output),
         }
     }
 
-    fn rename(&mut self, _path: &str, _file: &File) -> Result<(), RunFault> {
+    fn rename(&mut self, _path: &str, _file: &File) -> Result<(), JobFault> {
         let Some(made) = &self.made else {
-            return Err(RunFault::Output);
+            return Err(JobFault::Output);
         };
         match fs::rename(self.rt, made.name.as_str(), made.place.as_str()) {
             Ok(()) => {}
-            Err(_) => return Err(RunFault::Output),
+            Err(_) => return Err(JobFault::Output),
         }
         // The file is at its place; a failure to sync its directory entry is not an error.
         let (folder, _) = folder_and_name(&made.place);

@@ -1,7 +1,7 @@
 //! The faults that end the program with status 1.
 
 ghost use Rattle.std.specs.Prelude.{◌≡◌};
-ghost use Rattle.fwupd_watch.specs.Running.{MayEnd, run_fault_of};
+ghost use Rattle.fwupd_watch.specs.Running.{MayEnd, job_fault_of};
 
 use fw_edge::EdgeFault;
 use fw_package::PackageFault;
@@ -13,7 +13,7 @@ use thiserror::Error;
 
 /// The faults that end the program with status 1. The text is printed after `fwupd: `.
 #[derive(Debug, Drop, Error)]
-pub enum RunFault {
+pub enum JobFault {
     /// Answering packets failed.
     #[error("{0}")]
     Answer(AnswerFault),
@@ -72,12 +72,12 @@ pub enum RunFault {
 }
 
 /// Returns the fault of a run over links that stopped early.
-pub fn edge_fault(fault: EdgeFault) -> RunFault
-    ensures told { result ≡ run_fault_of fault }
+pub fn edge_fault(fault: EdgeFault) -> JobFault
+    ensures told { result ≡ job_fault_of fault }
     ensures ends { MayEnd result }
 {
     match fault {
-        EdgeFault::Memory => RunFault::Memory,
-        _ => RunFault::Edge(fault),
+        EdgeFault::Memory => JobFault::Memory,
+        _ => JobFault::Edge(fault),
     }
 }

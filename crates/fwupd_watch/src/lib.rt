@@ -24,7 +24,7 @@ pub use apart::begin_apart;
 pub use beginnings::Beginning;
 pub use beside::{SystemCalls, system_places};
 pub use durable::Durable;
-pub use faults::RunFault;
+pub use faults::JobFault;
 pub use files::{
     FileFault, FileIdentity, Files, SystemFiles, folder_and_name, is_one_path, is_over_read,
     is_same_file, is_special,

@@ -4,7 +4,7 @@ ghost use Rattle.std.specs.Prelude.{◌≡◌, IfErr, IfOk, OnErr, OnOk, false};
 ghost use Rattle.fwupd_watch.specs.Answering.{AnswerEnds, AnswersAll};
 ghost use Rattle.fwupd_watch.specs.Outputs.{FailsToWriteOutput, WritesOutput};
 
-use crate::faults::RunFault;
+use crate::faults::JobFault;
 use fwupd_base::{AnswerFault, answer_stream, write_whole};
 use mctp_ctl::Endpoint;
 use std::alloc::Global;
@@ -36,13 +36,13 @@ impl<W: Write + Drop> Output<W> {
     ///
     /// # Errors
     /// `Memory`.
-    pub fn new(alloc: Global, writer: W) -> Result<Output<W>, RunFault>
+    pub fn new(alloc: Global, writer: W) -> Result<Output<W>, JobFault>
         ensures whole { IfOk result (λ o. o.is_broken ≡ false) }
         ensures written { IfOk result (λ o. o.written ≡ W.contents writer) }
-        ensures fault { IfErr result (λ e. e ≡ RunFault.Memory) }
+        ensures fault { IfErr result (λ e. e ≡ JobFault.Memory) }
     {
         let Ok(writer) = BufWriter::new(alloc, writer) else {
-            return Err(RunFault::Memory);
+            return Err(JobFault::Memory);
         };
         Ok(Output {
             writer,
@@ -63,19 +63,19 @@ impl<W: Write + Drop> Output<W> {
     /// # Errors
     /// `Output` if they can't be written; a beginning of them may be written. After a failed write,
     /// nothing is.
-    pub fn write(&mut self, bytes: &[u8]) -> Result<(), RunFault>
+    pub fn write(&mut self, bytes: &[u8]) -> Result<(), JobFault>
         ensures ok { OnOk result (WritesOutput self.old self.new bytes.now) }
-        ensures fault { IfErr result (λ e. e ≡ RunFault.Output) }
+        ensures fault { IfErr result (λ e. e ≡ JobFault.Output) }
         ensures failed { OnErr result (FailsToWriteOutput self.old self.new bytes.now) }
     {
         if self.is_broken {
-            return Err(RunFault::Output);
+            return Err(JobFault::Output);
         }
         match write_whole(self.writer.get_mut(), bytes) {
             Ok(()) => Ok(()),
             Err(_) => {
                 self.is_broken = true;
-                Err(RunFault::Output)
+                Err(JobFault::Output)
             }
         }
     }
@@ -89,23 +89,23 @@ impl<W: Write + Drop> Output<W> {
         alloc: Global,
         reader: &mut R,
         endpoint: &Endpoint,
-    ) -> Result<(), RunFault>
+    ) -> Result<(), JobFault>
         ensures ok { OnOk result (AnswersAll endpoint.now (R.remaining reader.old) (R.remaining reader.new) self.old self.new) }
         ensures fault { IfErr result (λ e. AnswerEnds endpoint.now (R.remaining reader.old) (R.remaining reader.new) e self.old self.new) }
     {
         if self.is_broken {
-            return Err(RunFault::Answer(AnswerFault::Write));
+            return Err(JobFault::Answer(AnswerFault::Write));
         }
         let end = answer_stream(alloc, reader, &mut self.writer, endpoint.eid, endpoint.uuid);
         if self.writer.flush().is_err() {
             self.is_broken = true;
-            return Err(RunFault::Answer(AnswerFault::Write));
+            return Err(JobFault::Answer(AnswerFault::Write));
         }
         match end {
             Ok(()) => Ok(()),
             Err(fault) => {
                 self.is_broken = fault == AnswerFault::Write;
-                Err(RunFault::Answer(fault))
+                Err(JobFault::Answer(fault))
             }
         }
     }

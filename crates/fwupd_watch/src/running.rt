@@ -6,9 +6,9 @@ ghost use Rattle.fw_edge.specs.Links.{CountsOne};
 ghost use Rattle.fw_steps.specs.Headline.{Run};
 ghost use Rattle.fwupd_watch.specs.Histories.{HasHistoryLinesIfAny, MayHaveHistoryLines, HasNoLines, AppendsToHistory, MayAppendToHistory};
 ghost use Rattle.fwupd_watch.specs.Recordings.{WritesHeldTicksIfAny, IsNewRecording, HasRecordedSteps, RecordsStepsIfAny, RecordsRun};
-ghost use Rattle.fwupd_watch.specs.Running.{ReportsLinkFailures, IsCaused, IsRefusedStart, HasObserverFault, UpdateOk, MayEnd, MayRefuse, MayStart, StartsUpdates, RunsSteps, RunsStepsSeen, UpdatesDevices, show_of, shown_of, starts_of, run_fault_of_observer, run_fault_of, observer_fault_of};
+ghost use Rattle.fwupd_watch.specs.Running.{ReportsLinkFailures, IsCaused, IsRefusedStart, HasObserverFault, UpdateOk, MayEnd, MayRefuse, MayStart, StartsUpdates, RunsSteps, RunsStepsSeen, UpdatesDevices, show_of, shown_of, starts_of, job_fault_of_observer, job_fault_of, observer_fault_of};
 
-use crate::faults::{RunFault, edge_fault};
+use crate::faults::{JobFault, edge_fault};
 use fd_core::Bank;
 use fw_edge::{EdgeFault, Link, drive};
 use fw_script::schedules_read_back;
@@ -54,7 +54,7 @@ pub trait Observer {
         ensures recording { OnOk result (IfSome (watched self.new).recording IsNewRecording) }
         ensures history { OnOk result (IfSome (watched self.new).history HasNoLines) }
         ensures err { IfErr result (λ e. (watched self.new).fault ≡ Some e) }
-        ensures refused { IfErr result (λ e. e ≢ ObserverFault.Memory → MayRefuse (refuses self.old) (show_of show.entry) (run_fault_of_observer e)) };
+        ensures refused { IfErr result (λ e. e ≢ ObserverFault.Memory → MayRefuse (refuses self.old) (show_of show.entry) (job_fault_of_observer e)) };
 
     /// Records the steps that were taken, if that is requested.
     ///
@@ -119,16 +119,16 @@ pub trait Observer {
 }
 
 /// Returns the fault of a run whose observer failed.
-pub fn observer_fault(fault: ObserverFault) -> RunFault
-    ensures told { result ≡ run_fault_of_observer fault }
+pub fn observer_fault(fault: ObserverFault) -> JobFault
+    ensures told { result ≡ job_fault_of_observer fault }
     ensures ends { MayEnd result }
 {
     match fault {
-        ObserverFault::Unwritten => RunFault::Trace,
-        ObserverFault::Unlogged => RunFault::Log,
-        ObserverFault::Unrecorded => RunFault::Record,
-        ObserverFault::Unkept => RunFault::History,
-        ObserverFault::Memory => RunFault::Memory,
+        ObserverFault::Unwritten => JobFault::Trace,
+        ObserverFault::Unlogged => JobFault::Log,
+        ObserverFault::Unrecorded => JobFault::Record,
+        ObserverFault::Unkept => JobFault::History,
+        ObserverFault::Memory => JobFault::Memory,
     }
 }
 
@@ -137,7 +137,7 @@ fn start_all<B: Bank + Drop>(
     world: &mut World<'_, B>,
     number: usize,
     steps: &mut Vec<Step>,
-) -> Result<(), RunFault>
+) -> Result<(), JobFault>
     requires none { steps.old.items ≡ [] }
     ensures started { OnOk result (StartsUpdates number world.old world.new) }
     ensures listed { OnOk result (steps.new.items ≡ starts_of number world.old.sites) }
@@ -146,14 +146,14 @@ fn start_all<B: Bank + Drop>(
     ensures reached { RunsSteps number world.old world.new }
     ensures unseen_steps { RunsStepsSeen number world.old world.new 0 }
     ensures fault { IfErr result MayEnd }
-    ensures refused { IfErr result (λ e. e ≡ RunFault.Edge EdgeFault.Step → IsRefusedStart number world.old world.new) }
-    ensures memory { IfErr result (λ e. e ≡ RunFault.Memory → (world.new ≡ world.old) ⊎ MayStart number world.old world.new) }
+    ensures refused { IfErr result (λ e. e ≡ JobFault.Edge EdgeFault.Step → IsRefusedStart number world.old world.new) }
+    ensures memory { IfErr result (λ e. e ≡ JobFault.Memory → (world.new ≡ world.old) ⊎ MayStart number world.old world.new) }
     ensures run { Run world.old steps.new.items world.new }
-    ensures none { IfErr result (λ e. e ≡ RunFault.Edge EdgeFault.Frame → ⊥) }
+    ensures none { IfErr result (λ e. e ≡ JobFault.Edge EdgeFault.Frame → ⊥) }
     ensures unseen { IfErr result (λ e. observer_fault_of e ≡ None) }
 {
     let Ok(()) = steps.reserve(world.device_count()) else {
-        return Err(RunFault::Memory);
+        return Err(JobFault::Memory);
     };
     for place in 0..world.device_count() {
         let Some(node) = world.device_at(place) else {
@@ -162,8 +162,8 @@ fn start_all<B: Bank + Drop>(
         let start = Step::Start(node.eid(), number);
         match world.step(&start) {
             Ok(()) => {}
-            Err(StepFault::Memory) => return Err(RunFault::Memory),
-            Err(_) => return Err(RunFault::Edge(EdgeFault::Step)),
+            Err(StepFault::Memory) => return Err(JobFault::Memory),
+            Err(_) => return Err(JobFault::Edge(EdgeFault::Step)),
         }
         let _ = steps.push(start);
     }
@@ -196,8 +196,8 @@ fn broken_off<B: Bank + Drop, V: Observer>(
     watch: &mut V,
     steps: &[Step],
     fault: EdgeFault,
-) -> RunFault
-    ensures told { result ≡ run_fault_of fault }
+) -> JobFault
+    ensures told { result ≡ job_fault_of fault }
     ensures noted { (V.watched watch.new).fault ≡ None → RecordsStepsIfAny (V.watched watch.old).recording (V.watched watch.new).recording steps.now }
     ensures history_still { MayAppendToHistory (V.watched watch.old).history (V.watched watch.new).history world.now.history }
     ensures same { (V.watched watch.new).shows ≡ (V.watched watch.old).shows }
@@ -221,14 +221,14 @@ pub fn update_all<B: Bank + Drop, L: Link, V: Observer>(
     number: usize,
     links: &mut [L],
     watch: &mut V,
-) -> Result<(), RunFault>
+) -> Result<(), JobFault>
     requires { length links.old ≡ length world.old.sites }
     ensures updated { OnOk result (UpdateOk number world.old world.new) }
     ensures reached { RunsSteps number world.old world.new }
     ensures fault { IfErr result MayEnd }
     ensures kept { OnOk result (map (λ l. (L.tally l).failures) links.new ≡ map (λ l. (L.tally l).failures) links.old) }
     ensures failed { IfErr result (λ e. ReportsLinkFailures e (map (λ l. (L.tally l).failures) links.old) (map (λ l. (L.tally l).failures) links.new)) }
-    ensures step { IfErr result (λ e. e ≡ RunFault.Edge EdgeFault.Step → IsRefusedStart number world.old world.new ⊎ (world.new.now ≡ 2 ^ 32 - 1)) }
+    ensures step { IfErr result (λ e. e ≡ JobFault.Edge EdgeFault.Step → IsRefusedStart number world.old world.new ⊎ (world.new.now ≡ 2 ^ 32 - 1)) }
     ensures sent { OnOk result (AllSent (packet_counts world.old.sites) (packet_counts world.new.sites) (map (λ l. (L.tally l).sent) links.old) (map (λ l. (L.tally l).sent) links.new)) }
     ensures devices { length links.new ≡ length world.new.sites }
     ensures unwritten { IfErr result (λ e. HasObserverFault e (V.watched watch.new).fault) }
@@ -282,7 +282,7 @@ pub fn update_observed<B: Bank + Drop, L: Link, V: Observer>(
     number: usize,
     links: &mut [L],
     watch: &mut V,
-) -> Result<(), RunFault>
+) -> Result<(), JobFault>
     requires { length links.old ≡ length world.old.sites }
     ensures updated { OnOk result (UpdateOk number world.old world.new) }
     ensures reached { RunsSteps number world.old world.new }
@@ -297,7 +297,7 @@ pub fn update_observed<B: Bank + Drop, L: Link, V: Observer>(
     ensures turns { OnOk result ((V.watched watch.old).seen ≡ 0 → UpdatesDevices number world.old world.new (V.watched watch.new).seen) }
     ensures sees { (V.watched watch.old).seen ≡ 0 → RunsStepsSeen number world.old world.new (V.watched watch.new).seen }
     ensures lost { (V.watched watch.new).lost ≡ (V.watched watch.old).lost }
-    ensures fault { IfErr result (λ e. (e ≡ RunFault.Memory) ⊎ IsCaused number world.old world.new e (V.watched watch.new)) }
+    ensures fault { IfErr result (λ e. (e ≡ JobFault.Memory) ⊎ IsCaused number world.old world.new e (V.watched watch.new)) }
     ensures kept { OnOk result (map (λ l. (L.tally l).failures) links.new ≡ map (λ l. (L.tally l).failures) links.old) }
     ensures failed { IfErr result (λ e. ReportsLinkFailures e (map (λ l. (L.tally l).failures) links.old) (map (λ l. (L.tally l).failures) links.new)) }
     ensures sent { OnOk result (AllSent (packet_counts world.old.sites) (packet_counts world.new.sites) (map (λ l. (L.tally l).sent) links.old) (map (λ l. (L.tally l).sent) links.new)) }

@@ -9,7 +9,7 @@ use fw_setup::SystemStores;
 use fw_world::{Step, World};
 use fwupd_base::{Form, Roughness};
 use fwupd_jobs::{
-    Beginning, FileFault, FileIdentity, Files, Observer, ObserverFault, Order, Output, RunFault,
+    Beginning, FileFault, FileIdentity, Files, JobFault, Observer, ObserverFault, Order, Output,
     Show, TraceForm, Wires, plan_file, update_checked,
 };
 use mctp_wire::Unit;
@@ -84,7 +84,7 @@ const CONFIG: &[u8] = b"agent 8 00000000-0000-0000-0000-000000000000\n\
 /// What is written of a job that ends with this fault or without one, and the fault's text.
 pub fn outcome(
     rt: &HostRuntime,
-    end: Result<(), RunFault>,
+    end: Result<(), JobFault>,
     written: Vec<u8>,
 ) -> Result<Vec<u8>, Fail> {
     let mut text = written;
@@ -106,9 +106,9 @@ struct MemWires {
 impl Wires<MemLink> for MemWires {
     ghost lacks = { λ w folder device. true };
 
-    fn open(&mut self, _unit: Unit, _folder: &str, device: u8) -> Result<MemLink, RunFault> {
+    fn open(&mut self, _unit: Unit, _folder: &str, device: u8) -> Result<MemLink, JobFault> {
         if device == self.closed {
-            return Err(RunFault::Socket(device));
+            return Err(JobFault::Socket(device));
         }
         self.opened = self.opened.saturating_add(1);
         Ok(MemLink::new(self.alloc))
@@ -143,10 +143,10 @@ impl Wires<StreamLink<UnixStream>> for CutWires {
         _unit: Unit,
         _folder: &str,
         device: u8,
-    ) -> Result<StreamLink<UnixStream>, RunFault> {
+    ) -> Result<StreamLink<UnixStream>, JobFault> {
         match self.link.take() {
             Some(link) => Ok(link),
-            None => Err(RunFault::Socket(device)),
+            None => Err(JobFault::Socket(device)),
         }
     }
 }

@@ -1,5 +1,5 @@
 use Rattle.std.proofs.Common.{◌≡◌, ◌⊎◌, ◌∙◌, arith, rules, subst, sym, true}
-use Rattle.fwupd_watch.specs.declared.faults.RunFault.TheVariants as faults
+use Rattle.fwupd_watch.specs.declared.faults.JobFault.TheVariants as faults
 use Rattle.fwupd_jobs.specs.Updated.{IsRoughLink}
 use Rattle.fwupd_jobs.proofs.Linked.{linked_all, linked_next, unlinked_at}
 use Rattle.fwupd_jobs.proofs.updating.open_all.Goals as goal
