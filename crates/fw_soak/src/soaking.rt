@@ -109,7 +109,7 @@ pub fn soak<V: SoakObserver>(
     setup: &Setup<'_>,
     roughness: Roughness,
     runs: u32,
-    onlooker: &mut V,
+    observer: &mut V,
 ) -> Result<Soaked, AllocError>
     requires { AreWhole setup.now.agent.eid (map device_of setup.now.devices.now) }
     ensures soaked { IfOk result (λ s. SoakOk (setup_of setup.now) runs s.summary (option_map (λ k. k.items) s.kept)) }
@@ -120,7 +120,7 @@ pub fn soak<V: SoakObserver>(
         let course = run(alloc, setup, roughness, number)?;
         let clean = is_clean(alloc, course.world(), setup.packages, setup.devices)?;
         soaked.add(alloc, course, clean)?;
-        onlooker.see(&soaked.summary);
+        observer.see(&soaked.summary);
     }
     Ok(soaked)
 }

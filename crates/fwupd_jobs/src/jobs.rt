@@ -48,7 +48,7 @@ pub fn perform_job<
     reader: &mut R,
     wires: &mut S,
     watch: &mut V,
-    onlooker: &mut O,
+    observer: &mut O,
     places: &mut P,
     output: &mut Output<W>,
 ) -> Result<(), JobFault>
@@ -81,7 +81,7 @@ pub fn perform_job<
             order,
             record,
         } => soak_file(
-            alloc, files, config, *order, *record, onlooker, places, output,
+            alloc, files, config, *order, *record, observer, places, output,
         ),
         Job::Plan {
             config,

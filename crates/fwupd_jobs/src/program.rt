@@ -58,7 +58,7 @@ fn status<
     reader: &mut R,
     wires: &mut S,
     watch: &mut V,
-    onlooker: &mut O,
+    observer: &mut O,
     places: &mut P,
     output: &mut Output<W>,
 ) -> ExitCode
@@ -72,7 +72,7 @@ fn status<
         reader,
         wires,
         watch,
-        onlooker,
+        observer,
         places,
         output,
     ) {
@@ -101,7 +101,7 @@ fn run<W: Write + Drop>(rt: &HostRuntime, job: &Job<'_>, output: &mut Output<W>)
     let files = SystemFiles::new(rt);
     let mut reader = rt.reader();
     let mut sockets = Sockets::new(rt);
-    let mut onlookers = Observers::new(rt);
+    let mut observers = Observers::new(rt);
     let mut progress = SoakProgress::new(rt, runs_of(job));
     let status = status(
         rt,
@@ -110,14 +110,14 @@ fn run<W: Write + Drop>(rt: &HostRuntime, job: &Job<'_>, output: &mut Output<W>)
         &SystemStores::new(rt),
         &mut reader,
         &mut sockets,
-        &mut onlookers,
+        &mut observers,
         &mut progress,
         &mut system_places(rt),
         output,
     );
     progress.end();
     sockets.explain();
-    onlookers.explain();
+    observers.explain();
     status
 }
 

@@ -94,7 +94,7 @@ pub fn soak_file<F: Files, V: SoakObserver, B: Write + Drop, P: OutputPlaces<B>,
     config: &str,
     order: SoakOrder,
     file: Option<&str>,
-    onlooker: &mut V,
+    observer: &mut V,
     places: &mut P,
     output: &mut Output<W>,
 ) -> Result<(), JobFault>
@@ -131,7 +131,7 @@ pub fn soak_file<F: Files, V: SoakObserver, B: Write + Drop, P: OutputPlaces<B>,
         devices: devices.as_slice(),
         packages: packages.as_slice(),
     };
-    let Ok(soaked) = soak(alloc, &setup, order.roughness, order.runs, onlooker) else {
+    let Ok(soaked) = soak(alloc, &setup, order.roughness, order.runs, observer) else {
         return Err(JobFault::Memory);
     };
     let Ok(text) = summary_text(alloc, &soaked.summary) else {

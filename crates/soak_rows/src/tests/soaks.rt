@@ -22,7 +22,7 @@ impl SoakObserver for Counting {
 }
 
 /// So many runs by a seed.
-fn soaked(alloc: Global, seed: u64, runs: u32, onlooker: &mut Counting) -> Option<Soaked> {
+fn soaked(alloc: Global, seed: u64, runs: u32, observer: &mut Counting) -> Option<Soaked> {
     let config = worked(alloc)?;
     let Ok(file) = package_file(alloc) else {
         return None;
@@ -43,7 +43,7 @@ fn soaked(alloc: Global, seed: u64, runs: u32, onlooker: &mut Counting) -> Optio
         delay: 3,
         seed,
     };
-    match soak(alloc, &setup, roughness, runs, onlooker) {
+    match soak(alloc, &setup, roughness, runs, observer) {
         Ok(soaked) => Some(soaked),
         Err(_) => None,
     }
@@ -52,14 +52,14 @@ fn soaked(alloc: Global, seed: u64, runs: u32, onlooker: &mut Counting) -> Optio
 #[test]
 fn soaks_the_worked_devices(rt: HostRuntime) {
     let alloc = rt.alloc();
-    let mut onlooker = Counting { seen: 0, last: 0 };
-    let Some(first) = soaked(alloc, 7, 3, &mut onlooker) else {
+    let mut observer = Counting { seen: 0, last: 0 };
+    let Some(first) = soaked(alloc, 7, 3, &mut observer) else {
         return;
     };
-    assert!(rt; (onlooker.seen, onlooker.last) == (3, 3));
+    assert!(rt; (observer.seen, observer.last) == (3, 3));
     assert!(rt; (first.summary.runs, first.summary.violations) == (3, 0));
     assert!(rt; first.kept.is_none());
-    let Some(again) = soaked(alloc, 7, 3, &mut onlooker) else {
+    let Some(again) = soaked(alloc, 7, 3, &mut observer) else {
         return;
     };
     assert!(rt; again.summary == first.summary);
