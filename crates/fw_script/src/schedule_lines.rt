@@ -119,7 +119,7 @@ impl<'a> LineSteps<'a> {
     ghost use Rattle.fw_script.specs.ScheduleLines.{all_steps, step_of_next};
 
     /// Creates an iterator over all steps of the lines.
-    pub fn of(lines: &'a [ScheduleLine]) -> LineSteps<'a>
+    pub fn new(lines: &'a [ScheduleLine]) -> LineSteps<'a>
         ensures { result ≡ all_steps lines.now }
     {
         LineSteps { ticks: 0, lines }

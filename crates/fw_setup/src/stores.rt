@@ -87,7 +87,7 @@ impl<'a> Stores<SystemFolder<'a>> for SystemStores<'a> {
 
     fn at(&self, alloc: Global, root: &str, device: u8) -> Result<SystemFolder<'a>, AllocError> {
         match device_path(alloc, root, device) {
-            Ok(path) => Ok(SystemFolder::at(self.rt, path)),
+            Ok(path) => Ok(SystemFolder::new(self.rt, path)),
             Err(_) => Err(AllocError),
         }
     }

@@ -34,7 +34,7 @@ pub struct FolderStore<F: Folder + Drop> {
 
 impl<F: Folder + Drop> FolderStore<F> {
     /// Returns a store that is sure of the folder's content.
-    pub(crate) fn of(
+    pub(crate) fn new(
         alloc: Global,
         folder: F,
         memory: MemStore,

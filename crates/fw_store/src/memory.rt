@@ -115,7 +115,7 @@ impl MemStore {
     ///
     /// # Errors
     /// `AllocError` if memory can't be allocated.
-    pub fn of(alloc: Global, bank: &MemBank, keys: &[Key]) -> Result<MemStore, AllocError>
+    pub fn from_bank(alloc: Global, bank: &MemBank, keys: &[Key]) -> Result<MemStore, AllocError>
         requires keys { keys.now ≡ map key_of bank.now.rows }
         requires apart { HaveKeysOnce keys.now }
         ensures { IfOk result (λ s. s.images.items ≡ all_running bank.now.rows) }

@@ -52,5 +52,5 @@ pub fn open_store<F: Folder + Drop>(
     };
     widths(entries.as_slice());
     let next = next_after(entries.as_slice());
-    Ok(FolderStore::of(alloc, folder, memory, entries, next))
+    Ok(FolderStore::new(alloc, folder, memory, entries, next))
 }

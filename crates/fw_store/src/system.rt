@@ -32,7 +32,7 @@ impl<'a> SystemFolder<'a> {
 
     /// Returns the folder with this path, which may not exist: then it has no files, and none can
     /// be written.
-    pub fn at(rt: &'a HostRuntime, path: String) -> SystemFolder<'a> {
+    pub fn new(rt: &'a HostRuntime, path: String) -> SystemFolder<'a> {
         SystemFolder { rt, path }
     }
 

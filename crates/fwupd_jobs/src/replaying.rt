@@ -103,7 +103,7 @@ fn replay_lines<B: Bank + Drop, V: Observer>(
     ensures seen_before { IfErr result (λ e. is_traced ≡ true → (V.watched watch.old).seen ≡ 0 → (V.watched watch.new).seen ≡ e.0) }
 {
     let tick = Step::Tick(Missed::new());
-    let mut steps = LineSteps::of(lines);
+    let mut steps = LineSteps::new(lines);
     let mut taken = 0;
     while let Some(next) = steps.next() {
         match take_observed(world, lent(next, &tick), is_traced, watch) {

@@ -29,7 +29,7 @@ impl Beginning {
     ghost use Rattle.fwupd_watch.specs.Files.{MayBegin, any_file};
 
     /// Creates the beginning of a file with these contents.
-    pub fn of(mut bytes: Vec<u8>) -> Beginning
+    pub fn from_bytes(mut bytes: Vec<u8>) -> Beginning
         ensures { IsBeginning bytes.items result.bytes.items result.file_length }
     {
         let file_length = bytes.len();

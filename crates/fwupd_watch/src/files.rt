@@ -129,7 +129,7 @@ impl<'a> SystemFiles<'a> {
         let size = size_of(&file);
         if size <= BEGINNING {
             let bytes = read_whole(alloc, &mut file, size)?;
-            return Ok(Beginning::of(bytes));
+            return Ok(Beginning::from_bytes(bytes));
         }
         let bytes = read_first(alloc, &mut file, BEGINNING)?;
         Ok(Beginning::said(bytes, size))

@@ -38,7 +38,7 @@ fn bank(alloc: Global, fails: u32) -> Result<KeptBank<FailStore>, Fail> {
     let mut keys = Vec::new(alloc);
     keys.push(FIRST)?;
     keys.push(SECOND)?;
-    let store = MemStore::of(alloc, &bank, keys.as_slice())?;
+    let store = MemStore::from_bank(alloc, &bank, keys.as_slice())?;
     Ok(KeptBank::new(alloc, bank, keys, FailStore::new(store, fails)))
 }
 

@@ -40,7 +40,7 @@ impl<'a> Files for MemFiles<'a> {
 
     fn beginning(&self, alloc: Global, path: &str) -> Result<Beginning, FileFault> {
         match self.contents(alloc, path) {
-            Ok(bytes) => Ok(Beginning::of(bytes)),
+            Ok(bytes) => Ok(Beginning::from_bytes(bytes)),
             Err(fault) => Err(fault),
         }
     }

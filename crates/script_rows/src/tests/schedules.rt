@@ -78,7 +78,7 @@ miss 8
     )?;
     assert!(rt; lines.len() == 4);
     assert!(rt; step_count(&lines) == Some(1003));
-    let mut steps = LineSteps::of(&lines);
+    let mut steps = LineSteps::new(&lines);
     assert!(rt; matches!(steps.next(), Some(NextStep::Said(Step::Start(9, 1)))));
     for _tick in 0..1001 {
         assert!(rt; matches!(steps.next(), Some(NextStep::Tick)));

@@ -1,6 +1,6 @@
 use Rattle.std.proofs.Common.{◌≡◌, take}
 use Rattle.fw_store.specs.Kept.{all_running}
-use Rattle.fw_store.proofs.memory.MemStore.of.Given as goal
+use Rattle.fw_store.proofs.memory.MemStore.from_bank.Given as goal
 
 -- the images of the components so far are kept
 abbrev pub invariant-loop-key : goal.invariant-loop-key

@@ -1,6 +1,6 @@
 use Rattle.std.proofs.Common.{sym}
 use Rattle.fw_store.proofs.Keeping.{is_there, not_both, running_more}
-use Rattle.fw_store.proofs.memory.MemStore.of.Goals as goal
+use Rattle.fw_store.proofs.memory.MemStore.from_bank.Goals as goal
 
 pub unreachable-requires : goal.unreachable-requires
 unreachable-requires c =
