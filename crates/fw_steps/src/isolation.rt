@@ -16,8 +16,9 @@ pub fn devices_are_isolated()
     links_are_messages();
 }
 
-/// Worlds that agree in a device have the same packets between it and the agent, the same nodes of
-/// both, the same history of it, both clocks, the time, and the packages.
+/// Worlds that agree in a device have the same packages and the same time, the same node of it,
+/// except for its bank's count of failures, the same half of the agent for it, the same packets
+/// between the two, the same history of it, and the same clocks of both.
 pub fn agreement_sees_the_pair()
     ensures law { AgreementSeesThePair }
 {}

@@ -7,7 +7,8 @@ ghost use Rattle.fw_steps.specs.Traces.{TracesAreCut, TracesArePlays, TracesAreS
 
 use crate::headline::packets_are_safe;
 
-/// At the end of every run each node is as its own calls leave it, whatever the other nodes do.
+/// At the end of every run each node is as its own calls leave it, for any calls of the other
+/// nodes.
 pub fn nodes_are_alone()
     ensures agent { AgentIsAlone }
     ensures devices { DevicesAreAlone }
@@ -34,7 +35,7 @@ pub fn plays_are_runs()
     ensures law { PlaysAreRuns }
 {}
 
-/// So the headline holds of the processes of a play.
+/// So the headline holds for the processes of a play.
 pub fn plays_are_safe()
     ensures law { PlaysAreSafe }
 {
@@ -49,15 +50,15 @@ pub fn traces_are_plays()
     ensures law { TracesArePlays }
 {}
 
-/// The acts up to a unit that all processes have reached are a trace by themselves, whatever was
-/// done later.
+/// The acts up to a unit that all processes have reached are a trace by themselves, with any acts
+/// after them.
 pub fn traces_are_cut()
     ensures law { TracesAreCut }
 {}
 
 /// The headline of separate processes: at the end of each unit that all of them have reached, the
-/// agent's session for each device and the device are safe, and tied with what the two processes
-/// noted of the device.
+/// agent's session for each device and the device are safe, and tied with the entries that the two
+/// processes noted of the device.
 pub fn traces_are_safe()
     ensures law { TracesAreSafe }
 {

@@ -40,9 +40,9 @@ impl<'a, B: Bank + Drop> Model for World<'a, B> {
 }
 
 impl<'a, B: Bank + Drop> World<'a, B> {
-    /// Creates a world before its first step, from the agent, the new nodes of its 1 to 16 devices,
-    /// with different endpoint identifiers from 8 to 254, and the packages that the operator may
-    /// start updates with. Later calls allocate from `alloc`.
+    /// Creates a world before its first step: an agent with this endpoint, the new nodes of its 1
+    /// to 16 devices, with different endpoint identifiers from 8 to 254, and the packages that the
+    /// operator may start updates with. Later calls allocate from `alloc`.
     ///
     /// # Errors
     /// `AllocError` if memory for it is refused.
