@@ -509,8 +509,8 @@ fn counted_in(alloc: Global, units: u32) -> Option<u32> {
     Some(counted)
 }
 
-/// The number of ticks that pass while the slowest asker counts the first number: it misses one,
-/// and one more after each eight.
+/// The number of ticks that pass, and how many of them the slowest asker counts: it misses the
+/// first, and one more after each eight that it counts.
 static SLOWEST: [(u32, u32); 7] = [
     (1, 0),
     (9, 8),

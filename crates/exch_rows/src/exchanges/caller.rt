@@ -22,9 +22,9 @@ impl Run {
     }
 
     /// Makes a call: `b` begins a request, `a` gives it the answer to the last one, `x` does both,
-    /// `c` abandons it and `t` is a tick. The result is `S` for a packet of the request in a tick,
-    /// `?` for another packet, `G` if the caller gives up, `-` for an answer that isn't accepted,
-    /// and otherwise the state afterwards.
+    /// `c` abandons it and `t` is a tick. The result is `S` for a tick that sends the last request,
+    /// `?` for one that sends another message, `G` if the caller gives up, `-` for an answer that
+    /// isn't accepted, `!` for a call that isn't possible, and otherwise the state afterwards.
     fn call(&mut self, call: u8) -> u8 {
         match call {
             b'b' => self.begin(),

@@ -4,7 +4,7 @@ use super::drafts::worked;
 use super::reading::uses;
 use fw_package::{Outline, PackageFault, Place};
 
-/// The size of the worked package's header, in bytes.
+/// The sizes of the worked package's header and of its whole file, in bytes.
 const HEADER: usize = 134;
 
 const WHOLE: usize = 439;
