@@ -91,7 +91,7 @@ const LEARNS: [Row<'static>; 10] = [
     ),
 ];
 
-/// Nobody to give up, nothing to drop, nobody waiting.
+/// Nothing to give up, nothing to drop, and nobody waiting.
 const ENDS: [Row<'static>; 17] = [
     ("an empty cell", 0, &[], GIVE_UP_DOWN),
     ("an empty cell, up", 0, &[], GIVE_UP_UP),
