@@ -27,7 +27,7 @@ fn answered(world: &Small<'_>, number: usize) -> Option<(u32, u8, u8)> {
     }
 }
 
-/// The answers from the canceled update's last one on, by number: the tick, the command and the
+/// The answers from the cancelled update's last one on, by number: the tick, the command and the
 /// code. The stale completion isn't expected. GetFirmwareParameters waits for tag 0, RequestUpdate
 /// until the device's last tag has rested, and at 47 to 51 for its own.
 static ANSWERS: [(usize, u32, u8, u8); 7] = [

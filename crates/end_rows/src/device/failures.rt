@@ -73,7 +73,7 @@ static VERDICTS: [Bad<'static>; 2] = [
 ];
 
 /// Whether a device reports a bad verdict until an answer arrives, also a malformed one, and the
-/// component can be canceled then.
+/// component can be cancelled then.
 fn reports(device: &mut Device<MemBank>, row: &Bad<'_>, malformed: bool) -> bool {
     let (_, place, verdict, failure, expected) = row;
     advance(device, *place);

@@ -24,7 +24,7 @@ fn is_as_before(world: &Small<'_>) -> bool {
     runs_first(world) && applied(world, KEY).is_empty() && records(world).is_empty()
 }
 
-/// Whether ApplyComplete is refused if the update is canceled then, and these steps then end the
+/// Whether ApplyComplete is refused if the update is cancelled then, and these steps then end the
 /// update without a record.
 fn is_refused_late(
     alloc: Global,
@@ -48,7 +48,7 @@ fn is_refused_late(
 fn a_stale_completion_records_nothing(rt: HostRuntime) -> Result<(), Fail> {
     let one = file(rt.alloc())?;
     let packages = [package(&one)?];
-    // the device gets the refusal, or is canceled before
+    // the device gets the refusal, or is cancelled before
     let rows: [&[MessageStep]; 2] = [
         &[LEARN_UP, ASK_DOWN, TAKE_BUSY, LEARN_DOWN],
         &[ASK_DOWN, TAKE_BUSY, LEARN_DOWN, DROP_UP],
