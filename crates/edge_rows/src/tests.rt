@@ -1,4 +1,4 @@
-//! Frames, links and runs, worked.
+//! Tests of frames, links and runs.
 
 mod alike;
 mod failures;

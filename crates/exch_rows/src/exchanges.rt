@@ -6,7 +6,7 @@ mod caller;
 use mctp_reasm::Message;
 use mctp_wire::Unit;
 
-/// The answer of code 0 to a request, with a field to tell it by.
+/// The answer of code 0 to a request, with a field that identifies it.
 fn answer_to(request: &Message, field: u8) -> Option<Message> {
     let [kind, flags, pldm_type, command, ..] = request.bytes() else {
         return None;

@@ -1,4 +1,4 @@
-//! Lanes to which memory is refused.
+//! Lanes for which an allocation is refused.
 
 use crate::lanes::glance;
 use exch_lane::{End, Lane, LaneEntry, LaneFault, LaneStep, lane_replay};
@@ -6,8 +6,8 @@ use mctp_wire::Unit;
 use pldm_base::Reply;
 use std::alloc::Global;
 
-/// Each request that is taken is the last that was asked, and is taken once; each reply that is learnt is the last one
-/// that was given, and is learnt once.
+/// Whether each taken request is the last one begun, and taken once, and each accepted reply is the
+/// last one given, and accepted once.
 fn is_of_a_cell(entries: &[LaneEntry]) -> bool {
     let mut request = None;
     let mut answer = None;
@@ -31,7 +31,7 @@ fn is_of_a_cell(entries: &[LaneEntry]) -> bool {
     true
 }
 
-/// Whether a lane takes a step, at the second time where memory is refused to it and it stays as it is.
+/// Whether a lane takes a step, at the second try if memory was refused, which leaves it unchanged.
 fn takes(lane: &mut Lane, step: &LaneStep) -> bool {
     let step = std::slice::from_ref(step);
     let before = glance(lane);
@@ -82,7 +82,7 @@ fn is_left(alloc: Global, unit: Unit, fields: &[u8]) -> bool {
         && is_of_a_cell(lane.history())
 }
 
-/// Holds whichever single allocation is refused.
+/// Whichever single allocation is refused, the test holds.
 #[test]
 fn refused_memory_leaves_the_lane(rt: HostRuntime) {
     assert!(rt; is_left(rt.alloc(), Unit::U64, &[0x5A; 252]));

@@ -1,28 +1,29 @@
-//! Lanes, step by step: what is sent, and what happened.
+//! Lanes, step by step: the packets sent and the history.
 
 use exch_lane::{End, Lane, LaneEntry, LaneFault, LaneStep, lane_replay};
 use mctp_wire::Unit;
 use pldm_base::Reply;
 use std::alloc::Global;
 
-/// What is done to a lane.
+/// An action on a lane.
 #[derive(Clone, Copy)]
 enum Act<'a> {
     /// The asker begins a request of this command and data.
     Begin(u8, &'a [u8]),
-    /// The asker gives its request up.
+    /// The asker abandons its request.
     Abandon,
-    /// The packet of this number comes to the taker, which answers a new request so.
+    /// The packet of this number is delivered to the taker, which answers a new request with this
+    /// data.
     ToTaker(usize, &'a [u8]),
-    /// The packet of this number comes to the asker.
+    /// The packet of this number is delivered to the asker.
     ToAsker(usize),
-    /// The asker starts anew.
+    /// The asker restarts.
     Restart,
-    /// So many ticks pass.
+    /// This number of ticks passes.
     Ticks(u32),
-    /// So many ticks pass, before each of which the asker is deaf and does nothing.
+    /// This number of ticks passes; before each of them the asker is deaf and can't act.
     Deaf(u32),
-    /// A tick passes that the asker misses, or the taker, or both.
+    /// A tick passes that the asker misses; the taker; or both.
     AskerMisses,
     TakerMisses,
     BothMiss,
@@ -32,7 +33,7 @@ use Act::{
     Abandon, AskerMisses, Begin, BothMiss, Deaf, Restart, TakerMisses, Ticks, ToAsker, ToTaker,
 };
 
-/// What happened, as an entry of a lane's history.
+/// An entry of a lane's history.
 #[derive(Clone, Copy)]
 enum Noted<'a> {
     Asked(u8, &'a [u8]),
@@ -49,7 +50,7 @@ fn data(bytes: &[u8]) -> Reply {
     data
 }
 
-/// The step that is done; a tick for ticks.
+/// The step of an action; a tick for ticks.
 fn step_of(act: Act<'_>) -> LaneStep {
     match act {
         Begin(command, body) => LaneStep::Begin(command, data(body)),
@@ -64,8 +65,8 @@ fn step_of(act: Act<'_>) -> LaneStep {
     }
 }
 
-/// How a lane stands: its time, how many packets were sent and how much happened; and whether a request is open, all is
-/// quiet, and one may begin.
+/// Returns the state of a lane: its time, the numbers of packets and history entries, and whether a
+/// request is open, the lane is quiet, and a request may begin.
 pub fn glance(lane: &Lane) -> [usize; 6] {
     [
         lane.now() as usize,
@@ -77,7 +78,7 @@ pub fn glance(lane: &Lane) -> [usize; 6] {
     ]
 }
 
-/// Whether a lane takes a step, or refuses it for this fault and stays as it is.
+/// Whether a lane takes a step, or refuses it with this fault and is unchanged.
 fn takes(lane: &mut Lane, act: Act<'_>, wanted: Option<LaneFault>) -> bool {
     let before = glance(lane);
     match lane_replay(lane, &[step_of(act)]) {
@@ -86,7 +87,7 @@ fn takes(lane: &mut Lane, act: Act<'_>, wanted: Option<LaneFault>) -> bool {
     }
 }
 
-/// Whether the asker alone is deaf, and neither begins nor gives up.
+/// Whether only the asker is deaf, and can neither begin nor abandon a request.
 fn is_deaf(lane: &mut Lane) -> bool {
     lane.is_deaf(End::Asker)
         && !lane.is_deaf(End::Taker)
@@ -106,7 +107,7 @@ fn ticks(lane: &mut Lane, count: u32, deaf: bool) -> bool {
     !deaf || !lane.is_deaf(End::Asker) && lane.can_begin()
 }
 
-/// Whether the packet of a number has this date and these bytes.
+/// Whether packet `number` has this date and these bytes.
 fn is_sent(lane: &Lane, number: usize, date: u32, bytes: &[u8]) -> bool {
     match lane.packets().get(number.wrapping_sub(1)) {
         Some(packet) => packet.date == date && packet.bytes.as_slice() == bytes,
@@ -114,7 +115,7 @@ fn is_sent(lane: &Lane, number: usize, date: u32, bytes: &[u8]) -> bool {
     }
 }
 
-/// Whether an entry says that this happened.
+/// Whether an entry is the expected one.
 fn is_noted(entry: &LaneEntry, noted: Noted<'_>) -> bool {
     match (entry, noted) {
         (LaneEntry::Asked(command, body), Asked(code, bytes)) => {
@@ -128,8 +129,8 @@ fn is_noted(entry: &LaneEntry, noted: Noted<'_>) -> bool {
     }
 }
 
-/// A situation at a transmission unit: what is done, each with its fault; how many packets were sent then, some of them by number, date
-/// and bytes; and what happened.
+/// A case at a transmission unit: the actions, each with its fault; the number of packets sent,
+/// some of them by number, date and bytes; and the history.
 #[derive(Drop)]
 struct Row<'a> {
     situation: &'a str,
@@ -140,7 +141,7 @@ struct Row<'a> {
     history: &'a [Noted<'a>],
 }
 
-/// Whether a lane takes what is done, each act with its fault.
+/// Whether a lane takes the actions, each with its fault.
 fn takes_all(lane: &mut Lane, acts: &[(Act<'_>, Option<LaneFault>)]) -> bool {
     for (act, fault) in acts {
         let taken = match *act {
@@ -165,7 +166,7 @@ fn are_sent(lane: &Lane, sent: &[(usize, u32, &[u8])]) -> bool {
     true
 }
 
-/// Whether this happened, and nothing else.
+/// Whether this is the whole history.
 fn are_noted(entries: &[LaneEntry], history: &[Noted<'_>]) -> bool {
     if entries.len() != history.len() {
         return false;
@@ -178,7 +179,7 @@ fn are_noted(entries: &[LaneEntry], history: &[Noted<'_>]) -> bool {
     true
 }
 
-/// Whether a lane comes to what a row says.
+/// Whether a lane satisfies a case.
 fn holds(alloc: Global, row: &Row<'_>) -> bool {
     let mut lane = Lane::new(alloc, row.unit, 8, 9);
     takes_all(&mut lane, row.acts)
@@ -223,7 +224,8 @@ static ROWS: [Row<'static>; 6] = [
         ],
     },
     Row {
-        // it neither repeats nor learns; its next request has the first tag and identifier again, and is new to the taker
+        // it neither repeats a request nor accepts replies; its next request reuses the first tag
+        // and instance identifier, and is new to the taker
         situation: "an asker that starts anew is deaf for 40 ticks",
         unit: Unit::U64,
         acts: &[
@@ -265,8 +267,9 @@ static ROWS: [Row<'static>; 6] = [
         history: &[Asked(0x01, &[])],
     },
     Row {
-        // the asker counts 12 of the first 14 units, so the request goes out for the last time at 14; that packet may come
-        // until 22, when the taker has counted 22 ticks since it took the request
+        // The asker counts 12 of the first 14 ticks, so the request is sent for the last time at
+        // 14. That packet may arrive until 22, when the taker has counted 22 ticks since it took
+        // the request.
         situation: "the last repeat of a request comes 22 units after it began, and meets its kept answer",
         unit: Unit::U64,
         acts: &[
@@ -311,7 +314,7 @@ static ROWS: [Row<'static>; 6] = [
         history: &[Asked(0x10, &[0xF0, 0x00])],
     },
     Row {
-        // the sixth tick that the asker counts is in the seventh unit
+        // the sixth tick that the asker counts is the seventh tick
         situation: "a missed tick leaves an end as it is",
         unit: Unit::U64,
         acts: &[
@@ -334,12 +337,14 @@ fn lanes_come_to_what_the_rows_say(rt: HostRuntime) {
     }
 }
 
-/// What becomes of a request with these data, whose message has one byte more than the transmission unit.
+/// The case of a request with this data, whose message is one byte longer than the transmission
+/// unit.
 macro_rules! two_packets {
     ($unit:expr, $body:expr) => {
         [
             Row {
-                // a second piece alone; the first of the repeat with the second of the first sending; and the other way round
+                // a second piece alone; the first of the repeat with the second of the first
+                // transmission; and the reverse
                 situation: "pieces of a sending and of its repeat mix",
                 unit: $unit,
                 acts: &[
@@ -357,7 +362,7 @@ macro_rules! two_packets {
                 history: &[Asked(0x13, $body), Taken(0x13, $body, &[0x00])],
             },
             Row {
-                // the taker counts 8 of the 10
+                // the taker counts 8 of the 10 ticks
                 situation: "an assembly waits 10 units for its next piece where two ticks are missed",
                 unit: $unit,
                 acts: &[
@@ -406,7 +411,7 @@ fn two_packets_are_one_message(rt: HostRuntime) {
     }
 }
 
-/// These data go to and fro as a request's and as its reply's, each in four packets.
+/// A case in which this data is exchanged as a request's and as its reply's, each in four packets.
 macro_rules! to_and_fro {
     ($unit:expr, $most:expr) => {
         Row {
@@ -430,7 +435,8 @@ macro_rules! to_and_fro {
     };
 }
 
-/// These data are refused as a request's and as a reply's, and shorter ones are taken after that.
+/// A case in which this data is refused as a request's and as a reply's, and shorter data is then
+/// taken.
 macro_rules! refused {
     ($unit:expr, $more:expr) => {
         Row {
@@ -450,8 +456,8 @@ macro_rules! refused {
     };
 }
 
-/// How much data goes to and fro, and how much is refused. A step holds at most 508 bytes, so that a unit of 128 refuses
-/// none of them.
+/// The sizes of data that are exchanged, and those that are refused. A step holds at most 508
+/// bytes, so a unit of 128 bytes refuses none of them.
 static FOUR_PACKETS: [Row<'static>; 4] = [
     to_and_fro!(Unit::U64, &[0x5A; 252]),
     refused!(Unit::U64, &[0x5A; 253]),
@@ -487,7 +493,8 @@ fn a_run_stops_at_its_fault(rt: HostRuntime) {
     assert!(rt; stops_at_its_fault(rt.alloc()));
 }
 
-/// How many of so many ticks an asker counts that misses each one that it may; None where a tick is refused that it counts.
+/// The number of ticks in `units` that an asker counts if it misses each one that it may; None if a
+/// tick that it counts is refused.
 fn counted_in(alloc: Global, units: u32) -> Option<u32> {
     let mut lane = Lane::new(alloc, Unit::U64, 8, 9);
     let mut counted: u32 = 0;
@@ -502,7 +509,8 @@ fn counted_in(alloc: Global, units: u32) -> Option<u32> {
     Some(counted)
 }
 
-/// The units in which the slowest asker counts so many ticks: it is behind by one, and by one more after each eight.
+/// The number of ticks that pass, and how many of them the slowest asker counts: it misses the
+/// first, and one more after each eight that it counts.
 static SLOWEST: [(u32, u32); 7] = [
     (1, 0),
     (9, 8),

@@ -46,7 +46,7 @@ is_good verdicts.ApplyOk = true
 is_good verdict = false
 
 -- A step that a run takes by itself: no node misses a tick or restarts, no update is started or
--- canceled, and no event log request is made.
+-- cancelled, and no event log request is made.
 abbrev pub is_driven : Step → Bool
 is_driven (steps.Deliver device number node) = true
 is_driven (steps.Tick missed) = length missed.items == 0

@@ -118,8 +118,8 @@ pub record PartErr {A : Type 0} (tally : A → Tally) (taken gave : A → LinkBy
   pub failed : ReportsFaultOfLinks told (map (λ l. (tally l).failures) olds) (map (λ l. (tally l).failures) news)
 
 -- A fault ended a turn in one of its parts. The steps taken are listed, at most one of them a tick.
--- The fault is the clock's if the clock is at its last tick, and a link's exactly if one failed,
--- once.
+-- The fault is the clock's exactly if the clock is at its last tick, and a link's exactly if one
+-- failed, once.
 pub record TurnErr {A : Type 0} (tally : A → Tally) (taken gave : A → LinkBytes) (told : EdgeFault) (w : WorldOf) (before : List Step) (written : List ℕ) (olds : List A) (v : WorldOf) (after : List Step) (news : List A) : Type 0 where
   pub drives : Drives w before v after
   pub few : ticks_in after ≤ ticks_in before + 1
@@ -144,8 +144,8 @@ pub record DriveOk {A : Type 0} (tally : A → Tally) (taken gave : A → LinkBy
   pub ended : turns < asked_for → all_over v ≡ true
   pub counts : LinksDriveOk tally turns w before olds v after news foreign
 
--- A fault ended a run in a turn before the last one asked for: a link's if one failed, once, and
--- the clock's if the clock is at its last tick.
+-- A fault ended a run in one of the turns asked for. It is a link's exactly if one failed, once,
+-- and the clock's exactly if the clock is at its last tick.
 pub record DriveErr {A : Type 0} (tally : A → Tally) (taken gave : A → LinkBytes) (asked_for : ℕ) (told : EdgeFault) (w : WorldOf) (before : List Step) (written_before : List ℕ) (olds : List A) (v : WorldOf) (after : List Step) (news : List A) : Type 0 where
   pub failed : ReportsFaultOfLinks told (map (λ l. (tally l).failures) olds) (map (λ l. (tally l).failures) news)
   pub step : told ≡ faults.Step → v.now ≡ 2 ^ 32 - 1

@@ -41,7 +41,7 @@ pub fn first_line(text: &[u8]) -> (&[u8], &[u8])
     }
 }
 
-/// Whether a line is skipped: it is empty or a comment.
+/// Returns whether a line is skipped: it is empty or begins with `#`.
 pub fn is_skipped(line: &[u8]) -> bool
     ensures { result ≡ says_nothing line.now }
 {
@@ -62,7 +62,7 @@ pub fn first_word(line: &[u8]) -> (&[u8], Option<&[u8]>)
     }
 }
 
-/// The fields after the first word, if none is empty and there are at most `N`.
+/// Returns the fields after the first word, if none is empty and there are at most `N`.
 #[tactic(auto, using(crate::proofs::Cuts::left_out, crate::proofs::Cuts::too_many))]
 pub fn fields_after<const N: usize>(rest: Option<&[u8]>) -> Option<ArrayVec<&[u8], N>>
     ensures { option_map (λ fields. map (λ f. f.now) fields.items) result ≡ fields_in N (words_from (option_map (λ r. r.now) rest.entry)) }

@@ -141,7 +141,7 @@ pub fn kind(word: &[u8]) -> Result<u16, ScriptCause>
     }
 }
 
-/// A value, then bytes.
+/// Returns a value that is parsed already, and the bytes that `word` encodes.
 pub fn with_bytes<T: Drop>(
     alloc: Global,
     value: Result<T, ScriptCause>,

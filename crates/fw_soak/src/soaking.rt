@@ -98,7 +98,7 @@ impl Soaked {
 }
 
 /// Makes `runs` runs of a setup over rough links, and checks each. Nodes restart, updates are
-/// canceled, verdicts are bad and banks fail, all at random moments. The same roughness, which
+/// cancelled, verdicts are bad and banks fail, all at random moments. The same roughness, which
 /// contains the seed, gives the same result.
 ///
 /// # Errors

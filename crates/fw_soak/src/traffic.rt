@@ -206,7 +206,7 @@ impl Traffic {
         Ok(())
     }
 
-    /// Delivers a random packet once more. It isn't delivered if it is too old.
+    /// Delivers a random recent packet of a pair once more, unless it is too old.
     ///
     /// # Errors
     /// `AllocError` if memory is refused.

@@ -10,8 +10,8 @@ use Rattle.fw_steps.specs.Worlds.{WorldOf}
 use Rattle.fw_steps.specs.declared.step.Step.{Step}
 use Rattle.fw_steps.specs.declared.step.Step.TheVariants as steps
 
--- The bytes at the begin of the recording and now, if they are known; and the number of held-back
--- ticks.
+-- The bytes at the beginning of the recording and now, if they are known; and the number of
+-- held-back ticks.
 pub record RecordingOf : Type 0 where
   pub begun : Option (List ℕ)
   pub written : Option (List ℕ)

@@ -46,8 +46,8 @@ pub trait Observer {
     /// Opens the requested outputs.
     ///
     /// # Errors
-    /// The fault of an output that can't be opened, or `Memory`. In contracts, `refuses` is the
-    /// paths that may not be opened.
+    /// The fault of an output that can't be opened, or `Memory`. In contracts, `refuses` are the
+    /// paths that may fail to open.
     fn begin(&mut self, show: Show<'_>) -> Result<(), ObserverFault>
         ensures shows { OnOk result ((watched self.new).shows ≡ shown_of (show_of show.entry)) }
         ensures anew { OnOk result (((watched self.new).seen ≡ 0) × ((watched self.new).lost ≡ None)) }

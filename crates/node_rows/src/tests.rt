@@ -1,5 +1,5 @@
-//! Worked packets at a device's node and at the agent's, and updates by both: each row is what is handed over, and what is sent
-//! back or noted.
+//! Worked packets at a device's node and at the agent's, and updates by both. Each case is the
+//! packets delivered, and the packets sent back or the event noted.
 
 mod bench;
 mod nodes;

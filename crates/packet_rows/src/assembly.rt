@@ -1,13 +1,13 @@
-//! Packets put together.
+//! Assemblies of packets.
 
 use mctp_reasm::{Assembly, DropCause, Fed};
 use mctp_wire::{RawPacket, Unit, decode};
 
-/// The fourth byte of a packet from 8 to 9 under tag 3, and the number of bytes of its body at a unit of 64, where 63 and 64
-/// stand for a byte less than the unit and the unit; or, with no body, so many ticks.
+/// The fourth byte of a packet from 8 to 9 under tag 3, and the size of its body in bytes at a unit
+/// of 64; 63 and 64 are a byte less than the unit, and the unit. With no body, a number of ticks.
 type Step = (u8, usize);
 
-/// The number of bytes of a body at a unit.
+/// The size of a body at a unit.
 fn at_unit(unit: Unit, size: usize) -> usize {
     match unit {
         Unit::U64 => size,
@@ -21,7 +21,7 @@ fn at_unit(unit: Unit, size: usize) -> usize {
     }
 }
 
-/// Feeds a packet with a body of so many times the same byte.
+/// Feeds a packet with a body of `size` equal bytes.
 fn fed(unit: Unit, assembly: &mut Assembly, flags: u8, size: usize, byte: u8) -> Option<Fed> {
     let mut bytes = RawPacket::new();
     let _ = bytes.try_extend_from_slice(&[0x01, 9, 8, flags]);
@@ -41,7 +41,8 @@ fn fed(unit: Unit, assembly: &mut Assembly, flags: u8, size: usize, byte: u8) ->
     }
 }
 
-/// What comes of a step, as a letter: O open, W whole, or that of the drop's cause; a point for ticks.
+/// The result of a step, as a letter: O open, W whole, or that of the drop's cause; a point for
+/// ticks.
 fn letter(unit: Unit, assembly: &mut Assembly, step: Step) -> u8 {
     let (flags, size) = step;
     if size == 0 {
@@ -62,7 +63,7 @@ fn letter(unit: Unit, assembly: &mut Assembly, step: Step) -> u8 {
     }
 }
 
-/// A step that two bytes spell.
+/// The step that two bytes encode.
 fn step_of(bytes: &[u8]) -> Step {
     match bytes {
         [flags, size] => (*flags, *size as usize),
@@ -70,7 +71,7 @@ fn step_of(bytes: &[u8]) -> Step {
     }
 }
 
-/// Whether these letters come of the steps, one after the other.
+/// Whether the steps, one after the other, have these results.
 fn come(unit: Unit, steps: &[u8], letters: &[u8]) -> bool {
     let mut assembly = Assembly::new(unit);
     for (step, wanted) in steps.chunks_exact(2).zip(letters) {
@@ -81,8 +82,8 @@ fn come(unit: Unit, steps: &[u8], letters: &[u8]) -> bool {
     steps.len() % 2 == 0 && steps.len() / 2 == letters.len()
 }
 
-/// A situation: its steps, two bytes each, and the letters that come of them. The packets of a message of 256 bytes are 8B, 1B, 2B
-/// and 7B, each of 40, which is 64.
+/// A case: its steps, two bytes each, and the letters of their results. The packets of a message of
+/// 256 bytes are 8B, 1B, 2B and 7B, each with a body of 0x40 bytes, which is 64.
 type Row<'a> = (&'a str, &'a [u8], &'a [u8]);
 
 static ROWS: [Row<'static>; 16] = [
@@ -121,8 +122,8 @@ fn pieces_come_in_their_order_or_not(rt: HostRuntime) {
     }
 }
 
-/// Whether a message of a byte more than the unit is put together that is begun inside another, and nothing is left once
-/// that is dropped.
+/// Whether a message of one byte more than the unit is assembled if it begins within another, and
+/// nothing is left after that is dropped.
 fn takes_its_place(unit: Unit) -> bool {
     let mut assembly = Assembly::new(unit);
     let _ = fed(unit, &mut assembly, 0x8B, 64, 7);

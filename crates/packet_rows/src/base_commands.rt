@@ -1,4 +1,4 @@
-//! The commands that a terminus tells of.
+//! The commands that a terminus reports.
 
 use pldm_base::{GET_PLDM_COMMANDS, Role, Tid, answer_base};
 

@@ -1,9 +1,9 @@
-//! Messages cut into packets.
+//! Messages that are split into packets.
 
 use mctp_reasm::{Message, piece_at, split};
 use mctp_wire::{RawPacket, Unit};
 
-/// Whether these are the packets that are cut one by one, by their numbers.
+/// Whether these are the packets that are split off one by one, by their numbers.
 fn are_pieces(unit: Unit, message: &Message, packets: &[RawPacket]) -> bool {
     for number in 0..=4 {
         match (
@@ -18,7 +18,8 @@ fn are_pieces(unit: Unit, message: &Message, packets: &[RawPacket]) -> bool {
     true
 }
 
-/// Whether a message of this many bytes is cut into packets with these fourth bytes, and so many bytes in the last.
+/// Whether a message of `size` bytes is split into packets with these fourth bytes, and `last`
+/// bytes in the last.
 fn is_cut(unit: Unit, size: usize, flags: &[u8], last: usize) -> bool {
     let bytes = [0xA5; 512];
     let bytes = bytes.get(..size).unwrap_or(&[]);
@@ -39,7 +40,8 @@ fn is_cut(unit: Unit, size: usize, flags: &[u8], last: usize) -> bool {
     packets.len() == flags.len() && end == last && are_pieces(unit, &message, packets.as_slice())
 }
 
-/// The unit, the sizes of messages, the fourth bytes of their packets, and the last one's number of bytes.
+/// The unit, the size of a message, the fourth bytes of its packets, and the number of bytes in the
+/// last one.
 const ROWS: [(Unit, usize, &[u8], usize); 9] = [
     (Unit::U64, 1, &[0xCB], 1),
     (Unit::U64, 64, &[0xCB], 64),

@@ -1,4 +1,4 @@
-//! PLDM headers, read and written.
+//! PLDM headers, decoded and encoded.
 
 use pldm_base::{PldmFault, PldmHead, TYPE_BASE, decode, encode};
 
@@ -18,7 +18,7 @@ const LAST: PldmHead = PldmHead {
     command: 255,
 };
 
-/// Whether this head and the bytes behind it are read from a message, and written as it.
+/// Whether a message decodes to this head and the bytes after it, and they encode back.
 fn reads_and_writes(head: &PldmHead, message: &[u8]) -> bool {
     let Ok((read, body)) = decode(message) else {
         return false;
@@ -43,8 +43,8 @@ fn reads_what_it_writes(rt: HostRuntime) {
     }
 }
 
-/// Messages with a fault: no bytes, and three that are all wrong; another message type, the integrity check bit, and all
-/// wrong but the length; a datagram, and one of version 1; version 1.
+/// Messages with a fault: no bytes, and three that are all wrong; another message type, the
+/// integrity check bit, and all wrong but the length; a datagram, and one of version 1; version 1.
 const FAULTS: [(&[u8], PldmFault); 8] = [
     (&[], PldmFault::Short),
     (&[0x00, 0xC0, 0x40], PldmFault::Short),

@@ -1,5 +1,6 @@
-//! Tests of packets, frames, messages, and PLDM headers and base commands. `tests/program` asks the built program the rest: what is
-//! refused as no packet, and each control message and base command.
+//! Tests of packets, frames, messages, and PLDM headers and base commands. `tests/program` tests
+//! the built program for the rest: packets that are refused, and each control message and base
+//! command.
 #![tactic(auto)]
 
 #[cfg(test)]

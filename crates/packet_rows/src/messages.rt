@@ -1,9 +1,9 @@
-//! Messages as they are made.
+//! Messages as they are created.
 
 use mctp_reasm::{Message, MessageFault};
 use mctp_wire::Unit;
 
-/// Whether a message of this many bytes is made, and tells what it is made of; or why none is.
+/// Whether a message of `size` bytes is created with its contents, or the fault.
 fn is_made(unit: Unit, size: usize) -> Result<bool, MessageFault> {
     let bytes = [0x5A; 513];
     let bytes = bytes.get(..size).unwrap_or(&[]);

@@ -1,4 +1,4 @@
-//! Packets, read and written.
+//! Packets, decoded and encoded.
 
 use mctp_wire::{Head, RawPacket, Unit, WireFault, decode, encode};
 
@@ -24,7 +24,7 @@ const MIDDLE: Head = Head {
     tag: 5,
 };
 
-/// Whether this head and the bytes behind it are read from a packet.
+/// Whether a packet decodes to this head and the bytes after it.
 fn reads(unit: Unit, head: &Head, packet: &[u8]) -> bool {
     match decode(unit, packet) {
         Ok(read) => read.head == *head && packet.get(4..) == Some(read.body),
@@ -32,7 +32,8 @@ fn reads(unit: Unit, head: &Head, packet: &[u8]) -> bool {
     }
 }
 
-/// Whether this head and the bytes behind it are written as a packet, in place of what was there.
+/// Whether this head and the bytes after it encode to a packet, which replaces the content of
+/// `out`.
 fn writes(out: &mut RawPacket, head: &Head, packet: &[u8]) -> bool {
     let [_, _, _, _, body @ ..] = packet else {
         return false;
@@ -44,14 +45,14 @@ fn writes(out: &mut RawPacket, head: &Head, packet: &[u8]) -> bool {
     out.as_slice() == packet
 }
 
-/// A packet of a byte more than the greater unit allows, of whose beginnings some are packets.
+/// One byte more than the longest packet at the greater unit; some of its beginnings are packets.
 fn longest() -> [u8; 133] {
     let mut longest = [0x5A; 133];
     longest[..4].copy_from_slice(&[0x01, 9, 8, 0xC8]);
     longest
 }
 
-/// Whether so many of its bytes are too long for a packet at this unit.
+/// Whether its first `size` bytes are too long for a packet at this unit.
 fn is_too_long(unit: Unit, size: usize) -> bool {
     let bytes = longest();
     let Some(packet) = bytes.get(..size) else {
@@ -93,6 +94,6 @@ fn reads_and_writes_packets(rt: HostRuntime) {
     for (unit, head, packet) in table {
         assert!(rt; reads(unit, head, packet) && writes(&mut out, head, packet));
     }
-    // the reserved bits of the first byte say nothing
+    // the reserved bits of the first byte are ignored
     assert!(rt; reads(Unit::U64, &REQUEST, &[0xF1, 9, 8, 0xC8, 0x00]));
 }

@@ -1,9 +1,10 @@
-//! Frames on a byte stream (DSP0253). The check sequences are those of a CRC-16/MCRF4XX whose value of "123456789" is 6F91.
+//! Frames on a byte stream (DSP0253). The check sequences are those of a CRC-16/MCRF4XX whose value
+//! of "123456789" is 6F91.
 
 use mctp_serial::{Reader, SerialFrame, write};
 use mctp_wire::{MAX_PACKET, Unit};
 
-/// Whether a packet is written as this frame, in place of what was there.
+/// Whether a packet encodes to this frame, which replaces the content of `frame`.
 fn is_written(frame: &mut SerialFrame, packet: &[u8], bytes: &[u8]) -> bool {
     if packet.is_empty() || packet.len() > MAX_PACKET {
         return false;
@@ -12,7 +13,7 @@ fn is_written(frame: &mut SerialFrame, packet: &[u8], bytes: &[u8]) -> bool {
     frame.as_slice() == bytes
 }
 
-/// Whether a new reader gives these packets over a stream, and no others.
+/// Whether a new reader returns exactly these packets for a stream.
 fn are_read(unit: Unit, stream: &[u8], packets: &[&[u8]]) -> bool {
     let mut reader = Reader::new(unit);
     let mut count = 0;
@@ -27,8 +28,8 @@ fn are_read(unit: Unit, stream: &[u8], packets: &[&[u8]]) -> bool {
     count == packets.len()
 }
 
-/// A packet and its frame: a request, "123456789", one byte, both bytes that are escaped beside those that stand for them, and
-/// a check sequence of two flags, which isn't escaped.
+/// A packet and its frame: a request, "123456789", one byte, both bytes that are escaped beside
+/// their escape codes, and a check sequence of two flags, which isn't escaped.
 const FRAMES: [(&[u8], &[u8]); 5] = [
     (
         b"\x01\x09\x08\xC8\x00\x80\x02",
@@ -56,7 +57,8 @@ fn a_packet_is_a_frame(rt: HostRuntime) {
     }
 }
 
-/// The frame of a packet of `count` times the same byte, which is `data` in a frame, with this check sequence.
+/// The frame of a packet of `count` equal bytes, each of which is `data` in a frame, with this
+/// check sequence.
 fn repeated(count: u8, data: &[u8], check: &[u8]) -> SerialFrame {
     let mut frame = SerialFrame::new();
     let _ = frame.try_extend_from_slice(&[0x7E, 1, count]);
@@ -68,8 +70,8 @@ fn repeated(count: u8, data: &[u8], check: &[u8]) -> SerialFrame {
     frame
 }
 
-/// A packet's number of bytes, each of them, that byte in a frame, the check sequence, and whether the frame is read at a unit
-/// of 64 and of 128.
+/// A packet's size, each of its bytes, that byte in a frame, the check sequence, and whether the
+/// frame is read at a unit of 64 and of 128.
 type Long<'a> = (u8, u8, &'a [u8], &'a [u8], bool, bool);
 
 static LONG: [Long<'static>; 7] = [
@@ -104,7 +106,8 @@ fn a_frame_carries_the_unit_and_a_head_at_most(rt: HostRuntime) {
     }
 }
 
-/// Bytes before the first frame of `FRAMES`, and how often its packet is then given.
+/// Bytes before the first frame of `FRAMES`, and the number of times that its packet is then
+/// returned.
 type Noise<'a> = (&'a str, &'a [u8], usize);
 
 static NOISE: [Noise<'static>; 17] = [
@@ -199,8 +202,8 @@ fn a_frame_is_read_after_noise(rt: HostRuntime) {
     }
 }
 
-/// After a flag and a revision, the flag that begins a frame is a byte count of 126 at a unit of 128. A packet of 122 bytes and
-/// what is about it fill that, and two frames are lost.
+/// After a flag and a revision, the flag that begins a frame is a byte count of 126 at a unit of
+/// 128. A packet of 122 bytes and its framing fill that, and two frames are lost.
 #[test]
 fn a_flag_may_be_taken_for_a_byte_count(rt: HostRuntime) {
     let (packet, frame) = FRAMES[0];

@@ -10,7 +10,7 @@ use fwupd_base::{AnswerFault, answer_stream};
 use std::io::{self, Read, Write};
 use uuid::Uuid;
 
-/// Gives a text, and then an error.
+/// A reader that returns a text, and then an error.
 #[derive(Drop)]
 struct BrokenReader<'a> {
     rest: &'a [u8],
@@ -25,7 +25,7 @@ impl<'a> Read for BrokenReader<'a> {
     }
 }
 
-/// Is interrupted before each byte that it gives.
+/// A reader that is interrupted before each byte.
 #[derive(Drop)]
 struct InterruptedReader<'a> {
     rest: &'a [u8],
@@ -42,7 +42,7 @@ impl<'a> Read for InterruptedReader<'a> {
     }
 }
 
-/// Is interrupted twice before each write that it takes, and counts the flushes that had something to flush.
+/// A writer that is interrupted twice before each write, and counts the flushes of pending bytes.
 #[derive(Drop)]
 struct FlushedWriter {
     tries: usize,
@@ -96,7 +96,7 @@ fn what_is_interrupted_is_tried_again_and_each_answer_is_flushed(rt: HostRuntime
     assert!(rt; writer.flushes == 3);
 }
 
-/// Takes what is written, and lets nothing through.
+/// A writer that takes bytes, and fails to flush them.
 #[derive(Drop)]
 struct ShutWriter {
     taken: usize,
@@ -132,7 +132,7 @@ fn a_broken_writer_stops_the_run(rt: HostRuntime) {
     assert!(rt; room.as_slice() == b"drop Short\ndrop ".as_slice());
 }
 
-/// Holds whichever single allocation is refused.
+/// Whichever single allocation is refused, the test holds.
 #[test]
 fn refused_memory_leaves_whole_answers(rt: HostRuntime) {
     let mut room = [0u8; 64];

@@ -1,4 +1,4 @@
-//! Texts that are read, texts that are none, and the report of an update.
+//! Texts that are read, texts that are refused, and the report of an update.
 
 mod configs;
 mod memory;

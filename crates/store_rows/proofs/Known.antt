@@ -1,4 +1,4 @@
--- A component that has an image that runs is there.
+-- A component with an active image exists.
 use Rattle.std.proofs.Common.{◌≡◌, IsSome, None, Option, Some, is_some, refl, true}
 use Rattle.fd_core.specs.Images.{RowOf, active_of}
 

@@ -19,7 +19,7 @@ const SECOND: Key = Key {
     identifier: 2,
 };
 
-/// A stamp and a text.
+/// A label with this stamp.
 fn label(stamp: u32) -> Label {
     Label::new(&Version {
         stamp,
@@ -30,7 +30,8 @@ fn label(stamp: u32) -> Label {
     })
 }
 
-/// A bank of both components over a store that keeps what runs, and fails so often first.
+/// A bank of both components over a store that holds the active images, and whose first `fails`
+/// calls fail.
 fn bank(alloc: Global, fails: u32) -> Result<KeptBank<FailStore>, Fail> {
     let mut bank = MemBank::new(alloc);
     bank.add(FIRST, &label(1), &[0xAA])?;
@@ -42,7 +43,7 @@ fn bank(alloc: Global, fails: u32) -> Result<KeptBank<FailStore>, Fail> {
     Ok(KeptBank::new(alloc, bank, keys, FailStore::new(store, fails)))
 }
 
-/// Writes a small image of a component that is there, and applies it.
+/// Writes a small image of an existing component, and applies it.
 #[tactic(auto, using(crate::proofs::Known::known))]
 fn apply(bank: &mut KeptBank<FailStore>, key: Key, bytes: &[u8]) -> Result<(), BankFault> {
     if bank.active(key).is_none() || bytes.len() > 16 {
@@ -53,7 +54,7 @@ fn apply(bank: &mut KeptBank<FailStore>, key: Key, bytes: &[u8]) -> Result<(), B
     bank.seal()
 }
 
-/// What runs of a component, and what is kept of it.
+/// Whether the active and the stored image of a component are these bytes.
 fn runs_and_keeps(bank: &KeptBank<FailStore>, key: Key, bytes: &[u8]) -> bool {
     let (Some((_, runs)), Some(kept)) = (bank.active(key), bank.store().bytes(key)) else {
         return false;

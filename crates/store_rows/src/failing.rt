@@ -5,7 +5,7 @@ ghost use Rattle.std.specs.Prelude.{◌≡◌};
 use fd_core::Key;
 use fw_store::{Kept, MemStore, Store, StoreFault};
 
-/// A store in memory of which the first so many calls fail.
+/// A store in memory whose first calls fail.
 #[derive(Drop)]
 pub struct FailStore {
     store: MemStore,
@@ -13,14 +13,14 @@ pub struct FailStore {
 }
 
 impl FailStore {
-    /// A store that keeps what this one keeps, and fails so often first.
+    /// Creates a store with the content of `store`, whose first `fails` calls fail.
     pub fn new(store: MemStore, fails: u32) -> FailStore
         ensures { result.store ≡ store }
     {
         FailStore { store, fails }
     }
 
-    /// The bytes that are kept for a component, if it is there.
+    /// Returns the stored bytes of a component, if it exists.
     pub fn bytes(&self, key: Key) -> Option<&[u8]> {
         self.store.bytes(key)
     }

@@ -1,4 +1,4 @@
-//! What a store in a folder keeps, whatever fails.
+//! The content of a store in a folder, whatever fails.
 
 ghost use Rattle.std.specs.Prelude.{◌≡◌, IfOk, Ok};
 ghost use Rattle.fw_store.specs.Changes.{files_of};
@@ -29,7 +29,7 @@ const SECOND: Key = Key {
 const WORKED: &[u8] =
     b"10 1 305419896 1 76312E32 10-1.3.image 3 55BC801D\n65535 0 0 0 - 65535-0.12.image 0 00000000\n03E0AFF7\n";
 
-/// A stamp, a text type and a text.
+/// A label with this stamp, text type and text.
 fn label(stamp: u32, text_type: u8, bytes: &[u8]) -> Label {
     Label::new(&Version {
         stamp,
@@ -45,7 +45,7 @@ fn are(images: &[Stored], first: &[u8], second: &[u8]) -> bool {
     }
 }
 
-/// The files of a folder, and how many there are.
+/// The number of files in a folder.
 fn count(alloc: Global, folder: &KnownFolder) -> Result<usize, FolderFault> {
     Ok(folder.names(alloc)?.len())
 }
@@ -55,7 +55,7 @@ fn sound(folder: &KnownFolder) -> Result<KnownFolder, Fail> {
     Ok(folder.after(folder.count())?)
 }
 
-/// What a folder keeps over some images, as it is read.
+/// The images that a folder has for some components, as they are read.
 fn found(
     alloc: Global,
     folder: &KnownFolder,
@@ -84,7 +84,7 @@ fn open(alloc: Global, folder: KnownFolder) -> Result<FolderStore<KnownFolder>, 
     open_store(alloc, folder, &components)
 }
 
-/// Keeps these bytes of both components.
+/// Stores these bytes of both components.
 fn keep<'a>(store: &mut FolderStore<KnownFolder>, first: &'a [u8], second: &'a [u8]) -> bool {
     let label = label(2, 1, b"b");
     let images = [
@@ -102,7 +102,8 @@ fn keep<'a>(store: &mut FolderStore<KnownFolder>, first: &'a [u8], second: &'a [
     store.keep(&images).is_ok()
 }
 
-/// Whether one failing call leaves what was kept before or what is kept after, and what is kept after where no failure is told.
+/// Whether one failing call leaves the images before or after it, and those after it if no failure
+/// is reported.
 fn lasts(alloc: Global, call: u32, failing: Failing) -> Result<bool, Fail> {
     let mut store = open(
         alloc,
@@ -134,8 +135,8 @@ fn a_call_that_fails_leaves_the_images_before_or_after(rt: HostRuntime) -> Resul
     Ok(())
 }
 
-/// Whether a crash after each call leaves what was kept before or what is kept after, and never again what was kept before once it
-/// left that.
+/// Whether a crash after each call leaves the images before or after it, and never those before
+/// once it left those after.
 fn stands(alloc: Global, call: u32, failing: Failing) -> Result<bool, Fail> {
     let mut store = open(
         alloc,
@@ -236,7 +237,7 @@ fn a_text_written_by_hand_is_read(rt: HostRuntime) -> Result<(), Fail> {
     Ok(())
 }
 
-/// A copy of bytes in which one is turned.
+/// A copy of bytes with one changed.
 fn turned(alloc: Global, bytes: &[u8], place: usize, by: u8) -> Result<Vec<u8>, Fail> {
     let mut turned = Vec::new(alloc);
     for (i, byte) in bytes.iter().enumerate() {
@@ -257,7 +258,7 @@ fn each_byte_that_is_turned_is_told(rt: HostRuntime) -> Result<(), Fail> {
     Ok(())
 }
 
-/// Whether a store whose file has these bytes is damaged, and nothing of it is touched.
+/// Whether a store whose file has these bytes is damaged, and is left unchanged.
 fn is_damaged(
     alloc: Global,
     folder: &KnownFolder,

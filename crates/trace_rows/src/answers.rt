@@ -2,7 +2,7 @@
 
 use crate::rows::Row;
 
-/// Each answer of firmware update, and answers that can't be read.
+/// Each answer of firmware update, and answers that can't be decoded.
 pub const ANSWERS: [Row<'static>; 23] = [
     (
         1,
@@ -121,7 +121,8 @@ pub const ANSWERS: [Row<'static>; 23] = [
     ),
 ];
 
-/// Each completion code of firmware update but SUCCESS, codes without a name, and a refusal that goes on.
+/// Each completion code of firmware update but SUCCESS, codes without a name, and a refusal with
+/// bytes after it.
 pub const CODES: [Row<'static>; 18] = [
     (
         1,
@@ -215,7 +216,7 @@ pub const CODES: [Row<'static>; 18] = [
     ),
 ];
 
-/// Two components, one with an image that is to be active, in two packets.
+/// Two components, one with a pending image, in two packets.
 pub const PARAMETERS: [Row<'static>; 2] = [
     (
         3,

@@ -103,7 +103,7 @@ pub const BASE: [Row<'static>; 21] = [
     ),
 ];
 
-/// Control messages, each command and each code, and messages that can't be read.
+/// Control messages with each command and each code, and messages that can't be decoded.
 pub const CONTROL: [Row<'static>; 33] = [
     (
         1,

@@ -2,7 +2,8 @@
 
 use crate::rows::Row;
 
-/// Each command of firmware update, fields that can't be read, texts of each encoding, and commands without a name.
+/// Each command of firmware update, fields that can't be decoded, texts of each encoding, and
+/// commands without a name.
 pub const COMMANDS: [Row<'static>; 25] = [
     (
         1,

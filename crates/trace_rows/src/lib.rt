@@ -1,4 +1,4 @@
-//! Tests of the lines of packets: tables of packets with the lines that they are to get, and random bytes.
+//! Tests of the lines of packets: tables of packets with their expected lines, and random bytes.
 #![tactic(auto)]
 
 #[cfg(test)]

@@ -7,7 +7,8 @@ use mctp_wire::{MAX_PACKET, Unit};
 /// A message in two packets of 64 bytes and one: `type 5A`, and its digits.
 const TWO_PARTS: [(u8, usize); 2] = [(0x88, 64), (0x58, 1)];
 
-/// A line that is refused memory is lost, and the reader knows its packet. Holds whichever single allocation is refused.
+/// A line for which memory is refused is lost, and the reader has read its packet. Whichever single
+/// allocation is refused, the test holds.
 #[test]
 fn refused_memory_leaves_the_reader_going_on(rt: HostRuntime) {
     let mut reader = PacketReader::new(Unit::U64, 8, 9);
@@ -34,7 +35,7 @@ fn refused_memory_leaves_the_reader_going_on(rt: HostRuntime) {
     assert!(rt; told >= 1);
 }
 
-/// Holds whichever single allocation is refused.
+/// Whichever single allocation is refused, the test holds.
 #[test]
 fn refused_memory_tells_no_list(rt: HostRuntime) {
     let mut text = Vec::new(rt.alloc());

@@ -1,8 +1,8 @@
-//! Packets, dropped, in parts and no packets.
+//! Packets that are dropped or parts, and bytes that aren't packets.
 
 use crate::rows::Row;
 
-/// Each drop, bytes that are no packet, parts, and messages under way side by side.
+/// Each drop, bytes that aren't packets, parts, and interleaved messages.
 pub const PACKETS: [Row<'static>; 25] = [
     (0, "", "0 9 1 bytes -"),
     (1, "010908", "1 9 2 bytes 010908"),

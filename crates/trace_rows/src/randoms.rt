@@ -6,17 +6,17 @@ use rand_core::utils::NextWord;
 use rand_pcg::Pcg32;
 use std::alloc::Global;
 
-/// How many packets are tried.
+/// The number of packets.
 const PACKETS: usize = 4_000;
 
-/// A random number below another.
+/// A random number below `bound`.
 fn below(random: &mut Pcg32, bound: u32) -> u8 {
     let word = random.next_word();
     (word.checked_rem(bound).unwrap_or(0) % 256) as u8
 }
 
-/// Random bytes, of which the first four are mostly those of a packet between the ends, and the next ones those of a message's
-/// head.
+/// Random bytes. The first four are mostly those of a packet between the ends, and the next ones
+/// those of a message's head.
 fn random_packet(random: &mut Pcg32) -> RawPacket {
     let mut bytes = RawPacket::new();
     let size = below(random, 74);
@@ -38,7 +38,7 @@ fn random_packet(random: &mut Pcg32) -> RawPacket {
     bytes
 }
 
-/// Whether a text begins with a number and what stands between source and destination.
+/// Whether a text begins with a number and the text between source and destination.
 fn has_ends(line: &[u8]) -> bool {
     for (place, byte) in line.iter().enumerate() {
         if !byte.is_ascii_digit() {
@@ -48,7 +48,7 @@ fn has_ends(line: &[u8]) -> bool {
     false
 }
 
-/// Whether a text is one line of plain characters that begins as the line of the packet of this number.
+/// Whether a text is one line of plain characters that begins as the line of packet `number`.
 fn is_line(alloc: Global, text: &[u8], number: usize) -> bool {
     let Ok(start) = format!(in alloc; "3 9 {number} ") else {
         return false;
@@ -67,7 +67,7 @@ fn is_line(alloc: Global, text: &[u8], number: usize) -> bool {
     line.starts_with(b"bytes ") || has_ends(line)
 }
 
-/// How many of the random packets get a line, one after the other.
+/// The number of random packets, one after the other, that get a line.
 fn lines_of_randoms(alloc: Global, unit: Unit, seed: u64) -> usize {
     let mut random = Pcg32::new(seed, 54);
     let mut reader = PacketReader::new(unit, 8, 9);

@@ -1,11 +1,11 @@
-//! Packets between the agent 8 and the device 9, and the lines that they are to get.
+//! Packets between the agent 8 and the device 9, and their expected lines.
 
 use crate::{answers, bases, commands, packets, update};
 use fw_trace::{PacketReader, Sent, push_lines, push_message};
 use mctp_wire::Unit;
 use std::alloc::Global;
 
-/// When a packet was sent, its bytes in digits, and the line that it is to get, without its line feed.
+/// The tick of sending, the packet in digits, and its expected line, without its line feed.
 pub type Row<'a> = (u32, &'a str, &'a str);
 
 /// Whether the next packet gets its line.
@@ -22,7 +22,7 @@ fn gets_line(alloc: Global, reader: &mut PacketReader, number: usize, row: &Row<
     }
 }
 
-/// The number of the first of these packets that doesn't get its line, or 0 where each does.
+/// The number of the first packet that doesn't get its line, or 0 if each does.
 fn first_wrong(alloc: Global, unit: Unit, rows: &[Row<'_>]) -> usize {
     let mut reader = PacketReader::new(unit, 8, 9);
     let mut number = 0usize;
@@ -64,7 +64,7 @@ fn tells_parts_drops_and_bytes(rt: HostRuntime) {
     assert_eq!(rt; first_wrong(rt.alloc(), Unit::U128, &packets::WIDE), 0);
 }
 
-/// Two packets, one each way.
+/// Two packets, one in each direction.
 pub const BOTH_WAYS: [Sent<'static>; 2] = [
     Sent {
         turn: 4,

@@ -2,7 +2,7 @@
 
 use crate::rows::Row;
 
-/// One update over perfect links, whole.
+/// One update over perfect links.
 pub const UPDATE: [Row<'static>; 27] = [
     (
         1,

@@ -1,4 +1,4 @@
-//! Answers, read and written: byte strings worked by hand from DSP0267's tables.
+//! Answers, decoded and encoded: byte strings worked out by hand from DSP0267's tables.
 
 use fwup_wire::code::{command, completion, response, text_type};
 use fwup_wire::{
@@ -11,12 +11,12 @@ use mctp_wire::Unit;
 /// One descriptor: type 0, data 34 12.
 const ONE_DESCRIPTOR: [u8; 12] = [0, 6, 0, 0, 0, 1, 0, 0, 2, 0, 0x34, 0x12];
 
-/// And another: type 0201, data 78 56 34 12.
+/// A second descriptor: type 0201, data 78 56 34 12.
 const TWO_DESCRIPTORS: [u8; 20] = [
     0, 14, 0, 0, 0, 2, 0, 0, 2, 0, 0x34, 0x12, 0x01, 0x02, 4, 0, 0x78, 0x56, 0x34, 0x12,
 ];
 
-/// The two, read, each with the bytes of the list that it ends.
+/// The two descriptors, decoded, each with the bytes of the list that ends with it.
 static DESCRIPTORS_READ: [(DeviceDescriptor<'static>, &[u8]); 2] = [
     (
         DeviceDescriptor {
@@ -34,13 +34,13 @@ static DESCRIPTORS_READ: [(DeviceDescriptor<'static>, &[u8]); 2] = [
     ),
 ];
 
-/// Component (10, 1) with text `1.0` and nothing pending.
+/// Component (10, 1) with text `1.0` and no pending image.
 const ONE_COMPONENT: [u8; 53] = [
     0, 0, 0, 0, 0, 1, 0, 0, 0, 0, 0, 0x0A, 0, 1, 0, 0, 1, 0, 0, 0, 1, 3, 0, 0, 0, 0, 0, 0, 0, 0, 0,
     0, 0, 0, 0, 0, 0, 0, 0, 0, 0, 0, 0, 0, 2, 0, 0, 0, 0, 0, 0x31, 0x2E, 0x30,
 ];
 
-/// And (10, 2), index 1, with text `1.0`, and `v2` of stamp 2 pending.
+/// A second component: (10, 2), index 1, with text `1.0`, and `v2` of stamp 2 pending.
 const TWO_COMPONENTS: [u8; 97] = [
     0, 0, 0, 0, 0, 2, 0, 0, 0, 0, 0, 0x0A, 0, 1, 0, 0, 1, 0, 0, 0, 1, 3, 0, 0, 0, 0, 0, 0, 0, 0, 0,
     0, 0, 0, 0, 0, 0, 0, 0, 0, 0, 0, 0, 0, 2, 0, 0, 0, 0, 0, 0x31, 0x2E, 0x30, 0x0A, 0, 2, 0, 1, 1,
@@ -48,7 +48,7 @@ const TWO_COMPONENTS: [u8; 97] = [
     0, 0x31, 0x2E, 0x30, 0x76, 0x32,
 ];
 
-/// And (65535, 258), index 255, with the greatest stamp and no texts.
+/// A third component: (65535, 258), index 255, with the greatest stamp and no texts.
 const THREE_COMPONENTS: [u8; 136] = [
     0, 0, 0, 0, 0, 3, 0, 0, 0, 0, 0, 0x0A, 0, 1, 0, 0, 1, 0, 0, 0, 1, 3, 0, 0, 0, 0, 0, 0, 0, 0, 0,
     0, 0, 0, 0, 0, 0, 0, 0, 0, 0, 0, 0, 0, 2, 0, 0, 0, 0, 0, 0x31, 0x2E, 0x30, 0x0A, 0, 2, 0, 1, 1,
@@ -72,7 +72,7 @@ const ONE: Version<'static> = Version {
     },
 };
 
-/// The components, read, each with the bytes of the list that it ends.
+/// The components, decoded, each with the bytes of the list that ends with it.
 static PARAMETERS_READ: [(ComponentParameters<'static>, &[u8]); 3] = [
     (
         ComponentParameters {
@@ -127,9 +127,9 @@ static PARAMETERS_READ: [(ComponentParameters<'static>, &[u8]); 3] = [
     ),
 ];
 
-/// Answers by their command: those without fields, or with those that say nothing; a table entry that isn't supported; an offer declined,
-/// as the stamp is the same, and 300 seconds; an activation that takes 258; and
-/// lists of descriptors and of components.
+/// Answers by their command: those without fields, or with constant fields; a table entry that
+/// isn't supported; an offer declined since the stamp is the same, and 300 seconds; an activation
+/// that takes 258 seconds; and lists of descriptors and of components.
 static WHOLE: [(u8, &[u8]); 15] = [
     (command::REQUEST_UPDATE, &[0; 4]),
     (command::TRANSFER_COMPLETE, &[0]),
@@ -151,7 +151,7 @@ static WHOLE: [(u8, &[u8]); 15] = [
     (command::GET_FIRMWARE_PARAMETERS, &THREE_COMPONENTS),
 ];
 
-/// Whether a list has this many entries, the first of those above.
+/// Whether a list has `count` entries, the first of those above.
 fn are_descriptors(told: &DeviceDescriptors<'_>, count: usize) -> bool {
     for (one, (other, _)) in told.iter().zip(&DESCRIPTORS_READ) {
         if one != *other {
@@ -161,7 +161,7 @@ fn are_descriptors(told: &DeviceDescriptors<'_>, count: usize) -> bool {
     told.len() == count && told.is_empty() == (count == 0)
 }
 
-/// The same of components, of which there is one at least.
+/// The same for components, of which there is at least one.
 fn are_parameters(told: &Parameters<'_>, count: usize) -> bool {
     for (one, (other, _)) in told.iter().zip(&PARAMETERS_READ) {
         if one != *other {
@@ -171,7 +171,7 @@ fn are_parameters(told: &Parameters<'_>, count: usize) -> bool {
     told.len() == count && !told.is_empty()
 }
 
-/// Whether an answer says what its row does, a list of this many entries the first of those above.
+/// Whether an answer has the expected fields; a list has `count` entries, the first of those above.
 fn is_told(answer: &Answer<'_>, count: usize) -> bool {
     match answer {
         Answer::PassComponentTable(told) => {
@@ -197,7 +197,7 @@ fn is_told(answer: &Answer<'_>, count: usize) -> bool {
     }
 }
 
-/// Whether these bytes are read as an answer, with what they say, and written back.
+/// Whether the bytes decode as an answer with the expected fields, and encode back.
 fn reads_and_writes(byte: u8, bytes: &[u8]) -> bool {
     match read_answer(byte, bytes) {
         Ok(answer) => {
@@ -226,7 +226,7 @@ const OTHER_COMPONENT: [u8; 53] = [
     0, 0, 0, 0, 0, 0, 0, 0, 0, 0, 0, 0, 0, 2, 0, 0, 0, 0, 0, 0x31, 0x2E, 0x31,
 ];
 
-/// Whether these bytes are answers, to a command each, that are equal.
+/// Whether the bytes of both are answers to their commands, and equal.
 fn are_equal(one: (u8, &[u8]), other: (u8, &[u8])) -> bool {
     match (read_answer(one.0, one.1), read_answer(other.0, other.1)) {
         (Ok(one), Ok(other)) => one == other,
@@ -269,12 +269,12 @@ fn tells_answers_apart(rt: HostRuntime) {
     );
 }
 
-/// Whether an answer is written as these bytes.
+/// Whether an answer encodes to the bytes.
 fn is_written(answer: &Answer<'_>, bytes: &[u8]) -> bool {
     answer.is_writable() && write_answer(answer).as_slice() == bytes
 }
 
-/// Whether the descriptors, put together one by one, are written as the bytes above.
+/// Whether the descriptors, added one by one, encode to the bytes above.
 fn descriptors_are_put_together() -> bool {
     let mut list = DescriptorList::new();
     for (descriptor, bytes) in &DESCRIPTORS_READ {
@@ -289,7 +289,7 @@ fn descriptors_are_put_together() -> bool {
     true
 }
 
-/// Whether the components, put together one by one, are written as the bytes above.
+/// Whether the components, added one by one, encode to the bytes above.
 fn components_are_put_together() -> bool {
     let mut list = ParameterList::new();
     for (component, bytes) in &PARAMETERS_READ {
@@ -311,12 +311,12 @@ fn puts_lists_together(rt: HostRuntime) {
     assert!(rt; components_are_put_together());
 }
 
-/// The commands that have answers.
+/// The commands that have an answer.
 static COMMANDS: [u8; 13] = [
     0x01, 0x02, 0x10, 0x13, 0x14, 0x15, 0x16, 0x17, 0x18, 0x1A, 0x1B, 0x1C, 0x1D,
 ];
 
-/// Codes of refusals.
+/// Completion codes of refusals.
 static CODES: [u8; 6] = [
     0x01,
     0x04,
@@ -326,7 +326,7 @@ static CODES: [u8; 6] = [
     0xFF,
 ];
 
-/// Whether this code alone is the refusal of a command, and bytes behind it are none.
+/// Whether only this code is the refusal of a command, without bytes after it.
 fn ends_at(byte: u8, code: u8) -> bool {
     match read_answer(byte, &[code]) {
         Ok(Answer::Refused { code: told }) => {
@@ -346,9 +346,10 @@ fn ends_refusals_at_the_code(rt: HostRuntime) {
     }
 }
 
-/// What is no answer: a descriptor missing, one too many, a longer list, a longer descriptor; metadata, package data wanted; a byte missing, a byte
-/// too many, a code alone, fields of a bare answer; a broken component, its bit; a status without flags; and answers to
-/// commands that aren't known, refusals too.
+/// Bytes that aren't answers: a descriptor missing, one too many, a longer list, a longer
+/// descriptor; metadata, package data requested; a byte missing, a byte too many, a code alone,
+/// fields after a bare answer; a broken component, its bit; a status without flags; and answers to
+/// unknown commands, also refusals.
 static MALFORMED: [(u8, &[u8]); 23] = [
     (0x01, &[0, 6, 0, 0, 0, 2, 0, 0, 2, 0, 0x34, 0x12]),
     (0x01, &[0, 6, 0, 0, 0, 0, 0, 0, 2, 0, 0x34, 0x12]),
@@ -382,7 +383,8 @@ fn refuses_malformed_answers(rt: HostRuntime) {
     }
 }
 
-/// How many bytes of an image an answer carries, and whether it is writable: a reply has at most 508 bytes with its code.
+/// The number of image bytes in an answer, and whether it can be encoded: a reply has at most 508
+/// bytes with its code.
 static CARRIED: [(usize, bool); 6] = [
     (0, true),
     (240, true),
@@ -392,7 +394,7 @@ static CARRIED: [(usize, bool); 6] = [
     (508, false),
 ];
 
-/// Whether an answer with so many bytes of an image is writable as it is to be, and then reads back.
+/// Whether an answer with `size` image bytes can be encoded as expected, and decodes back.
 fn carries(size: usize, writable: bool) -> bool {
     let image = [0xA5; 508];
     let answer = Answer::RequestFirmwareData(image.get(..size).unwrap_or(&[]));

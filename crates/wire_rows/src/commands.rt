@@ -1,4 +1,4 @@
-//! Commands, read and written: byte strings worked by hand from DSP0267's tables.
+//! Commands, decoded and encoded: byte strings worked out by hand from DSP0267's tables.
 
 use fwup_wire::code::text_type;
 use fwup_wire::{
@@ -26,7 +26,7 @@ const OFFER: [u8; 21] = [
     0x0A, 0, 1, 0, 0, 1, 0, 0, 0, 0xF1, 0, 0, 0, 0, 0, 0, 0, 1, 2, 0x76, 0x32,
 ];
 
-/// A command's code and its data, and what it is.
+/// A command's code and data, and the command.
 type Row<'a> = (u8, &'a [u8], Command<'a>);
 
 static ROWS: [Row<'static>; 15] = [
@@ -111,7 +111,7 @@ static ROWS: [Row<'static>; 15] = [
     (0x1D, &[], Command::CancelUpdate),
 ];
 
-/// Whether these data read as the command of this code, and are what it is written as.
+/// Whether the data decode as the command of this code, and the command encodes to the data.
 fn reads_and_writes(byte: u8, fields: &[u8], command: &Command<'_>) -> bool {
     match read(byte, fields) {
         Ok(found) => {
@@ -131,7 +131,7 @@ fn reads_fields_and_writes_them_back(rt: HostRuntime) {
     }
 }
 
-/// The text of an update's request: it outlives what is read from the data.
+/// The text of an update's request: it outlives the command decoded from the data.
 fn text_alone(fields: &[u8]) -> &[u8] {
     match read(0x10, fields) {
         Ok(Command::RequestUpdate(request)) => request.image_set.bytes,
@@ -139,7 +139,7 @@ fn text_alone(fields: &[u8]) -> &[u8] {
     }
 }
 
-/// Whether the bytes of a command's data, with this one at this place, are refused for their length.
+/// Whether a command's data, with the byte at `place` replaced, are refused for their length.
 fn is_refused(byte: u8, fields: &[u8], place: usize, other: u8) -> bool {
     let mut changed = Reply::new();
     let _ = changed.try_extend_from_slice(fields);
@@ -149,7 +149,7 @@ fn is_refused(byte: u8, fields: &[u8], place: usize, other: u8) -> bool {
     matches!(read(byte, &changed), Err(ERROR_INVALID_LENGTH))
 }
 
-/// Whether data are refused that end before their last byte, or have one more.
+/// Whether data are refused that are shorter, or one byte longer.
 fn has_one_length(byte: u8, fields: &[u8]) -> bool {
     for size in 0..fields.len() {
         if !is_refused(byte, fields.get(..size).unwrap_or(&[]), size, 0) {
@@ -162,7 +162,7 @@ fn has_one_length(byte: u8, fields: &[u8]) -> bool {
     is_refused(byte, &longer, fields.len(), 0)
 }
 
-/// Whether data are refused whose text has another length than this one, which stands at this place.
+/// Whether data are refused whose text has another length than `length`, which is at `place`.
 fn fits_its_text(byte: u8, fields: &[u8], place: usize, length: u8) -> bool {
     for other in 0..=255 {
         if other != length && !is_refused(byte, fields, place, other) {
@@ -172,7 +172,7 @@ fn fits_its_text(byte: u8, fields: &[u8], place: usize, length: u8) -> bool {
     true
 }
 
-/// Commands with a text: where its length stands, and what it is.
+/// Commands with a text: the position of its length, and the length.
 static TEXTED: [(u8, &[u8], usize, u8); 3] = [
     (0x10, &REQUEST, 10, 1),
     (0x13, &ENTRY, 11, 2),
@@ -194,11 +194,11 @@ fn a_text_outlives_what_is_read(rt: HostRuntime) {
     assert!(rt; text_alone(&REQUEST) == b"A".as_slice());
 }
 
-/// How many bytes a set text has, and whether RequestUpdate is writable with it: request data have at most 252 bytes, so that
-/// they go over a network of either unit.
+/// The size of a set text, and whether RequestUpdate with it can be encoded: request data have at
+/// most 252 bytes, so they can be sent at either transmission unit.
 static TEXTS: [(usize, bool); 4] = [(0, true), (241, true), (242, false), (255, false)];
 
-/// Whether RequestUpdate is writable with a set text of so many bytes.
+/// Whether RequestUpdate with a set text of `size` bytes can be encoded.
 fn is_writable(size: usize) -> bool {
     let text = [0x41; 255];
     let command = Command::RequestUpdate(UpdateRequest {

@@ -1,4 +1,5 @@
-//! Tests of commands, answers and packages. `tests/program` has the built program inspect what is no package.
+//! Tests of commands, answers and packages. `tests/program` has the built program inspect files
+//! that aren't packages.
 #![tactic(auto)]
 
 #[cfg(test)]

@@ -1,4 +1,4 @@
-//! Packages put together by hand, read, refused and planned.
+//! Packages put together by hand, decoded, refused and planned.
 
 mod drafts;
 mod outlining;

@@ -12,23 +12,23 @@ use mctp_wire::Unit;
 use std::alloc::{AllocError, Global};
 use ua_core::{Cause, SessionState};
 
-/// What a failing call leads to.
+/// The result of a failing call.
 pub struct Failure {
-    /// Which of the calls begin, put, put, seal and switch fails, counted from 1.
+    /// The call that fails, counted from 1 among begin, put, put, seal and switch.
     call: u64,
-    /// The turns after which the session has failed, and why.
+    /// The number of turns after which the session has failed, and the cause.
     turns: u32,
     cause: Cause,
-    /// The device's state then, and how many packets were sent.
+    /// The device's state then, and the number of packets sent.
     state: State,
     sent: usize,
-    /// How many records the event log has.
+    /// The number of records of the event log.
     records: usize,
     /// Whether the device applied its image and the agent recorded that.
     recorded: bool,
 }
 
-/// A row for each call.
+/// A case for each call.
 static FAILURES: [Failure; 5] = [
     Failure {
         call: 1,
@@ -86,7 +86,7 @@ fn update(alloc: Global, world: &mut Small<'_>, links: &mut [MemLink]) -> Option
     driven(world, links, 100, &mut steps).ok()
 }
 
-/// Whether an update that went like this stands as the row says.
+/// Whether the world is as the case expects after an update with this result.
 fn fails_so(world: &Small<'_>, driven: Option<Driven>, failure: &Failure) -> bool {
     let turns = failure.turns;
     let story = if failure.recorded {
@@ -122,7 +122,8 @@ fn rests(world: &mut Small<'_>) -> bool {
     }
 }
 
-/// Whether the session of an update that was driven so is done, and the device runs its image.
+/// Whether the session of an update with this result is done, and the device's active image is the
+/// new one.
 fn is_done(world: &Small<'_>, driven: Option<Driven>) -> bool {
     let done = match world.agent().session(DEVICE) {
         Some(session) => session.state() == SessionState::Done,
@@ -131,7 +132,8 @@ fn is_done(world: &Small<'_>, driven: Option<Driven>) -> bool {
     driven.is_some() && done && is_updated(world, DEVICE)
 }
 
-/// Whether a world in which that call fails goes as the row says, then rests, and is then updated.
+/// Returns whether a world in which that call fails is as the case expects, then becomes idle, and
+/// is then updated.
 pub fn fails_and_goes_on<'a>(
     alloc: Global,
     packages: &'a [Package<'a>],

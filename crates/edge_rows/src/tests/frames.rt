@@ -1,4 +1,4 @@
-//! Frames, read and written.
+//! Frames, decoded and encoded.
 
 use crate::tests::links::{BadLink, Trouble};
 use fw_edge::{FrameFault, Link, MemLink, Rough, StreamLink, read_frame, write_frame};
@@ -15,7 +15,7 @@ static FRAME: [u8; 9] = [0x07, 0x00, 0x01, 0x09, 0x08, 0xC8, 0x00, 0x80, 0x02];
 /// Its packet.
 const PACKET: &[u8] = &[0x01, 0x09, 0x08, 0xC8, 0x00, 0x80, 0x02];
 
-/// What is read of these bytes at a transmission unit.
+/// The result of reading these bytes at a transmission unit.
 fn read(unit: Unit, bytes: &[u8]) -> Result<RawPacket, FrameFault> {
     let mut reader = bytes;
     read_frame(unit, &mut reader)
@@ -34,7 +34,7 @@ fn a_frame_is_its_length_and_its_packet(rt: HostRuntime) -> Result<(), Fail> {
     Ok(())
 }
 
-/// A situation: the bytes, and their fault at a unit of 64 and of 128.
+/// A case: the bytes, and their fault at a unit of 64 and of 128.
 static FAULTS: [(&str, &[u8], FrameFault, FrameFault); 10] = [
     ("nothing", &[], FrameFault::End, FrameFault::End),
     ("half a length", &[0x07], FrameFault::Cut, FrameFault::Cut),
@@ -93,7 +93,8 @@ fn a_packet_of_69_bytes_is_no_frame_at_64(rt: HostRuntime) {
     assert!(rt; refused == Err(FrameFault::Size) && written.is_empty());
 }
 
-/// A reader that gives a frame byte by byte, and is interrupted before each; after so many bytes it fails.
+/// A reader that returns a frame byte by byte, and is interrupted before each byte; after a number
+/// of bytes it fails.
 #[derive(Drop)]
 struct Slow {
     given: usize,
@@ -120,7 +121,7 @@ impl Read for Slow {
     }
 }
 
-/// A reader that fails after so many bytes, in this way.
+/// A reader that fails after `most` bytes, with this error.
 fn failing_after(most: usize, kind: io::ErrorKind) -> Slow {
     Slow {
         given: 0,
@@ -148,7 +149,7 @@ fn a_frame_comes_byte_by_byte_or_the_reader_fails(rt: HostRuntime) -> Result<(),
     Ok(())
 }
 
-/// An end of a stream that holds back what is written, and can't let it go.
+/// An end of a stream that buffers writes, and fails to flush them.
 #[derive(Drop)]
 struct Stuck;
 
@@ -181,7 +182,7 @@ fn a_stream_that_cannot_let_go_fails_before_the_other_end_is_read(
     Ok(())
 }
 
-/// Bytes that are written and read one at a time, with an interruption before each.
+/// A stream of single-byte reads and writes, with an interruption before each.
 #[derive(Drop)]
 struct Narrow {
     bytes: Vec<u8>,
@@ -224,7 +225,7 @@ impl Write for Narrow {
     }
 }
 
-/// A stream to which nothing is written yet.
+/// A stream without bytes.
 fn narrow_stream(alloc: Global) -> Narrow {
     Narrow {
         bytes: Vec::new(alloc),
@@ -233,7 +234,7 @@ fn narrow_stream(alloc: Global) -> Narrow {
     }
 }
 
-/// A packet of so many bytes, byte i being i.
+/// A packet of `size` bytes, byte i being i.
 fn rising(size: u8) -> RawPacket {
     let mut packet = RawPacket::new();
     for byte in 0..size {
@@ -278,8 +279,8 @@ fn a_link_in_memory_gives_each_of_many_packets_once(rt: HostRuntime) -> Result<(
     Ok(())
 }
 
-/// Whether a link leaves the place that is lent for a packet as it is where none comes, and puts the worked packet into it, in place
-/// of what it holds, where that comes.
+/// Whether a link leaves the buffer for a packet unchanged if none arrives, and replaces its
+/// content by the worked packet if that arrives.
 fn fills_a_place<L: Link>(link: &mut L) -> Result<bool, FrameFault> {
     let mut place = rising(9);
     let before = link.receive_into(Side::Device, &mut place)?;

@@ -1,4 +1,4 @@
-//! Packets that are heard while they live.
+//! Packets that are found while they are alive.
 
 use crate::tests::setup::{DEVICE, Small, start, step, world};
 use crate::tests::trials::{Trial, holds};
@@ -8,17 +8,19 @@ use fw_world::{Missed, Step};
 use mctp_wire::{RawPacket, Unit};
 use std::alloc::{AllocError, Global};
 
-/// QueryDeviceIdentifiers from 8 to 9: the first packet of an update, sent at 1, and without an answer again at 7 and 13.
+/// QueryDeviceIdentifiers from 8 to 9: the first packet of an update, sent at tick 1, and, without
+/// an answer, again at 7 and 13.
 static QUERY: [u8; 8] = [0x01, 0x09, 0x08, 0xC8, 0x01, 0x80, 0x05, 0x01];
 
-/// Lets so many ticks pass.
+/// Passes `ticks` ticks.
 fn wait(world: &mut Small<'_>, ticks: u32) {
     for _ in 0..ticks {
         let _ = step(world, &Step::Tick(Missed::new()));
     }
 }
 
-/// A situation: how many ticks pass, the number of the packet that is then heard, and how many are dead.
+/// A case: the number of ticks that pass, the number of the packet that is then found, and the
+/// number of dead packets.
 static AGES: [(&str, u32, Option<usize>, usize); 7] = [
     ("sent", 1, Some(1), 0),
     ("5 ticks old", 5, Some(1), 0),
@@ -29,7 +31,7 @@ static AGES: [(&str, u32, Option<usize>, usize); 7] = [
     ("the third is 9 ticks old", 1, None, 3),
 ];
 
-/// Whether each packet is heard at each age, and between no other ends.
+/// Whether each packet is found at each age, and only between its ends.
 fn is_heard(world: &mut Small<'_>) -> bool {
     let mut query = RawPacket::new();
     let _ = query.try_extend_from_slice(&QUERY);
@@ -45,7 +47,7 @@ fn is_heard(world: &mut Small<'_>) -> bool {
     true
 }
 
-/// Whether that is so in the worked world.
+/// Returns whether this holds for the worked world.
 pub fn are_heard<'a>(alloc: Global, packages: &'a [Package<'a>]) -> Result<bool, AllocError> {
     let mut world = world(alloc, Unit::U64, packages, 1, 0)?;
     Ok(start(&mut world, DEVICE) && is_heard(&mut world))

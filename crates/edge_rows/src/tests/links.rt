@@ -7,39 +7,39 @@ use fw_world::Side;
 use mctp_wire::RawPacket;
 use std::alloc::Global;
 
-/// What a link does that isn't right.
+/// A fault of a link.
 #[derive(Clone, Copy, PartialEq, Eq)]
 pub enum Trouble {
-    /// Loses the packet of this number, counted from 1.
+    /// Loses this packet, counted from 1.
     Loses(u64),
-    /// Holds back the packet of the first number, and passes it on behind that of the second.
+    /// Holds back the packet of the first number, and passes it on after that of the second.
     Delays(u64, u64),
     /// Loses every packet.
     LosesAll,
-    /// Gives each packet back at the end at which it was sent.
+    /// Returns each packet at the end at which it was sent.
     Echoes,
-    /// Puts a forged packet before its first.
+    /// Inserts a forged packet before the first.
     ForgesFirst,
-    /// Gives a forged packet whenever it is asked, and passes nothing on.
+    /// Returns a forged packet whenever it is asked, and passes nothing on.
     ForgesAlways,
-    /// Fails in its call of this number, counted from 1, and in no other.
+    /// Fails in this call, counted from 1, and in no other.
     Fails(u64),
 }
 
-/// A link in memory with a trouble.
+/// A link in memory with a fault.
 #[derive(Drop)]
 pub struct BadLink {
     link: MemLink,
     trouble: Trouble,
-    /// The calls, and the packets, so far.
+    /// The numbers of calls and of packets so far.
     calls: u64,
     packets: u64,
-    /// The packet that is still to come, with the end at which it was sent.
+    /// The packet that is held back, with the end at which it was sent.
     kept: Option<(Side, RawPacket)>,
     tally: Tally,
 }
 
-/// RequestUpdate's command code made 0xFF, from 8 to 9: no packet of a run.
+/// A RequestUpdate from 8 to 9 with the command code 0xFF, which is not a packet of a run.
 fn forged() -> RawPacket {
     let mut packet = RawPacket::new();
     let _ = packet.try_extend_from_slice(&[0x01, 0x09, 0x08, 0xC8, 0x01, 0x80, 0x05, 0xFF]);
@@ -62,7 +62,7 @@ fn other_end(side: Side) -> Side {
 }
 
 impl BadLink {
-    /// A link on which nothing was sent.
+    /// Creates a link without packets.
     pub fn new(alloc: Global, trouble: Trouble) -> BadLink {
         BadLink {
             link: MemLink::new(alloc),
@@ -74,7 +74,7 @@ impl BadLink {
         }
     }
 
-    /// Whether the call that is made now fails.
+    /// Whether the current call fails.
     fn fails(&mut self) -> bool
         ensures { self.new.tally ≡ self.old.tally }
     {
@@ -107,7 +107,7 @@ impl BadLink {
         self.pass_kept();
     }
 
-    /// Passes the packet that was kept on, if it comes behind the one that was passed on last.
+    /// Passes the held-back packet on, if it is due after the last one passed on.
     fn pass_kept(&mut self)
         ensures { self.new.tally ≡ self.old.tally }
     {

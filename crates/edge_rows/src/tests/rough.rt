@@ -1,4 +1,4 @@
-//! Links that are bad on purpose.
+//! Links with random faults.
 
 use crate::tests::runs::{is_silent, started};
 use crate::tests::setup::{DEVICE, driven_over, is_updated, runs_first};
@@ -11,7 +11,8 @@ use mctp_wire::RawPacket;
 use std::alloc::{AllocError, Global};
 use std::test::Fail;
 
-/// So many of a hundred packets lost, and twice, and so many turns late at most, by the chances of a seed.
+/// The roughness with these percentages of lost and duplicated packets, this largest delay in
+/// turns, and this seed.
 fn roughness(loss: u8, duplicate: u8, delay: u8, seed: u64) -> Roughness {
     Roughness {
         loss,
@@ -21,12 +22,13 @@ fn roughness(loss: u8, duplicate: u8, delay: u8, seed: u64) -> Roughness {
     }
 }
 
-/// A link in memory that is so rough.
+/// A rough link in memory.
 fn rough(alloc: Global, roughness: Roughness) -> Rough<MemLink> {
     Rough::new(alloc, MemLink::new(alloc), roughness, 9)
 }
 
-/// Sends the packets 1 to this one, of a byte each, at the agent's end. Whether all were taken.
+/// Sends the packets 1 to `last`, of a byte each, at the agent's end. Returns whether all were
+/// taken.
 fn sends(link: &mut Rough<MemLink>, last: u8) -> bool {
     for before in 0..last {
         let mut packet = RawPacket::new();
@@ -38,7 +40,8 @@ fn sends(link: &mut Rough<MemLink>, last: u8) -> bool {
     link.sent() == u64::from(last)
 }
 
-/// Asks both ends in a turn, the device's first, until neither gives a packet, and lists what comes at the device's.
+/// Asks both ends in a turn, the device's first, until neither gives a packet, and lists the
+/// packets of the device's end.
 fn turn(link: &mut Rough<MemLink>, came: &mut Vec<u8>) -> Result<(), AllocError> {
     for _ in 0..1000 {
         let packet = link.receive(Side::Device);
@@ -54,7 +57,7 @@ fn turn(link: &mut Rough<MemLink>, came: &mut Vec<u8>) -> Result<(), AllocError>
     Ok(())
 }
 
-/// What comes of the packets 1 to this one in so many turns over such a link.
+/// The packets that arrive of 1 to `last`, in `turns` turns over such a link.
 fn comes(alloc: Global, asked: Roughness, last: u8, turns: usize) -> Result<Vec<u8>, AllocError> {
     let mut link = rough(alloc, asked);
     let mut came = Vec::new(alloc);
@@ -67,7 +70,7 @@ fn comes(alloc: Global, asked: Roughness, last: u8, turns: usize) -> Result<Vec<
     Ok(came)
 }
 
-/// A situation: how many of a hundred packets are lost, how many come twice, and what comes of three.
+/// A case: the percentages of lost and duplicated packets, and the packets that arrive of three.
 static CERTAIN: [(&str, u8, u8, &[u8]); 4] = [
     ("none is lost, none comes twice", 0, 0, &[1, 2, 3]),
     ("each is lost", 100, 0, &[]),
@@ -75,7 +78,7 @@ static CERTAIN: [(&str, u8, u8, &[u8]); 4] = [
     ("each is lost, and none comes twice", 100, 100, &[]),
 ];
 
-/// Whether this comes of three packets by the chances of three seeds.
+/// Whether these arrive of three packets, with each of three seeds.
 fn comes_so(alloc: Global, loss: u8, duplicate: u8, want: &[u8]) -> bool {
     for seed in 0..3 {
         match comes(alloc, roughness(loss, duplicate, 0, seed), 3, 1) {
@@ -106,7 +109,7 @@ fn are_forty(came: &[u8]) -> bool {
     came.len() == 40
 }
 
-/// Whether each of forty packets comes once by a seed's chances, and late by eight turns at most.
+/// Whether each of forty packets arrives once with a seed, and at most eight turns late.
 fn each_comes_once(alloc: Global, seed: u64) -> bool {
     match comes(alloc, roughness(0, 0, 8, seed), 40, 9) {
         Ok(mut came) => came.sort().is_ok() && are_forty(&came),
@@ -121,7 +124,7 @@ fn each_packet_comes_once_and_late_by_no_more_turns(rt: HostRuntime) {
     }
 }
 
-/// Whether a seed gives the same twice, and another seed something else.
+/// Whether a seed gives the same result twice, and another seed a different one.
 fn is_repeated(alloc: Global) -> Result<bool, AllocError> {
     let first = comes(alloc, roughness(30, 30, 5, 1), 100, 6)?;
     let again = comes(alloc, roughness(30, 30, 5, 1), 100, 6)?;
@@ -135,7 +138,8 @@ fn a_seed_gives_the_same_again(rt: HostRuntime) -> Result<(), Fail> {
     Ok(())
 }
 
-/// Whether the worked update ends over such a link, and the device runs the worked image or the one with which it came.
+/// Returns whether the worked update ends over such a link, and the device's active image is the
+/// worked one or the first one.
 pub fn ends<'a>(
     alloc: Global,
     packages: &'a [Package<'a>],
@@ -157,7 +161,7 @@ fn an_update_over_rough_links_ends_with_one_image_or_the_other(rt: HostRuntime) 
     }
 }
 
-/// Whether the worked update over a link that loses all is silent.
+/// Returns whether the device is silent in the worked update over a link that loses all packets.
 pub fn loses_all<'a>(alloc: Global, packages: &'a [Package<'a>]) -> Result<bool, AllocError> {
     let mut links = [rough(alloc, roughness(100, 0, 0, 1))];
     is_silent(alloc, packages, &mut links)
@@ -171,7 +175,7 @@ fn an_update_over_a_link_that_loses_all_is_silent(rt: HostRuntime) {
 #[test]
 fn refused_memory_is_asked_for_before_packets_are_late(rt: HostRuntime) -> Result<(), Fail> {
     let alloc = rt.alloc();
-    // what isn't held back is lost below, where it needs no memory
+    // a packet that isn't delayed is passed on and lost below, which needs no memory
     let below = Rough::new(alloc, MemLink::new(alloc), roughness(100, 0, 0, 1), 9);
     let Ok(mut link) = Rough::with_room(alloc, below, roughness(0, 100, 8, 1), 9) else {
         return Ok(());

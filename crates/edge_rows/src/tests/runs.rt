@@ -16,7 +16,7 @@ use std::alloc::{AllocError, Global};
 use std::test::Fail;
 use ua_core::{Cause, SessionState};
 
-/// The worked world with its update started, asked for twice where memory is refused.
+/// Creates the worked world with its update started, at the second try if memory is refused.
 pub fn started<'a>(alloc: Global, packages: &'a [Package<'a>]) -> Result<Small<'a>, AllocError> {
     let mut world = world(alloc, Unit::U64, packages, 1, 0)?;
     if !start(&mut world, DEVICE) {
@@ -25,12 +25,13 @@ pub fn started<'a>(alloc: Global, packages: &'a [Package<'a>]) -> Result<Small<'
     Ok(world)
 }
 
-/// A link's trouble, and after how many turns, with how many foreign frames and packets, the worked world is then updated.
+/// A link's fault, and the number of turns, of foreign frames and of packets after which the worked
+/// world is updated.
 pub type Row = (&'static str, Trouble, u32, u64, usize);
 
-/// Where the answer to UpdateComponent, packet 12, is lost, the device asks for data at 7 to 12, in vain, since the agent waits
-/// for that answer, which comes again at 12. Its data requests are then at 13 and 14, its completions wait for the tags of those
-/// at 7, 8 and 9: until 47 to 49.
+/// If the answer to UpdateComponent, packet 12, is lost, the device requests data at 7 to 12, in
+/// vain, since the agent waits for that answer, which is sent again at 12. Its data requests are
+/// then at 13 and 14, and its completions wait for the tags of those at 7, 8 and 9, until 47 to 49.
 static ROWS: [Row; 4] = [
     ("nothing is lost", Trouble::Loses(0), 12, 0, 27),
     ("the first answer is lost", Trouble::Loses(2), 18, 0, 29),
@@ -64,7 +65,8 @@ const UPDATED: &str = "active 9 10 1 241 000102030405060708090A0B0C0D0E0F..\n\
     recorded 9 1 1\n\
     activated 9 10 1 241\n";
 
-/// Whether the worked world's report is that of an update done at `now`, after `sent` packets, and the device runs the image.
+/// Whether the worked world's report is that of an update done at `now`, after `sent` packets, and
+/// the device's active image is the new one.
 fn is_updated_at(alloc: Global, world: &Small<'_>, now: u32, sent: usize) -> bool {
     let Ok(text) = updated_text(alloc, now, sent) else {
         return false;
@@ -72,7 +74,7 @@ fn is_updated_at(alloc: Global, world: &Small<'_>, now: u32, sent: usize) -> boo
     is_reported(alloc, world, text.as_bytes()) && is_updated(world, DEVICE)
 }
 
-/// Whether the worked world, driven over such a link, ends updated as the row says.
+/// Returns whether the worked world, driven over such a link, is updated as the case expects.
 pub fn updates<'a>(
     alloc: Global,
     packages: &'a [Package<'a>],
@@ -92,14 +94,15 @@ fn an_update_takes_so_many_turns_over_each_link(rt: HostRuntime) {
     }
 }
 
-/// The report where in three ticks the agent's first request was sent and nothing came.
+/// The report after three ticks in which the agent's first request was sent and nothing arrived.
 const THIRD_TICK: &[u8] = b"now 3\n\
     agent 8 up\n\
     device 9 up IDLE session Query sent 1\n\
     active 9 10 1 1 AA\n\
     log 1 last -\n";
 
-/// Whether a link that gives forged frames whenever it is asked lets three ticks pass and nothing else.
+/// Returns whether a link that returns forged frames whenever it is asked lets three ticks pass and
+/// nothing else.
 pub fn passes_ticks<'a>(alloc: Global, packages: &'a [Package<'a>]) -> Result<bool, AllocError> {
     let mut world = started(alloc, packages)?;
     let mut steps = Vec::new(alloc);
@@ -123,7 +126,7 @@ fn a_link_that_gives_forged_frames_without_end_stops_no_turn(rt: HostRuntime) {
     assert!(rt; holds(rt.alloc(), Trial::PassesTicks));
 }
 
-/// Whether another world takes the steps, and both worlds then show the same.
+/// Whether another world takes the steps, and both worlds are then equal.
 fn becomes(
     alloc: Global,
     other: &mut Small<'_>,
@@ -147,7 +150,8 @@ fn is_replay<'a>(
     becomes(alloc, &mut other, steps, world)
 }
 
-/// Drives the worked world over a link that fails in its `k`-th call: whether it didn't; None where the outcome isn't right.
+/// Drives the worked world over a link that fails in its `k`-th call. Returns whether it didn't
+/// fail; None if the result is wrong.
 fn fails_at<'a>(
     alloc: Global,
     packages: &'a [Package<'a>],
@@ -166,7 +170,7 @@ fn fails_at<'a>(
     })
 }
 
-/// Whether each call fails so, up to one whose failure the run doesn't meet.
+/// Returns whether each call fails as expected, up to one that the run doesn't make.
 pub fn fails_at_each<'a>(alloc: Global, packages: &'a [Package<'a>]) -> Result<bool, AllocError> {
     for k in 1..1_000 {
         match fails_at(alloc, packages, k)? {
@@ -183,8 +187,9 @@ fn a_link_that_fails_ends_the_run_at_a_replay_of_its_steps(rt: HostRuntime) {
     assert!(rt; holds(rt.alloc(), Trial::FailsAtEach));
 }
 
-/// Whether the worked world is driven over a link in memory until its update is done, or has failed since its device's bank had no
-/// memory; a run that ends early hands back the steps that it took. They are replayed twice where memory is refused to the first replay.
+/// Whether the worked world is driven over a link in memory until its update is done, or has failed
+/// since its device's bank had no memory. A run that ends early returns the steps that it took.
+/// They are replayed twice if memory is refused to the first replay.
 fn drives<'a>(alloc: Global, packages: &'a [Package<'a>]) -> Result<bool, AllocError> {
     let mut world = started(alloc, packages)?;
     let mut steps = Vec::new(alloc);
@@ -202,7 +207,7 @@ fn drives<'a>(alloc: Global, packages: &'a [Package<'a>]) -> Result<bool, AllocE
     Ok(ends && (same || is_replay(alloc, packages, &world, &steps)?))
 }
 
-/// Holds whichever single allocation is refused.
+/// Whichever single allocation is refused, the test holds.
 #[test]
 fn refused_memory_hands_back_the_steps_taken(rt: HostRuntime) -> Result<(), Fail> {
     let bytes = match file(rt.alloc()) {
@@ -218,7 +223,8 @@ fn refused_memory_hands_back_the_steps_taken(rt: HostRuntime) -> Result<(), Fail
     Ok(())
 }
 
-/// Whether the worked world, driven over such a link, fails in turn 19, since the device answers nothing, and runs its first image.
+/// Returns whether the worked world, driven over such a link, fails in turn 19, since the device
+/// answers nothing, and its active image is the first one.
 pub fn is_silent<'a, L: Link>(
     alloc: Global,
     packages: &'a [Package<'a>],
@@ -235,21 +241,21 @@ pub fn is_silent<'a, L: Link>(
     )
 }
 
-/// Whether a link that gives each packet back at its sender's end is as silent.
+/// Returns whether a link that returns each packet at its sender's end has the same result.
 pub fn echoes<'a>(alloc: Global, packages: &'a [Package<'a>]) -> Result<bool, AllocError> {
     let mut links = [BadLink::new(alloc, Trouble::Echoes)];
     is_silent(alloc, packages, &mut links)
 }
 
-/// A link that gives each packet back at its sender's end fails as one that loses all: what comes back is a packet of the pair, and
-/// its sender isn't whom it is for.
+/// A link that returns each packet at its sender's end gives the same result as one that loses all:
+/// a returned packet is one of the pair, but its sender isn't its destination.
 #[test]
 fn a_packet_at_its_senders_end_is_for_nobody(rt: HostRuntime) {
     assert!(rt; holds(rt.alloc(), Trial::Echoes));
 }
 
-/// The world of devices 9 to 11 with their updates started, driven over links of which the second has this trouble, and the turns
-/// that it took.
+/// The world of devices 9 to 11 with their updates started, driven over links of which the second
+/// has this fault, and the number of turns.
 fn three<'a>(
     alloc: Global,
     packages: &'a [Package<'a>],
@@ -260,7 +266,8 @@ fn three<'a>(
     Ok((world, turns))
 }
 
-/// The turns that it takes to drive the world of devices 9 to 11 over such links, from where their updates are started.
+/// The number of turns of a run of devices 9 to 11 over such links, after their updates are
+/// started.
 fn turns_of_three(alloc: Global, world: &mut Small<'_>, trouble: Trouble) -> Option<u32> {
     if !start(world, 9) || !start(world, 10) || !start(world, 11) {
         return None;
@@ -276,7 +283,8 @@ fn turns_of_three(alloc: Global, world: &mut Small<'_>, trouble: Trouble) -> Opt
     }
 }
 
-/// Whether a device runs the image, after an update over perfect links that left it in this state.
+/// Whether a device's active image is the new one, after an update over perfect links that left it
+/// in this state.
 fn is_done(world: &Small<'_>, device: u8, state: State) -> bool {
     stands(world, device, SessionState::Done, state, 27) && is_updated(world, device)
 }
@@ -288,7 +296,8 @@ fn all_done(world: &Small<'_>) -> bool {
         && is_done(world, 11, State::Activate)
 }
 
-/// Whether 10 is given up as it was, and 9 and 11 are done by the same packets as in a world where all is well.
+/// Whether 10 is given up unchanged, and 9 and 11 are done with the same packets as in a world
+/// without faults.
 fn one_is_silent(world: &Small<'_>, well: &Small<'_>) -> bool {
     let silent = SessionState::Failed(Cause::Silent);
     is_done(world, 9, State::Idle)
@@ -299,8 +308,8 @@ fn one_is_silent(world: &Small<'_>, well: &Small<'_>) -> bool {
         && runs_first(world, 10)
 }
 
-/// Whether devices 9 to 11 are all done in turn 12 over perfect links; and where the link of 10 loses every packet, it alone fails, in
-/// turn 19.
+/// Returns whether devices 9 to 11 are all done in turn 12 over perfect links; and, if the link of
+/// 10 loses every packet, only 10 fails, in turn 19.
 pub fn one_fails_alone<'a>(alloc: Global, packages: &'a [Package<'a>]) -> Result<bool, AllocError> {
     let (well, turns) = three(alloc, packages, Trouble::Loses(0))?;
     let done = turns == Some(12) && all_done(&well);

@@ -1,4 +1,4 @@
-//! The worked devices with their agent, as worlds, and what is seen of them.
+//! The worlds of the worked devices with their agent, and observations of them.
 
 ghost use Rattle.std.specs.Prelude.{◌≡◌, IfOk};
 ghost use Rattle.std.specs.List.{AllByRecursion};
@@ -22,7 +22,7 @@ use std::alloc::{AllocError, Global};
 use ua_core::SessionState;
 use uuid::Uuid;
 
-/// The worked device.
+/// The worked device's endpoint identifier.
 pub const DEVICE: u8 = 9;
 
 /// The devices' component.
@@ -54,7 +54,7 @@ fn descriptors() -> DescriptorList {
     descriptors
 }
 
-/// Stamp 1, `1.0`.
+/// The label with stamp 1 and text `1.0`.
 fn label() -> Label {
     Label::new(&Version {
         stamp: 1,
@@ -65,8 +65,8 @@ fn label() -> Label {
     })
 }
 
-/// The worked device: component (10, 1), stamp 1, `1.0`, image AA, over a bank of which the `call`-th call that can fail does so;
-/// at 0 none does.
+/// The worked device: component (10, 1), stamp 1, `1.0`, image AA, over a bank whose `call`-th call
+/// that can fail does; at 0 none does.
 fn device(alloc: Global, unit: Unit, call: u64) -> Result<Device<FailBank>, AllocError>
     ensures unit { IfOk result (λ d. d.device.unit ≡ unit) }
     ensures components { IfOk result (λ d. HasComponents d.device) }
@@ -114,8 +114,8 @@ fn nodes(
     Ok(nodes)
 }
 
-/// The world of the agent 8 and one device or three on a network of this transmission unit; a call of each one's bank fails, or at
-/// 0 none.
+/// Creates the world of the agent 8 and one device or three on a network with this transmission
+/// unit; one call of each bank fails, or at 0 none.
 pub fn world<'a>(
     alloc: Global,
     unit: Unit,
@@ -131,17 +131,18 @@ pub fn world<'a>(
     )
 }
 
-/// `World::step`: the proofs of the tests need nothing of its contract.
+/// `World::step`; its contract isn't needed in the proofs of the tests.
 pub fn step(world: &mut Small<'_>, step: &Step) -> Result<(), StepFault> {
     world.step(step)
 }
 
-/// Starts the update of a device. Whether that was taken.
+/// Starts the update of a device, and returns whether that was taken.
 pub fn start(world: &mut Small<'_>, device: u8) -> bool {
     step(world, &Step::Start(device, 1)).is_ok()
 }
 
-/// `drive`, over as many links as there are devices: the proofs of the tests need nothing of its contract.
+/// `drive`, over as many links as there are devices; its contract isn't needed in the proofs of the
+/// tests.
 pub fn driven<L: Link>(
     world: &mut Small<'_>,
     links: &mut [L],
@@ -154,7 +155,7 @@ pub fn driven<L: Link>(
     drive(world, links, turns, steps)
 }
 
-/// Drives a world over its links, and lets the steps go.
+/// Drives a world over its links, and drops the steps.
 pub fn driven_over<L: Link>(
     alloc: Global,
     world: &mut Small<'_>,
@@ -165,7 +166,8 @@ pub fn driven_over<L: Link>(
     driven(world, links, turns, &mut steps).ok()
 }
 
-/// Whether a device and its session stand so, and so many packets were sent between it and the agent.
+/// Returns whether a device and its session are in these states, and this number of packets was
+/// sent between it and the agent.
 pub fn stands(
     world: &Small<'_>,
     device: u8,
@@ -185,7 +187,7 @@ pub fn stands(
     }
 }
 
-/// The image that a device runs.
+/// The active image of a device.
 fn image_of<'w>(world: &'w Small<'_>, device: u8) -> &'w [u8] {
     let Some(node) = world.device(device) else {
         return &[];
@@ -196,17 +198,17 @@ fn image_of<'w>(world: &'w Small<'_>, device: u8) -> &'w [u8] {
     }
 }
 
-/// Whether a device runs the image AA, with which it came.
+/// Returns whether a device's active image is AA, the first one.
 pub fn runs_first(world: &Small<'_>, device: u8) -> bool {
     image_of(world, device) == [0xAA].as_slice()
 }
 
-/// Whether a device runs the worked image.
+/// Returns whether a device's active image is the worked one.
 pub fn is_updated(world: &Small<'_>, device: u8) -> bool {
     is_image(image_of(world, device))
 }
 
-/// Whether this happened, a letter each: A image applied, R recorded, V activated.
+/// Returns whether the history is these letters: A image applied, R recorded, V activated.
 pub fn tells(world: &Small<'_>, story: &[u8]) -> bool {
     let history = world.history();
     for (entry, letter) in history.iter().zip(story) {
@@ -217,7 +219,7 @@ pub fn tells(world: &Small<'_>, story: &[u8]) -> bool {
     history.len() == story.len()
 }
 
-/// The letter of what happened.
+/// The letter of an event.
 fn letter_of(event: &HistoryEvent<'_>) -> u8 {
     match event {
         HistoryEvent::Applied(_) => b'A',

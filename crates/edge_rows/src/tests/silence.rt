@@ -1,4 +1,5 @@
-//! Three devices, one of them behind a link that loses all, beside a run of the first device alone.
+//! Three devices, one of them over a link that loses all packets, beside a run of the first device
+//! alone.
 
 use crate::tests::alike::{is_reported, sent_alike};
 use crate::tests::links::{BadLink, Trouble};
@@ -37,14 +38,15 @@ const ALONE: &[u8] = b"now 19\n\
     recorded 9 1 1\n\
     activated 9 10 1 241\n";
 
-/// Takes a step and lists it. Whether it was taken.
+/// Takes a step and lists it. Returns whether it was taken.
 fn is_listed(world: &mut Small<'_>, steps: &mut Vec<Step>, next: Step) -> Result<bool, AllocError> {
     let taken = step(world, &next).is_ok();
     steps.push(next)?;
     Ok(taken)
 }
 
-/// Starts the updates of the devices, drives the world over its links, and lists the steps. Whether `drive` took `turns` turns.
+/// Starts the updates of the devices, drives the world over its links, and lists the steps. Returns
+/// whether `drive` took `turns` turns.
 fn is_driven<L: Link>(
     world: &mut Small<'_>,
     devices: &[u8],
@@ -60,7 +62,8 @@ fn is_driven<L: Link>(
     Ok(driven(world, links, 100, steps) == Ok(Driven { turns, foreign: 0 }))
 }
 
-/// Drives the devices 9 to 11 together until all sessions have ended, where the link of 10 loses every packet, and lists the steps.
+/// Drives the devices 9 to 11 together until all sessions have ended, with a link of 10 that loses
+/// every packet, and lists the steps.
 fn drives_among(
     alloc: Global,
     world: &mut Small<'_>,
@@ -74,7 +77,8 @@ fn drives_among(
     is_driven(world, &[9, 10, 11], &mut links, 19, steps)
 }
 
-/// Drives the device 9 alone until its session has ended, lets time pass up to the 19th tick, and lists the steps.
+/// Drives the device 9 alone until its session has ended, passes ticks up to the 19th, and lists
+/// the steps.
 fn drives_alone(
     alloc: Global,
     world: &mut Small<'_>,
@@ -88,8 +92,8 @@ fn drives_alone(
     Ok(taken)
 }
 
-/// Whether the worlds of the three devices and of the one have these reports, and the device 9 has the same packets in both, each
-/// sent in the same tick, and runs the worked image.
+/// Whether the worlds of the three devices and of the single one have these reports, and the device
+/// 9 has the same packets in both, each sent at the same tick, and the worked image active.
 fn is_as_alone(alloc: Global, among: &Small<'_>, alone: &Small<'_>) -> bool {
     is_reported(alloc, among, AMONG)
         && is_reported(alloc, alone, ALONE)
@@ -105,7 +109,7 @@ struct Lists {
     for_one: Vec<Step>,
 }
 
-/// Drives both worlds and lists their steps. Whether the device 9 is left in the first as in the second.
+/// Drives both worlds and lists their steps. Returns whether the device 9 ends the same in both.
 fn are_driven(
     alloc: Global,
     among: &mut Small<'_>,
@@ -117,13 +121,14 @@ fn are_driven(
     Ok(all_driven && one_driven && is_as_alone(alloc, among, alone))
 }
 
-/// `replay_two`, for the device 9: the proofs of the tests need nothing of its contract. Whether it takes all steps.
+/// `replay_two`, for the device 9; its contract isn't needed in the proofs of the tests. Returns
+/// whether it takes all steps.
 fn are_taken(among: &mut Small<'_>, alone: &mut Small<'_>, lists: &Lists) -> bool {
     let (first, second) = replay_two(among, &lists.for_all, alone, &lists.for_one, DEVICE);
     first.is_ok() && second.is_ok()
 }
 
-/// Drives fresh worlds, and lists their steps. Whether the device 9 is left in the first as in the second.
+/// Drives fresh worlds, and lists their steps. Returns whether the device 9 ends the same in both.
 fn drives_both<'a>(
     alloc: Global,
     packages: &'a [Package<'a>],
@@ -134,7 +139,7 @@ fn drives_both<'a>(
     are_driven(alloc, &mut among, &mut alone, lists)
 }
 
-/// Replays the steps in fresh worlds. Whether the device 9 is left in the first as in the second.
+/// Replays the steps in fresh worlds. Returns whether the device 9 ends the same in both.
 fn replays_both<'a>(
     alloc: Global,
     packages: &'a [Package<'a>],
@@ -146,7 +151,8 @@ fn replays_both<'a>(
     Ok(taken && is_as_alone(alloc, &among, &alone))
 }
 
-/// Whether the device 9 beside a silent one is left as it is alone: by `drive`, and in fresh worlds by the steps of both runs.
+/// Returns whether the device 9 beside a silent one ends as it does alone: by `drive`, and in fresh
+/// worlds by the steps of both runs.
 pub fn is_left_as_alone<'a>(
     alloc: Global,
     packages: &'a [Package<'a>],

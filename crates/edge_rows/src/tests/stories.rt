@@ -1,4 +1,4 @@
-//! A run between whose turns the operator acts, over a link that brings a packet late.
+//! A run between whose turns the operator acts, over a link that delivers a packet late.
 
 use crate::tests::links::{BadLink, Trouble};
 use crate::tests::runs::started;
@@ -11,13 +11,14 @@ use fw_world::{Missed, Step};
 use std::alloc::{AllocError, Global};
 use ua_core::SessionState;
 
-/// Drives the worked device's world over its link for so many turns. Whether it took them all.
+/// Drives the worked device's world over its link for `turns` turns. Returns whether it took them
+/// all.
 fn goes(alloc: Global, world: &mut Small<'_>, links: &mut [BadLink], turns: u32) -> bool {
     let mut steps = Vec::new(alloc);
     driven(world, links, turns, &mut steps) == Ok(Driven { turns, foreign: 0 })
 }
 
-/// When the packet of this number was sent, and, where it is an answer, to which command and with which code.
+/// The tick at which packet `number` was sent, and, if it is an answer, its command and code.
 fn answered(world: &Small<'_>, number: usize) -> Option<(u32, u8, u8)> {
     let packet = world.packets(DEVICE)?.get(number.checked_sub(1)?)?;
     match packet.bytes {
@@ -26,9 +27,9 @@ fn answered(world: &Small<'_>, number: usize) -> Option<(u32, u8, u8)> {
     }
 }
 
-/// The answers from the cancelled update's last one on, by number: when they were sent, to which command, with which code. The
-/// stale completion isn't expected; GetFirmwareParameters waits for tag 0, RequestUpdate until the device's last tag has rested, and
-/// at 47 to 51 for its own.
+/// The answers from the cancelled update's last one on, by number: the tick, the command and the
+/// code. The stale completion isn't expected. GetFirmwareParameters waits for tag 0, RequestUpdate
+/// until the device's last tag has rested, and at 47 to 51 for its own.
 static ANSWERS: [(usize, u32, u8, u8); 7] = [
     (29, 13, 0x18, 0x88),
     (31, 41, 0x02, 0),
@@ -39,7 +40,8 @@ static ANSWERS: [(usize, u32, u8, u8); 7] = [
     (43, 52, 0x10, 0),
 ];
 
-/// The operator cancels while ApplyComplete is under way, sent at 11. Whether the session has ended at 12.
+/// Cancels while ApplyComplete, sent at 11, is on the way. Returns whether the session has ended at
+/// 12.
 fn is_cancelled(alloc: Global, world: &mut Small<'_>, links: &mut [BadLink]) -> bool {
     goes(alloc, world, links, 11)
         && stands(world, DEVICE, SessionState::Apply, State::Apply, 24)
@@ -48,7 +50,8 @@ fn is_cancelled(alloc: Global, world: &mut Small<'_>, links: &mut [BadLink]) -> 
         && stands(world, DEVICE, SessionState::Idle, State::Idle, 26)
 }
 
-/// ApplyComplete, packet 24, comes at 13, behind packet 27, when the operator has started anew. Whether the answers are those.
+/// ApplyComplete, packet 24, arrives at 13, after packet 27, when the operator has started the
+/// update again. Returns whether the answers are those.
 pub fn cancels<'a>(alloc: Global, packages: &'a [Package<'a>]) -> Result<bool, AllocError> {
     let mut world = started(alloc, packages)?;
     let mut links = [BadLink::new(alloc, Trouble::Delays(24, 27))];
@@ -58,7 +61,8 @@ pub fn cancels<'a>(alloc: Global, packages: &'a [Package<'a>]) -> Result<bool, A
     Ok(again && is_answered(&world))
 }
 
-/// Whether the device has answered so, has applied an image and runs its first one.
+/// Whether the device has given these answers, has applied an image, and its active image is the
+/// first one.
 fn is_answered(world: &Small<'_>) -> bool {
     for (number, date, command, code) in &ANSWERS {
         if answered(world, *number) != Some((*date, *command, *code)) {
@@ -70,15 +74,16 @@ fn is_answered(world: &Small<'_>) -> bool {
         && runs_first(world, DEVICE)
 }
 
-/// When the packet of this number was sent, and which command is in it.
+/// The tick at which packet `number` was sent, and its command.
 fn commanded(world: &Small<'_>, number: usize) -> Option<(u32, u8)> {
     let packet = world.packets(DEVICE)?.get(number.checked_sub(1)?)?;
     Some((packet.date, *packet.bytes.get(7)?))
 }
 
-/// The agent's requests after a cancel, where ApplyComplete is never delivered: the packet's number, the tick, the command, and the
-/// completion code of the answer, which is the next packet. GetFirmwareParameters waits for tag 0. RequestUpdate is refused until
-/// the tag of ApplyComplete has rested, and from 47 on it waits for its own tag.
+/// The agent's requests after a cancel, if ApplyComplete is never delivered: the packet's number,
+/// the tick, the command, and the completion code of the answer, which is the next packet.
+/// GetFirmwareParameters waits for tag 0. RequestUpdate is refused until the tag of ApplyComplete
+/// has rested, and from 47 on it waits for its own tag.
 static REQUESTS: [(usize, u32, u8, u8); 6] = [
     (29, 41, 0x02, 0),
     (33, 43, 0x10, 4),
@@ -88,7 +93,8 @@ static REQUESTS: [(usize, u32, u8, u8); 6] = [
     (41, 52, 0x10, 0),
 ];
 
-/// Whether the requests and their answers are these, and the device has applied an image and runs its first one.
+/// Whether the requests and their answers are these, and the device has applied an image, and its
+/// active image is the first one.
 fn is_requested(world: &Small<'_>) -> bool {
     for (number, date, command, code) in &REQUESTS {
         if commanded(world, *number) != Some((*date, *command))
@@ -102,8 +108,9 @@ fn is_requested(world: &Small<'_>) -> bool {
         && runs_first(world, DEVICE)
 }
 
-/// The operator cancels after a tick in which ApplyComplete, packet 24, is sent. It is never delivered: a link carries only the
-/// packets that are sent after `drive` begins. Whether the session has ended at 12.
+/// Cancels after a tick in which ApplyComplete, packet 24, is sent. It is never delivered: a link
+/// carries only the packets that are sent after `drive` begins. Returns whether the session has
+/// ended at 12.
 fn is_cancelled_undelivered(alloc: Global, world: &mut Small<'_>, links: &mut [BadLink]) -> bool {
     goes(alloc, world, links, 10)
         && step(world, &Step::Tick(Missed::new())).is_ok()
@@ -114,7 +121,8 @@ fn is_cancelled_undelivered(alloc: Global, world: &mut Small<'_>, links: &mut [B
         && stands(world, DEVICE, SessionState::Idle, State::Idle, 26)
 }
 
-/// Whether the next update makes those requests after a cancel, where ApplyComplete is never delivered.
+/// Returns whether the next update makes those requests after a cancel, if ApplyComplete is never
+/// delivered.
 pub fn cancels_undelivered<'a>(
     alloc: Global,
     packages: &'a [Package<'a>],

@@ -1,4 +1,4 @@
-//! What is tried in worlds with the worked package.
+//! Tests of worlds with the worked package.
 
 use crate::tests::failures::{Failure, fails_and_goes_on};
 use crate::tests::hearing::are_heard;
@@ -11,7 +11,7 @@ use crate::tests::units::{self, goes_so};
 use fwupd_base::Roughness;
 use std::alloc::Global;
 
-/// What is tried, by the name of the function that tries it.
+/// A test, by the name of its function.
 #[derive(Clone, Copy)]
 pub enum Trial<'a> {
     Updates(&'a runs::Row),
@@ -29,7 +29,7 @@ pub enum Trial<'a> {
     AreHeard,
 }
 
-/// Whether a trial holds.
+/// Returns whether a test holds.
 pub fn holds(alloc: Global, trial: Trial<'_>) -> bool {
     let Ok(bytes) = file(alloc) else {
         return false;

@@ -12,8 +12,8 @@ use mctp_wire::Unit;
 use std::alloc::{AllocError, Global};
 use ua_core::SessionState;
 
-/// The worked update over a perfect link: after how many turns and packets it is done, and the offsets and lengths of the pieces
-/// that the device asks for.
+/// The worked update over a perfect link: the numbers of turns and packets after which it is done,
+/// and the offsets and lengths of the pieces that the device requests.
 #[derive(Clone, Copy)]
 pub struct Row {
     unit: Unit,
@@ -22,7 +22,8 @@ pub struct Row {
     pieces: &'static [(u32, u32)],
 }
 
-/// A piece of the image of 241 bytes has at most 16 bytes fewer than four packets carry, and at least 32.
+/// A piece of the image of 241 bytes has at most 16 bytes less than four packets carry, and at
+/// least 32.
 static ROWS: [Row; 2] = [
     Row {
         unit: Unit::U64,
@@ -58,7 +59,7 @@ fn numbers(fields: &[u8]) -> Option<(u32, u32)> {
     }
 }
 
-/// Whether these packets ask for these pieces, each once, and for no others.
+/// Whether the packets request these pieces, each once, and no others.
 fn ask_for(packets: &SentPackets<'_>, pieces: &[(u32, u32)]) -> bool {
     let mut asked: usize = 0;
     for place in 0..packets.len() {
@@ -75,7 +76,7 @@ fn ask_for(packets: &SentPackets<'_>, pieces: &[(u32, u32)]) -> bool {
     asked == pieces.len()
 }
 
-/// Whether the worked device is updated by such packets.
+/// Whether the worked device is updated with such packets.
 fn is_updated_so(world: &Small<'_>, row: &Row) -> bool {
     let asked = match world.packets(DEVICE) {
         Some(packets) => ask_for(&packets, row.pieces),
@@ -87,7 +88,7 @@ fn is_updated_so(world: &Small<'_>, row: &Row) -> bool {
         && stands(world, DEVICE, SessionState::Done, State::Activate, row.sent)
 }
 
-/// Whether the worked update goes as the row says.
+/// Returns whether the worked update is as the case expects.
 pub fn goes_so<'a>(
     alloc: Global,
     packages: &'a [Package<'a>],

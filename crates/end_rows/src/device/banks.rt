@@ -1,10 +1,10 @@
-//! The areas of a bank in memory, and what stands in them.
+//! The areas of a bank in memory, and their content.
 
 use crate::device::setup::{KEY, bank, write};
 use fd_core::{Bank, Key, MemBank};
 use std::alloc::Global;
 
-/// What is called on the worked component.
+/// A call for the worked component.
 #[derive(Clone, Copy)]
 enum Call<'a> {
     /// `begin` for these bytes, and `put`.
@@ -15,7 +15,7 @@ enum Call<'a> {
     Drop,
 }
 
-/// The calls, and after them the active and the applied image and the numbers of their areas.
+/// The calls, and the active and the applied image and the numbers of their areas after them.
 type Row<'a> = (
     &'a [Call<'a>],
     &'a [u8],
@@ -23,7 +23,7 @@ type Row<'a> = (
     (usize, Option<usize>),
 );
 
-/// The rows follow one another.
+/// The cases follow one another.
 static ROWS: [Row<'static>; 6] = [
     (
         &[Call::Apply(&[1, 2, 3])],
@@ -53,7 +53,7 @@ static ROWS: [Row<'static>; 6] = [
     ),
 ];
 
-/// Makes a call. Whether it worked.
+/// Makes a call, and returns whether it worked.
 fn make(bank: &mut MemBank, call: Call<'_>) -> bool {
     match call {
         Call::Write(image) => write(bank, image, false),
@@ -66,7 +66,7 @@ fn make(bank: &mut MemBank, call: Call<'_>) -> bool {
     }
 }
 
-/// Makes these calls. Whether all worked.
+/// Makes the calls, and returns whether all worked.
 fn make_all(bank: &mut MemBank, calls: &[Call<'_>]) -> bool {
     for call in calls {
         if !make(bank, *call) {
@@ -76,7 +76,7 @@ fn make_all(bank: &mut MemBank, calls: &[Call<'_>]) -> bool {
     true
 }
 
-/// Whether the bank has what a row says, after its calls.
+/// Whether the bank is as a case expects, after its calls.
 fn holds(bank: &mut MemBank, row: &Row<'_>) -> bool {
     let (calls, runs, next, areas) = row;
     if !make_all(bank, calls) {
@@ -99,7 +99,7 @@ const OTHER: Key = Key {
     identifier: 2,
 };
 
-/// Whether the bank has what each row says, and no areas of another component.
+/// Whether the bank is as each case expects, and has no areas of another component.
 fn keeps(bank: &mut MemBank) -> bool {
     for row in &ROWS {
         if !holds(bank, row) {
@@ -109,7 +109,7 @@ fn keeps(bank: &mut MemBank) -> bool {
     bank.areas(OTHER).is_none()
 }
 
-/// Whether a new bank does.
+/// Whether this holds for a new bank.
 fn new_one_keeps(alloc: Global) -> bool {
     match bank(alloc, 1) {
         Ok(mut bank) => keeps(&mut bank),

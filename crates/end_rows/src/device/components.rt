@@ -1,4 +1,4 @@
-//! A device of several components, what it tells of them, and how stamps are compared.
+//! A device of several components, what it reports of them, and how stamps are compared.
 
 use crate::device::setup::Call::{Ask, Busy, Go, Is, May};
 use crate::device::setup::{
@@ -30,7 +30,7 @@ fn twofold(alloc: Global) -> Result<Device<MemBank>, BankFault> {
     Ok(Device::new(Unit::U64, descriptors(), components, bank))
 }
 
-/// Whether that device does what the calls say.
+/// Whether that device behaves as the calls expect.
 fn twofold_follows(alloc: Global, calls: &[Call<'_>]) -> bool {
     match twofold(alloc) {
         Ok(mut device) => follows(&mut device, calls),
@@ -43,19 +43,19 @@ const TWO: [u8; 12] = [0xF0, 0, 0, 0, 2, 0, 1, 0, 0, 1, 1, 0x41];
 
 const THREE: [u8; 12] = [0xF0, 0, 0, 0, 3, 0, 1, 0, 0, 1, 1, 0x41];
 
-/// A table of three entries, each with stamp 2 and no text, as flag and component say.
+/// A table of three entries, each with stamp 2 and no text, with the flags and components below.
 static TABLE: [Call<'static>; 12] = [
     Ask(0x10, &THREE, &[0, 0, 0, 0]),
-    // the first is no middle, nor a last, nor alone
+    // the first entry is neither a middle one, nor a last, nor the only one
     Ask(0x13, &[2, 0x0A, 0, 1, 0, 0, 2, 0, 0, 0, 1, 0], &[2]),
     Ask(0x13, &[4, 0x0A, 0, 1, 0, 0, 2, 0, 0, 0, 1, 0], &[2]),
     Ask(0x13, &[5, 0x0A, 0, 1, 0, 0, 2, 0, 0, 0, 1, 0], &[2]),
     Ask(0x13, &[1, 0x0A, 0, 1, 0, 0, 2, 0, 0, 0, 1, 0], &[0, 0, 0]),
-    // a second first, the first again, and a component that isn't the device's
+    // a second first entry, the first component again, and a component that isn't the device's
     Ask(0x13, &[1, 0x0A, 0, 2, 0, 0, 2, 0, 0, 0, 1, 0], &[2]),
     Ask(0x13, &[2, 0x0A, 0, 1, 0, 0, 2, 0, 0, 0, 1, 0], &[2]),
     Ask(0x13, &[2, 0x0A, 0, 3, 0, 0, 2, 0, 0, 0, 1, 0], &[0, 1, 6]),
-    // the last is no middle, and there is no fourth
+    // the last entry isn't a middle one, and there is no fourth
     Ask(0x13, &[2, 0x0A, 0, 2, 0, 0, 2, 0, 0, 0, 1, 0], &[2]),
     Ask(0x13, &[4, 0x0A, 0, 2, 0, 0, 2, 0, 0, 0, 1, 0], &[0, 0, 0]),
     Ask(0x13, &[4, 0x0A, 0, 4, 0, 0, 2, 0, 0, 0, 1, 0], &[0x84]),
@@ -72,7 +72,7 @@ const EMPTY: [u8; 21] = [
     0x0A, 0, 2, 0, 0, 2, 0, 0, 0, 0, 0, 0, 0, 0, 0, 0, 0, 1, 2, 0x76, 0x32,
 ];
 
-/// An update of two components is activated once both are applied, and not before.
+/// An update of two components is activated when both are applied, and not before.
 static WHOLE: [Call<'static>; 11] = [
     Ask(0x10, &TWO, &[0, 0, 0, 0]),
     Ask(0x13, &[1, 0x0A, 0, 1, 0, 0, 2, 0, 0, 0, 1, 0], &[0, 0, 0]),
@@ -81,14 +81,14 @@ static WHOLE: [Call<'static>; 11] = [
     Ask(0x1A, &[0], &[0x85]),
     May(false),
     Ask(0x14, &EMPTY, &[0, 0, 0, 0, 0, 0, 0, 0, 0]),
-    // all of the image is there
+    // the whole image is received
     Ask(0x1B, &[], &[0, 3, 2, 1, 0, 0x65, 0, 0, 0, 0, 0]),
     Go(DOWNLOADED, COMPLETE, 0),
     May(true),
     Ask(0x1A, &[0], &[0, 0, 0]),
 ];
 
-/// Whether the other component runs the empty image of stamp 2 after it.
+/// Whether the other component's active image is the empty one of stamp 2 after it.
 fn runs_empty(device: &Device<MemBank>) -> bool {
     match device.bank().active(OTHER) {
         Some((label, bytes)) => label.stamp() == 2 && bytes.is_empty(),
@@ -96,7 +96,7 @@ fn runs_empty(device: &Device<MemBank>) -> bool {
     }
 }
 
-/// Whether that update goes so.
+/// Whether that update works as expected.
 fn is_activated_whole(alloc: Global) -> bool {
     let Ok(mut device) = twofold(alloc) else {
         return false;
@@ -113,7 +113,8 @@ fn activates_only_a_whole_update(rt: HostRuntime) {
     assert!(rt; is_activated_whole(rt.alloc()));
 }
 
-/// What the worked device tells: its descriptors, its component, and the same with an image pending.
+/// The reports of the worked device: its descriptors, its component, and the same with an image
+/// pending.
 static TOLD: [Call<'static>; 4] = [
     Busy(0x01, &[], &[0, 6, 0, 0, 0, 1, 0, 0, 2, 0, 0x34, 0x12]),
     Busy(
@@ -136,7 +137,7 @@ static TOLD: [Call<'static>; 4] = [
     ),
 ];
 
-/// Whether the worked device tells so.
+/// Whether the worked device reports this.
 fn is_told(alloc: Global) -> bool {
     let Ok(mut device) = worked(alloc) else {
         return false;
@@ -150,8 +151,8 @@ fn tells_its_descriptors_and_components(rt: HostRuntime) {
     assert!(rt; is_told(rt.alloc()));
 }
 
-/// A situation: the active stamp, the offered one, what PassComponentTable answers, whether it is forced, and what UpdateComponent
-/// answers.
+/// A case: the active stamp, the offered one, the answer to PassComponentTable, whether the update
+/// is forced, and the answer to UpdateComponent.
 type Stamps<'a> = (&'a str, u32, u32, [u8; 3], bool, [u8; 9]);
 
 static STAMPS: [Stamps<'static>; 9] = [
@@ -208,7 +209,7 @@ static STAMPS: [Stamps<'static>; 9] = [
     ),
 ];
 
-/// Whether a device answers as a row says, and takes what it doesn't refuse.
+/// Whether a device answers as a case expects, and accepts what it doesn't refuse.
 fn answers(device: &mut Device<MemBank>, row: &Stamps<'_>) -> bool {
     let (_, _, offered, listed, forced, taken) = row;
     let stamp = offered.to_le_bytes();
@@ -222,7 +223,7 @@ fn answers(device: &mut Device<MemBank>, row: &Stamps<'_>) -> bool {
         && (number(device) == 3) == (taken[1] == 0)
 }
 
-/// Whether a device with a row's active stamp does.
+/// Whether this holds for a device with a case's active stamp.
 fn compares(alloc: Global, row: &Stamps<'_>) -> bool {
     match bank(alloc, row.1) {
         Ok(bank) => answers(&mut device(bank), row),

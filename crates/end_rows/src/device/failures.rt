@@ -1,4 +1,4 @@
-//! What a failing bank and a bad verdict lead to.
+//! The results of a failing bank and of a bad verdict.
 
 use crate::device::setup::Call::{Ask, Go, Is};
 use crate::device::setup::{
@@ -14,7 +14,7 @@ const OFFER: [u8; 21] = [
     0x0A, 0, 1, 0, 0, 2, 0, 0, 0, 32, 0, 0, 0, 0, 0, 0, 0, 1, 2, 0x76, 0x32,
 ];
 
-/// The bank's call that fails, and what comes of it: `begin`, and `switch`.
+/// The bank's call that fails, and the calls and replies after it: `begin`, and `switch`.
 static FAILURES: [(u64, &[Call<'static>]); 2] = [
     (
         1,
@@ -36,7 +36,8 @@ static FAILURES: [(u64, &[Call<'static>]); 2] = [
     ),
 ];
 
-/// Whether the worked device does what the calls say, over a bank whose `k`-th call that can fail does.
+/// Whether the worked device behaves as the calls expect, over a bank whose `k`-th call that can
+/// fail does.
 fn failing_follows(alloc: Global, k: u64, calls: &[Call<'_>]) -> bool {
     match bank(alloc, 1) {
         Ok(bank) => follows(&mut device(FailBank::new(bank, k)), calls),
@@ -51,7 +52,7 @@ fn answers_code_1_once_where_the_bank_fails(rt: HostRuntime) {
     }
 }
 
-/// A bad verdict, by its place: what is reported, and the status.
+/// A bad verdict, by its place: the report, and the status.
 type Bad<'a> = (&'a str, usize, Verdict, (u8, u8), [u8; 5]);
 
 static VERDICTS: [Bad<'static>; 2] = [
@@ -71,7 +72,8 @@ static VERDICTS: [Bad<'static>; 2] = [
     ),
 ];
 
-/// Whether a device reports a bad verdict till an answer comes, a malformed one too, and the component can be given up then.
+/// Whether a device reports a bad verdict until an answer arrives, also a malformed one, and the
+/// component can be cancelled then.
 fn reports(device: &mut Device<MemBank>, row: &Bad<'_>, malformed: bool) -> bool {
     let (_, place, verdict, failure, expected) = row;
     advance(device, *place);
@@ -88,7 +90,7 @@ fn reports(device: &mut Device<MemBank>, row: &Bad<'_>, malformed: bool) -> bool
         && follows(device, &[Ask(0x1C, &[], &[0])])
 }
 
-/// Whether the worked device does.
+/// Whether this holds for the worked device.
 fn is_reported(alloc: Global, row: &Bad<'_>, malformed: bool) -> bool {
     match worked(alloc) {
         Ok(mut device) => reports(&mut device, row, malformed),

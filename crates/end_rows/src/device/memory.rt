@@ -1,4 +1,4 @@
-//! What refused memory leaves. Each test holds whichever single allocation is refused.
+//! The state after memory is refused. Whichever single allocation is refused, each test holds.
 
 use crate::device::setup::{
     ACTIVATE, DOWNLOAD, KEY, READY, SIZE, advance, advance_between, ask, bank, label, number,
@@ -8,9 +8,9 @@ use fd_core::{Bank, Device, MemBank};
 use fwup_wire::code::command::UPDATE_COMPONENT;
 use pldm_base::Reply;
 
-/// Writes two bytes of an image of two, then begins one of three in their place. Where that is refused, the two bytes
-/// stand there whole and are applied; else the three bytes are. How many bytes are applied then, 0 where the first
-/// calls failed.
+/// Writes an image of two bytes, then begins one of three in its place. If that is refused, the two
+/// bytes are still there as a whole and are applied; else the three bytes are. Returns the number
+/// of applied bytes, 0 if the first calls failed.
 fn write_over<B: Bank>(bank: &mut B) -> usize {
     let label = label(2, b"v2");
     if bank.active(KEY).is_none() {
@@ -31,19 +31,20 @@ fn write_over<B: Bank>(bank: &mut B) -> usize {
     }
 }
 
-/// Writes and activates an image of these bytes. Whether each call worked.
+/// Writes and activates an image of these bytes. Returns whether each call worked.
 fn update<B: Bank>(bank: &mut B, image: &[u8]) -> bool {
     write(bank, image, true) && bank.switch().is_ok()
 }
 
-/// Whether the first image, which takes memory once, in `begin`, is updated at the second call where that is refused.
+/// Whether the first update, which allocates once, in `begin`, works at the second call if memory
+/// is refused.
 fn takes_the_first(bank: &mut MemBank) -> bool {
     update(bank, &[1, 2, 3])
         || bank.failures() == 1 && bank.areas(KEY) == Some((0, None)) && update(bank, &[1, 2, 3])
 }
 
-/// Whether the area of the factory image, which has the memory of one byte, is asked for two and then for three. Where either is refused,
-/// the stage is as it was.
+/// Whether the area of the factory image, which has memory for one byte, is begun with two bytes
+/// and then with three. If either is refused, the stage is unchanged.
 fn asks_for_three(bank: &mut MemBank) -> bool {
     let before = bank.failures();
     let written = write_over(bank);
@@ -54,7 +55,7 @@ fn asks_for_three(bank: &mut MemBank) -> bool {
     }
 }
 
-/// Whether four more updates work, with no failure so far.
+/// Whether four more updates work, without failures so far.
 fn takes_four(bank: &mut MemBank) -> bool {
     for _ in 0..4 {
         if !update(bank, &[7, 7]) {
@@ -77,7 +78,7 @@ fn keeps_the_stage(bank: &mut MemBank) -> bool {
     if written != 3 && bank.failures() != 1 {
         return false;
     }
-    // From now on all three areas have their memory, and updates take none.
+    // From now on all three areas have their memory, and updates allocate none.
     bank.failures() != 0 || before != 0 || takes_four(bank)
 }
 
@@ -93,10 +94,11 @@ fn offered(device: &mut Device<MemBank>) -> Reply {
     ask(device, UPDATE_COMPONENT, &offer(2, SIZE, false), true)
 }
 
-/// UpdateComponent is taken.
+/// The answer to an accepted UpdateComponent.
 static TAKEN: [u8; 9] = [0; 9];
 
-/// Whether UpdateComponent is taken in READY XFER, at the second time where memory is refused and the device stays there.
+/// Whether UpdateComponent is accepted in READY XFER, at the second try if memory is refused and
+/// the device stays in that state.
 fn takes_the_offer(device: &mut Device<MemBank>) -> bool {
     let reply = offered(device);
     if reply.as_slice() == [1].as_slice() {
@@ -108,7 +110,7 @@ fn takes_the_offer(device: &mut Device<MemBank>) -> bool {
     }
 }
 
-/// Whether a device takes the offer so, and is then updated.
+/// Whether a device accepts the offer that way, and is then updated.
 fn is_asked_again(device: &mut Device<MemBank>) -> bool {
     advance(device, READY);
     let taken = takes_the_offer(device);

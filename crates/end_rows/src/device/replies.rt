@@ -1,4 +1,5 @@
-//! What a device answers in each place of an update, what it tells there, and what a time-out leaves.
+//! The answers of a device in each place of an update, the status there, and the state after a
+//! time-out.
 
 use crate::device::setup::Call::{Ask, Busy, Is};
 use crate::device::setup::{
@@ -40,7 +41,7 @@ static WORKED: [Call<'static>; 20] = [
     Is(3),
 ];
 
-/// Whether the worked device does what the calls say.
+/// Whether the worked device behaves as the calls expect.
 fn worked_follows(alloc: Global, calls: &[Call<'_>]) -> bool {
     match worked(alloc) {
         Ok(mut device) => follows(&mut device, calls),
@@ -53,8 +54,8 @@ fn answers_the_worked_table(rt: HostRuntime) {
     assert!(rt; worked_follows(rt.alloc(), &WORKED));
 }
 
-/// A place of an update, its status, and the status where time has ended the update: state, previous state, aux, its status, and the
-/// reason.
+/// A place of an update, its status, and the status if a time-out has ended the update: state,
+/// previous state, aux, its status, and the reason.
 type Place<'a> = (&'a str, usize, [u8; 5], Option<[u8; 5]>);
 
 static PLACES: [Place<'static>; 11] = [
@@ -96,7 +97,8 @@ static PLACES: [Place<'static>; 11] = [
     ("ACTIVATE", ACTIVATE, [6, 2, 3, 0, 0], None),
 ];
 
-/// Whether a device has this status in a place, and this one from the 240th tick on, with nothing applied.
+/// Whether a device has this status in a place, and status `ended` from the 240th tick on, with
+/// nothing applied.
 fn tells(device: &mut Device<MemBank>, place: usize, now: [u8; 5], ended: Option<[u8; 5]>) -> bool {
     advance(device, place);
     if status(device) != now {
@@ -113,7 +115,7 @@ fn tells(device: &mut Device<MemBank>, place: usize, now: [u8; 5], ended: Option
     status(device) == ended && !has_applied(device)
 }
 
-/// Whether the worked device does.
+/// Whether this holds for the worked device.
 fn worked_tells(alloc: Global, row: &Place<'_>) -> bool {
     let (_, place, now, ended) = row;
     match worked(alloc) {

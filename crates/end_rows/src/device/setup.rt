@@ -1,4 +1,4 @@
-//! The worked device of the tests, and how it comes to each place of an update.
+//! The worked device of the tests, and how it reaches each place of an update.
 
 ghost use Rattle.std.specs.Prelude.{◌≡◌, ◌∷◌, [], IfOk, map};
 ghost use Rattle.fd_core.specs.Images.{key_of};
@@ -24,22 +24,22 @@ pub const KEY: Key = Key {
     identifier: 1,
 };
 
-/// RequestUpdate: 240 bytes at once, one component, set text `A`.
+/// RequestUpdate: transfer size 240, one component, set text `A`.
 pub const REQUEST: [u8; 12] = [0xF0, 0, 0, 0, 1, 0, 1, 0, 0, 1, 1, 0x41];
 
-/// The same with 496 bytes at once.
+/// The same with transfer size 496.
 pub const LONG_REQUEST: [u8; 12] = [0xF0, 1, 0, 0, 1, 0, 1, 0, 0, 1, 1, 0x41];
 
 /// PassComponentTable: (10, 1) alone, stamp 2, `v2`.
 pub const ENTRY: [u8; 14] = [5, 0x0A, 0, 1, 0, 0, 2, 0, 0, 0, 1, 2, 0x76, 0x32];
 
-/// The bytes of the image that `advance` offers.
+/// The size in bytes of the image that `advance` offers.
 pub const SIZE: u32 = 241;
 
-/// What stands past the image in an answer to RequestFirmwareData.
+/// The padding after the image in an answer to RequestFirmwareData.
 pub const PADDING: u8 = 0xEE;
 
-/// More requests than the longest image needs.
+/// A bound above the number of requests for the longest image.
 const MOST_REQUESTS: u32 = 5000;
 
 /// No update.
@@ -131,7 +131,7 @@ pub fn device<B: Bank>(bank: B) -> Device<B>
     device_at(Unit::U64, bank)
 }
 
-/// The same at this unit.
+/// The same at this transmission unit.
 fn device_at<B: Bank>(unit: Unit, bank: B) -> Device<B>
     requires { map key_of (B.rows bank) ≡ KEY ∷ [] }
 {
@@ -140,17 +140,17 @@ fn device_at<B: Bank>(unit: Unit, bank: B) -> Device<B>
     Device::new(unit, descriptors(), components, bank)
 }
 
-/// The worked device: stamp 1.
+/// The worked device, with stamp 1.
 pub fn worked(alloc: Global) -> Result<Device<MemBank>, BankFault> {
     worked_at(alloc, Unit::U64)
 }
 
-/// The same at this unit.
+/// The same at this transmission unit.
 pub fn worked_at(alloc: Global, unit: Unit) -> Result<Device<MemBank>, BankFault> {
     Ok(device_at(unit, bank(alloc, 1)?))
 }
 
-/// RequestUpdate as an agent of this unit says it.
+/// RequestUpdate of an agent at this transmission unit.
 pub fn request(unit: Unit) -> [u8; 12] {
     match unit {
         Unit::U64 => REQUEST,
@@ -170,8 +170,8 @@ pub fn ask<B: Bank>(device: &mut Device<B>, command: u8, fields: &[u8], quiet: b
     }
 }
 
-/// Answers the requests for data with byte `i` being `i mod 256`, and `PADDING` past the image, as long as there are any.
-/// Gives how many there were, and offset and length of the last.
+/// Answers the requests for data with byte `i` being `i mod 256`, and `PADDING` past the image, as
+/// long as there are any. Returns the number of requests, and the offset and length of the last.
 pub fn transfer<B: Bank>(device: &mut Device<B>, size: u32) -> (u32, u32, u32) {
     let mut last = (0, 0);
     for count in 0..MOST_REQUESTS {
@@ -193,7 +193,7 @@ pub fn transfer<B: Bank>(device: &mut Device<B>, size: u32) -> (u32, u32, u32) {
     (MOST_REQUESTS, last.0, last.1)
 }
 
-/// Takes one step on the way of an update of `size` bytes, from the place of this number to the next.
+/// Takes one step of an update of `size` bytes, from place `place` to the next.
 fn step<B: Bank>(device: &mut Device<B>, place: usize, size: u32) {
     match place {
         IDLE => {
@@ -223,34 +223,34 @@ fn step<B: Bank>(device: &mut Device<B>, place: usize, size: u32) {
     }
 }
 
-/// Goes from a new device to a place on the way of an update of `SIZE` bytes.
+/// Advances a new device to a place of an update of `SIZE` bytes.
 pub fn advance<B: Bank>(device: &mut Device<B>, to: usize) {
     advance_between(device, IDLE, to, SIZE);
 }
 
-/// Goes from one place to a later one, on the way of an update of `size` bytes.
+/// Advances a device from one place to a later one of an update of `size` bytes.
 pub fn advance_between<B: Bank>(device: &mut Device<B>, from: usize, to: usize, size: u32) {
     for place in from..to {
         step(device, place, size);
     }
 }
 
-/// What is done to a device in a row, and what comes of it.
+/// A call of a device in a case, and its result.
 #[derive(Clone, Copy)]
 pub enum Call<'a> {
     /// A command and its request data, and the reply.
     Ask(u8, &'a [u8], &'a [u8]),
-    /// The same while a request is under way.
+    /// The same while a request is open.
     Busy(u8, &'a [u8], &'a [u8]),
-    /// From one place to a later one on the way of an update of so many bytes.
+    /// Advances from one place to a later one of an update of this many bytes.
     Go(usize, usize, u32),
-    /// The number of the state.
+    /// The expected number of the state.
     Is(u8),
     /// Whether the update may be activated.
     May(bool),
 }
 
-/// Whether a device does what the calls say.
+/// Returns whether a device behaves as the calls expect.
 pub fn follows<B: Bank>(device: &mut Device<B>, calls: &[Call<'_>]) -> bool {
     for call in calls {
         let holds = match *call {
@@ -279,7 +279,7 @@ pub fn number<B: Bank>(device: &Device<B>) -> u8 {
     device.state() as u8
 }
 
-/// Whether the device has the bytes of its image and nothing to ask any more.
+/// Returns whether the device has all bytes of its image and requests no more.
 pub fn is_done<B: Bank>(device: &Device<B>) -> bool {
     device.progress() == Some(Progress::Succeeded)
 }
@@ -305,7 +305,7 @@ pub fn status<B: Bank>(device: &mut Device<B>) -> [u8; 5] {
     }
 }
 
-/// The report that the device wishes to make: its command and its result.
+/// Returns the report that the device sends next: its command and its result.
 pub fn report<B: Bank>(device: &Device<B>) -> Option<(u8, u8)> {
     match device.wish() {
         Some(Command::TransferComplete { result }) => Some((TRANSFER_COMPLETE, result)),
@@ -315,7 +315,7 @@ pub fn report<B: Bank>(device: &Device<B>) -> Option<(u8, u8)> {
     }
 }
 
-/// So many ticks pass.
+/// Passes `ticks` ticks.
 pub fn pass<B: Bank>(device: &mut Device<B>, ticks: u32) {
     for _ in 0..ticks {
         device.idle_tick();
@@ -327,7 +327,8 @@ pub fn has_applied<B: Bank>(device: &Device<B>) -> bool {
     device.bank().applied(KEY).is_some()
 }
 
-/// Whether the bank runs the first `size` bytes of the image, of which byte `i` is `i mod 256`.
+/// Returns whether the bank's active image is the first `size` bytes of the image, of which byte
+/// `i` is `i mod 256`.
 pub fn runs<B: Bank>(device: &Device<B>, size: u32) -> bool {
     match device.bank().active(KEY) {
         None => false,
@@ -335,7 +336,7 @@ pub fn runs<B: Bank>(device: &Device<B>, size: u32) -> bool {
     }
 }
 
-/// Whether the bank has these bytes applied.
+/// Returns whether the bank's applied image is these bytes.
 pub fn is_applied<B: Bank>(device: &Device<B>, size: u32) -> bool {
     match device.bank().applied(KEY) {
         None => false,
@@ -352,8 +353,8 @@ fn is_image(bytes: &[u8], size: usize) -> bool {
     bytes.len() == size
 }
 
-/// Writes an image of these bytes for the worked component, and applies it where it is to be sealed. Whether all calls
-/// worked.
+/// Writes an image of these bytes for the worked component, and seals it if `seals` is set. Returns
+/// whether all calls worked.
 pub fn write<B: Bank>(bank: &mut B, image: &[u8], seals: bool) -> bool {
     if bank.active(KEY).is_none() || image.len() > MAX_IMAGE as usize {
         return false;

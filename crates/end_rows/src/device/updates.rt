@@ -1,4 +1,4 @@
-//! Whole updates: what is asked, stored, applied and activated.
+//! Whole updates: the requests, the stored, applied and activated image.
 
 use crate::device::setup::{
     ACTIVATE, APPLIED, APPLY, COMPLETE, DOWNLOAD, DOWNLOADED, ENTRY, IDLE, LONG_REQUEST, REQUEST,
@@ -10,11 +10,11 @@ use fwup_wire::Command;
 use mctp_wire::Unit;
 use std::alloc::Global;
 
-/// A situation: the image's size, how many requests for data there are, and offset and length of the last. All before it
-/// ask as many bytes as a message of the unit holds.
+/// A case: the image's size, the number of requests for data, and offset and length of the last.
+/// Each request before it is for as many bytes as a message of the unit holds.
 type Size<'a> = (&'a str, u32, (u32, u32, u32));
 
-/// At the unit of 64 bytes: 240 bytes at once.
+/// At the unit of 64 bytes: requests of 240 bytes.
 static SIZES: [Size<'static>; 6] = [
     ("empty", 0, (0, 0, 0)),
     ("below the least length", 31, (1, 0, 32)),
@@ -24,7 +24,7 @@ static SIZES: [Size<'static>; 6] = [
     ("the longest image", 1_048_576, (4370, 1_048_560, 32)),
 ];
 
-/// At the unit of 128 bytes: 496 bytes at once.
+/// At the unit of 128 bytes: requests of 496 bytes.
 static LONG_SIZES: [Size<'static>; 6] = [
     ("empty", 0, (0, 0, 0)),
     ("below the least length", 31, (1, 0, 32)),
@@ -44,7 +44,7 @@ fn downloads(device: &mut Device<MemBank>, size: u32, requests: (u32, u32, u32))
     report(device) == Some((0x17, 0))
 }
 
-/// Whether the image is applied and reported, and doesn't run.
+/// Whether the image is applied and reported, and not yet active.
 fn applies(device: &mut Device<MemBank>, size: u32) -> bool {
     advance_between(device, VERIFIED, APPLY, size);
     if has_applied(device) {
@@ -58,7 +58,7 @@ fn applies(device: &mut Device<MemBank>, size: u32) -> bool {
     device.wish().is_none() && !runs(device, size)
 }
 
-/// Whether the image is activated, and runs.
+/// Whether the image is activated.
 fn activates(device: &mut Device<MemBank>, size: u32) -> bool {
     advance_between(device, COMPLETE, ACTIVATE, size);
     if !runs(device, size) || has_applied(device) {
@@ -68,7 +68,7 @@ fn activates(device: &mut Device<MemBank>, size: u32) -> bool {
     status(device) == [0, 6, 3, 0, 1] && runs(device, size)
 }
 
-/// Whether an image goes all that way, to a device at this unit.
+/// Whether all this holds for a device at this transmission unit.
 fn goes_through(alloc: Global, unit: Unit, size: u32, requests: (u32, u32, u32)) -> bool {
     match worked_at(alloc, unit) {
         Ok(mut device) => {
@@ -96,7 +96,7 @@ fn stores_and_activates_images_of_each_size(rt: HostRuntime) {
     }
 }
 
-/// What RequestUpdate says, and how many bytes of a long image the device asks for at first.
+/// RequestUpdate, and the number of bytes that the device requests first of a long image.
 static ASKS: [(Unit, &[u8], u32); 4] = [
     (Unit::U64, &REQUEST, 240),
     (Unit::U64, &LONG_REQUEST, 240),
@@ -104,7 +104,7 @@ static ASKS: [(Unit, &[u8], u32); 4] = [
     (Unit::U128, &LONG_REQUEST, 496),
 ];
 
-/// Whether a device at this unit first asks for so many bytes of an image of 1000.
+/// Whether a device at this unit first requests `first` bytes of an image of 1000.
 fn asks(alloc: Global, unit: Unit, request: &[u8], first: u32) -> bool {
     let Ok(mut device) = worked_at(alloc, unit) else {
         return false;

@@ -5,16 +5,16 @@ use sel_core::SelCall::{Note, Request, Restart};
 use sel_core::{Event, EventKind, Sel, SelReply};
 use std::alloc::Global;
 
-/// An entry that is read whole: a note at 5.
+/// An entry that is read as a whole: a note at time 5.
 const WHOLE: [u8; 19] = [
     0, 0xFF, 0xFF, 1, 0, 0xC1, 5, 0, 0, 0, 0, 0, 0, 1, 9, 1, 0, 0xFF, 0xFF,
 ];
 
-/// A note is read whole and in parts.
+/// A note is read as a whole and in parts.
 const PARTS: [Row<'static>; 14] = [
     (Note(STARTED, 5), &[]),
     (Request(0x43, &[0, 0, 0, 0, 0, 0xFF], 0), &WHOLE),
-    // a part without a reservation, and under one
+    // a part without a reservation, and with one
     (Request(0x43, &[0, 0, 0, 0, 0x0A, 2], 0), &[0xC5]),
     (Request(0x42, &[], 0), &[0, 1, 0]),
     (
@@ -32,13 +32,13 @@ const PARTS: [Row<'static>; 14] = [
     (Request(0x43, &[1, 0, 1, 0, 0, 0], 0), &[0, 0xFF, 0xFF]),
     (Request(0x43, &[1, 0, 1, 0, 0, 16], 0), &WHOLE),
     (Request(0x43, &[1, 0, 1, 0, 0, 17], 0), &[0xC9]),
-    // that there is no such record comes first
+    // that there is no such record is checked first
     (Request(0x43, &[1, 0, 7, 0, 16, 1], 0), &[0xCB]),
     (Request(0x46, &[1, 0, 5, 0], 0), &[0xCB]),
     (Request(0x46, &[1, 0, 0xFF, 0xFF], 0), &[0, 1, 0]),
 ];
 
-/// A delete leaves that record out.
+/// A delete removes the record.
 const DELETES: [Row<'static>; 18] = [
     (Request(0x43, &[0, 0, 0, 0, 0, 2], 0), &[0xCB]),
     (Request(0x43, &[0, 0, 0xFF, 0xFF, 0, 2], 0), &[0xCB]),
@@ -47,12 +47,12 @@ const DELETES: [Row<'static>; 18] = [
     (Note(STARTED, 0), &[]),
     (Note(STARTED, 0), &[]),
     (Request(0x42, &[], 0), &[0, 1, 0]),
-    // the second of four goes
+    // the second of four is deleted
     (Request(0x46, &[1, 0, 2, 0], 0), &[0, 2, 0]),
     (Request(0x43, &[0, 0, 0, 0, 0, 2], 0), &[0, 3, 0, 1, 0]),
     (Request(0x43, &[0, 0, 3, 0, 0, 2], 0), &[0, 4, 0, 3, 0]),
     (Request(0x43, &[0, 0, 2, 0, 0, 2], 0), &[0xCB]),
-    // the last goes, and then the first
+    // the last is deleted, and then the first
     (Request(0x42, &[], 0), &[0, 2, 0]),
     (Request(0x46, &[2, 0, 0xFF, 0xFF], 0), &[0, 4, 0]),
     (Request(0x42, &[], 0), &[0, 3, 0]),
@@ -65,8 +65,8 @@ const DELETES: [Row<'static>; 18] = [
     (Request(0x43, &[0, 0, 0, 0, 0, 2], 0), &[0, 5, 0, 3, 0]),
 ];
 
-/// A wrong length comes first: without a reservation and without a record each of these would be refused otherwise too. There are no
-/// commands 0x41, 0x45 and 0x4A.
+/// A wrong length is checked first: without a reservation and without a record each of these would
+/// be refused for another reason too. There are no commands 0x41, 0x45 and 0x4A.
 const LENGTHS: [Row<'static>; 12] = [
     (Request(0x40, &[0xFF; 1], 0), &[0xC7]),
     (Request(0x42, &[0xFF; 1], 0), &[0xC7]),
@@ -82,7 +82,7 @@ const LENGTHS: [Row<'static>; 12] = [
     (Request(0x4A, &[], 0), &[0xC1]),
 ];
 
-/// Each kind of event has its number: an entry each, at 0x01020304.
+/// Each kind of event has its number: an entry of each, at time 0x01020304.
 const KINDS: [Row<'static>; 10] = [
     (
         Note(
@@ -197,11 +197,11 @@ const CLEARS: [Row<'static>; 8] = [
     (Request(0x44, &OWN, 0), &[0x80]),
 ];
 
-/// What cancels a reservation.
+/// The calls that cancel a reservation.
 const CANCELS: [Row<'static>; 17] = [
     (Note(STARTED, 0), &[]),
     (Request(0x42, &[], 0), &[0, 1, 0]),
-    // not other letters, another action or the progress
+    // neither other letters, nor another action, nor the progress
     (Request(0x47, &[1, 0, 0x43, 0x4C, 0x53, 0xAA], 0), &[0xCC]),
     (Request(0x47, &[1, 0, 0x43, 0x4C, 0x52, 1], 0), &[0xCC]),
     (Request(0x47, &[1, 0, 0x43, 0x4C, 0x52, 0], 0), &[0, 1]),
@@ -217,11 +217,11 @@ const CANCELS: [Row<'static>; 17] = [
     (Request(0x42, &[], 0), &[0, 4, 0]),
     (Request(0x47, &[4, 0, 0x43, 0x4C, 0x52, 0xAA], 0), &[0, 1]),
     (Request(0x47, &[4, 0, 0x43, 0x4C, 0x52, 0xAA], 0), &[0xC5]),
-    // identifiers go on
+    // identifiers continue
     (Request(0x44, &[0; 16], 0), &[0, 3, 0]),
 ];
 
-/// The time is set between additions, and none of them changes its own.
+/// The time is set between additions, and none of the records changes its own.
 const TIMES: [Row<'static>; 13] = [
     (Request(0x48, &[], 5), &[0, 5, 0, 0, 0]),
     (Note(STARTED, 6), &[]),
@@ -264,7 +264,7 @@ const SITUATIONS: [(&str, &[Row<'static>]); 7] = [
     ("the time is set between additions", &TIMES),
 ];
 
-/// Whether these are the replies of the rows.
+/// Whether these are the replies of the cases.
 fn are_replies(rows: &[Row<'_>], replies: &[SelReply]) -> bool {
     for ((_, reply), got) in rows.iter().zip(replies) {
         if got.as_slice() != *reply {
@@ -274,7 +274,7 @@ fn are_replies(rows: &[Row<'_>], replies: &[SelReply]) -> bool {
     replies.len() == rows.len()
 }
 
-/// Whether the calls of the rows are answered so by a new log, made by `run`.
+/// Whether a new log gives these replies to the calls of the cases, made by `run`.
 fn run_holds(alloc: Global, rows: &[Row<'_>]) -> bool {
     let mut calls = Vec::new(alloc);
     for (call, _) in rows {
@@ -291,7 +291,7 @@ fn run_holds(alloc: Global, rows: &[Row<'_>]) -> bool {
     }
 }
 
-/// Whether they are, made one by one.
+/// Whether it gives them to calls made one by one.
 fn calls_hold(alloc: Global, rows: &[Row<'_>]) -> bool {
     match Sel::new(alloc) {
         Ok(mut log) => holds(&mut log, rows),

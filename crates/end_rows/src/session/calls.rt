@@ -8,7 +8,7 @@ use std::alloc::Global;
 use std::test::Fail;
 use ua_core::{Cause, Lent, Session, SessionState, StartFault};
 
-/// The states of a good update of one component, by the number of turns that lead there.
+/// The states of a good update of one component, by the number of turns before them.
 static PATH: [SessionState; 12] = [
     SessionState::Query,
     SessionState::Params,
@@ -24,7 +24,8 @@ static PATH: [SessionState; 12] = [
     SessionState::Done,
 ];
 
-/// Whether a session that was led on so many times has this state for 239 ticks, and ends in the 240th unless it is done.
+/// Whether a session after `turns` turns has this state for 239 ticks, and ends in the 240th unless
+/// it is done.
 fn ends(alloc: Global, lent: &Lent<'_>, turns: usize, state: SessionState) -> bool {
     let mut session = session_after(alloc, lent, turns);
     for _ in 0..239 {
@@ -41,7 +42,8 @@ fn ends(alloc: Global, lent: &Lent<'_>, turns: usize, state: SessionState) -> bo
     }
 }
 
-/// The number of turns after which time doesn't end what is under way so; 12 where it always does.
+/// The first number of turns after which a time-out doesn't end the update this way; 12 if it
+/// always does.
 fn first_wrong(alloc: Global, lent: &Lent<'_>) -> usize {
     for (turns, state) in PATH.iter().enumerate() {
         if !ends(alloc, lent, turns, *state) {
@@ -60,8 +62,8 @@ fn time_ends_what_is_under_way_in_the_240th_tick(rt: HostRuntime) -> Result<(), 
     Ok(())
 }
 
-/// Whether an update with this package starts, at the second call where memory is refused and nothing changes, and records its one
-/// component.
+/// Whether an update with package `number` starts, at the second call if memory is refused and
+/// nothing changes, and records its one component.
 fn starts(session: &mut Session, lent: &Lent<'_>, number: usize) -> bool {
     let before = (session.mark(), session.package());
     if let Err(fault) = session.start(number) {
@@ -83,8 +85,8 @@ fn starts(session: &mut Session, lent: &Lent<'_>, number: usize) -> bool {
     session.state() == SessionState::Done && session.records().len() == number && last == number
 }
 
-/// Holds whichever single allocation is refused: the first start takes memory for its records, and the second beside those
-/// that stand.
+/// Whichever single allocation is refused, the test holds. The first start allocates its records,
+/// and the second more beside the existing ones.
 #[test]
 fn refused_memory_starts_nothing(rt: HostRuntime) -> Result<(), Fail> {
     let bytes = file(ONE);

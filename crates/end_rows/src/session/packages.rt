@@ -5,8 +5,8 @@ use arrayvec::ArrayVec;
 /// A file that a test puts together.
 pub type File = ArrayVec<u8, 1024>;
 
-/// A component of a package: key, stamp, options, version text and the size of its image, at most 500. Byte i of each image is
-/// i modulo 256.
+/// A component of a package: key, stamp, options, version text and the size of its image, at most
+/// 500. Byte i of each image is i modulo 256.
 #[derive(Clone, Copy)]
 pub struct Item<'a> {
     pub key: (u16, u16),
@@ -16,7 +16,8 @@ pub struct Item<'a> {
     pub size: u32,
 }
 
-/// A package: the set text, and its components. Its one record has the descriptor 0000 with data 34 12 and uses all of them.
+/// A package: the set text, and its components. Its one record has the descriptor 0000 with data 34
+/// 12 and uses all of them.
 #[derive(Clone, Copy)]
 pub struct Draft<'a> {
     pub set_text: &'a [u8],
@@ -29,8 +30,8 @@ static OPENING: [u8; 17] = [
     1,
 ];
 
-/// A header's bytes without texts and components: the fixed part and the record count, a record with a bitmap of 16 bits and one
-/// descriptor of two bytes, the component count and the checksum.
+/// A header's bytes without texts and components: the fixed part and the record count, a record
+/// with a bitmap of 16 bits and one descriptor of two bytes, the component count and the checksum.
 const HEADER: u16 = 62;
 
 /// A component's bytes without its text.
@@ -45,7 +46,7 @@ fn length(text: &[u8]) -> u8 {
     u8::try_from(text.len()).unwrap_or(0)
 }
 
-/// The file of a draft: the header, and an image of 500 bytes, of which each component has the first ones.
+/// The file of a draft: the header, and an image of 500 bytes; each component has its first bytes.
 pub fn file(draft: Draft<'_>) -> File {
     let mut header = HEADER.wrapping_add(u16::from(length(draft.set_text)));
     let mut bitmap = 0u16;
@@ -93,7 +94,7 @@ fn put_component(out: &mut File, item: &Item<'_>, offset: u16) {
     put(out, item.text);
 }
 
-/// The checksum by single bits.
+/// The checksum, computed bit by bit.
 fn sum_by_bits(bytes: &[u8]) -> u32 {
     let mut register = u32::MAX;
     for byte in bytes {

@@ -1,4 +1,4 @@
-//! Sessions that are brought into a state by calls alone, and what is asked of them there.
+//! Sessions that are brought to a state by calls alone, and tests of them there.
 
 use crate::session::packages::{Draft, Item};
 use fwup_wire::code::command::GET_FIRMWARE_PARAMETERS;
@@ -18,7 +18,7 @@ pub const ITEM: Item<'static> = Item {
     size: 241,
 };
 
-/// The package of the worked rows: set text `A`, one component.
+/// The package of the worked cases: set text `A`, one component.
 pub const ONE: Draft<'static> = Draft {
     set_text: b"A",
     items: &[ITEM],
@@ -39,12 +39,12 @@ pub const TWO: Draft<'static> = Draft {
     ],
 };
 
-/// The session learns this answer.
+/// The session receives this answer.
 pub fn learn(session: &mut Session, answer: &Answer<'_>, lent: &Lent<'_>) {
     session.learn(Ok(answer), lent);
 }
 
-/// The session learns the descriptor 0000 with data 34 12, and another.
+/// The session receives the descriptor 0000 with data 34 12, and another.
 pub fn learn_descriptors(session: &mut Session, lent: &Lent<'_>, bytes: &[u8; 2]) {
     let mut list = DescriptorList::new();
     list.push(&DeviceDescriptor {
@@ -55,14 +55,15 @@ pub fn learn_descriptors(session: &mut Session, lent: &Lent<'_>, bytes: &[u8; 2]
     learn(session, &Answer::QueryDeviceIdentifiers(list.lent()), lent);
 }
 
-/// The answer of a device that has component (10, 2) under index 5: code and capabilities, one component, no set texts; key,
-/// index, stamp 1, text of type 1 and 3 bytes, no date; the same of the pending image; methods, capabilities, both texts.
+/// The answer of a device that has component (10, 2) under index 5: code and capabilities, one
+/// component, no set texts; key, index, stamp 1, text of type 1 and 3 bytes, no date; the same of
+/// the pending image; methods, capabilities, both texts.
 static PARAMETERS: [u8; 56] = [
     0, 0, 0, 0, 0, 1, 0, 0, 0, 0, 0, 10, 0, 2, 0, 5, 1, 0, 0, 0, 1, 3, 0, 0, 0, 0, 0, 0, 0, 0, 1,
     0, 0, 0, 1, 3, 0, 0, 0, 0, 0, 0, 0, 0, 2, 0, 0, 0, 0, 0, b'1', b'.', b'0', b'1', b'.', b'0',
 ];
 
-/// The session learns that the device has component (10, 2) under index 5.
+/// The session receives the report that the device has component (10, 2) under index 5.
 pub fn learn_parameters(session: &mut Session, lent: &Lent<'_>) {
     match read_answer(GET_FIRMWARE_PARAMETERS, &PARAMETERS) {
         Ok(answer) => session.learn(Ok(&answer), lent),
@@ -70,7 +71,7 @@ pub fn learn_parameters(session: &mut Session, lent: &Lent<'_>) {
     }
 }
 
-/// The session learns this response code to PassComponentTable.
+/// The session receives this response code to PassComponentTable.
 pub fn learn_response(session: &mut Session, lent: &Lent<'_>, code: u8) {
     let response = u8::from(code != 0);
     learn(
@@ -80,7 +81,7 @@ pub fn learn_response(session: &mut Session, lent: &Lent<'_>, code: u8) {
     );
 }
 
-/// The session learns that the device takes the component, or refuses it.
+/// The session receives the answer that the device accepts the component, or refuses it.
 pub fn learn_offer(session: &mut Session, lent: &Lent<'_>, compatibility: u8) {
     let response = OfferResponse {
         compatibility,
@@ -91,7 +92,8 @@ pub fn learn_offer(session: &mut Session, lent: &Lent<'_>, compatibility: u8) {
     learn(session, &Answer::UpdateComponent(response), lent);
 }
 
-/// One answer that leads on from each state that wishes a command; the device's results elsewhere.
+/// Gives one answer that advances each state with a pending command, and the device's results in
+/// the other states.
 pub fn go_on(session: &mut Session, lent: &Lent<'_>) {
     match session.state() {
         SessionState::Query => learn_descriptors(session, lent, &[0x34, 0x12]),
@@ -125,12 +127,12 @@ pub fn go_on(session: &mut Session, lent: &Lent<'_>) {
     }
 }
 
-/// A session with package 1 at the unit of 64 bytes that was led on so many times.
+/// A session with package 1 at the unit of 64 bytes after `turns` turns.
 pub fn session_after(alloc: Global, lent: &Lent<'_>, turns: usize) -> Session {
     session_at(alloc, Unit::U64, lent, turns)
 }
 
-/// The same at this unit.
+/// The same at this transmission unit.
 pub fn session_at(alloc: Global, unit: Unit, lent: &Lent<'_>, turns: usize) -> Session {
     let mut session = Session::new(alloc, unit);
     let _ = session.start(1);
@@ -140,7 +142,7 @@ pub fn session_at(alloc: Global, unit: Unit, lent: &Lent<'_>, turns: usize) -> S
     session
 }
 
-/// A session with package 1 in the first state of this kind, if one turn out of thirty leads there.
+/// A session with package 1 in the first state of this kind, if one of thirty turns reaches it.
 pub fn session_in(alloc: Global, lent: &Lent<'_>, state: SessionState) -> Session {
     let mut session = session_after(alloc, lent, 0);
     for _ in 0..30 {

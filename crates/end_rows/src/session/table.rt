@@ -1,4 +1,4 @@
-//! The device's commands in every state, and the data that it is served.
+//! The device's commands in every state, and the data that it gets.
 
 use crate::session::packages::{Draft, Item, file};
 use crate::session::situations::{ITEM, ONE, session_after, session_at, session_in};
@@ -9,7 +9,7 @@ use std::alloc::Global;
 use std::test::Fail;
 use ua_core::{Cause, Lent, Session, SessionState};
 
-/// What a device may say, good and bad: a row of the table has a code for each.
+/// Commands of a device, good and bad: a case of the table has a code for each.
 static SAYINGS: [Command<'static>; 7] = [
     Command::RequestFirmwareData {
         offset: 0,
@@ -68,7 +68,7 @@ static CODES: [(SessionState, [u8; 7]); 15] = [
     (SessionState::Failed(Cause::Silent), [0x88; 7]),
 ];
 
-/// Whether a command is answered by this code in a state, and leads on from there as it is to.
+/// Whether a command gets this code in a state, and leads to the expected state.
 fn says(
     alloc: Global,
     lent: &Lent<'_>,
@@ -105,7 +105,7 @@ fn answers_each_command_in_each_state(rt: HostRuntime) -> Result<(), Fail> {
     Ok(())
 }
 
-/// Where these commands lead: elsewhere only in Download, Verify and Apply.
+/// The state after these commands: another one only in Download, Verify and Apply.
 fn led_on(state: SessionState, command: &Command<'_>) -> SessionState {
     match (state, command) {
         (SessionState::Download, Command::TransferComplete { result }) => {
@@ -133,7 +133,8 @@ fn led_on(state: SessionState, command: &Command<'_>) -> SessionState {
     }
 }
 
-/// A request of data from an image of so many bytes: the code, and how many bytes of the image come before the zeros.
+/// A request for data of an image of this size: the code, and the number of image bytes before the
+/// zeros.
 type Asked = (&'static str, u32, (u32, u32), u8, usize);
 
 static PIECES: [Asked; 22] = [
@@ -174,8 +175,8 @@ static LONG_PIECES: [Asked; 9] = [
     ("past the end by 33", 500, (37, 496), 0x82, 0),
 ];
 
-/// Whether a request of data in Download is answered as a row says: a code alone, or as many bytes as were asked for, those of the
-/// image and zeros after them.
+/// Whether a request for data in Download is answered as a case expects: with a code alone, or with
+/// the requested number of bytes, those of the image and zeros after them.
 fn serves(alloc: Global, unit: Unit, row: &Asked) -> bool {
     let (_, size, (offset, length), code, known) = *row;
     let items = [Item { size, ..ITEM }];
@@ -196,7 +197,7 @@ fn serves(alloc: Global, unit: Unit, row: &Asked) -> bool {
     *told == code && piece.len() == expected && is_piece(piece, offset as usize, known)
 }
 
-/// Whether these are so many bytes of the image from an offset on, and zeros after them.
+/// Whether a piece is `known` bytes of the image from an offset on, and zeros after them.
 fn is_piece(piece: &[u8], offset: usize, known: usize) -> bool {
     for (place, byte) in piece.iter().enumerate() {
         let expected = if place < known {

@@ -1,4 +1,4 @@
-//! Whole updates, what is wished on the way, and how updates fail.
+//! Whole updates, the pending commands during them, and how updates fail.
 
 use crate::session::packages::{Draft, Item, file};
 use crate::session::situations::{
@@ -11,7 +11,7 @@ use std::alloc::Global;
 use std::test::Fail;
 use ua_core::{Cause, Lent, Session, SessionState};
 
-/// Nine components, one more than a plan has.
+/// Nine components, one more than the most of a plan.
 static NINE: [Item<'static>; 9] = [
     Item {
         key: (10, 1),
@@ -51,7 +51,7 @@ static NINE: [Item<'static>; 9] = [
     },
 ];
 
-/// The first so many of the nine components.
+/// The first `count` of the nine components.
 fn first(count: usize) -> Draft<'static> {
     Draft {
         set_text: b"A",
@@ -59,7 +59,7 @@ fn first(count: usize) -> Draft<'static> {
     }
 }
 
-/// Leads an update to its end.
+/// Runs an update to its end.
 fn finish(session: &mut Session, lent: &Lent<'_>) {
     for _ in 0..60 {
         go_on(session, lent);
@@ -78,7 +78,7 @@ fn has_recorded(session: &Session, from: usize, package: usize) -> bool {
     true
 }
 
-/// Whether an update of the first so many components records each of them.
+/// Whether an update of the first `count` components records each of them.
 fn records_all(alloc: Global, count: usize) -> bool {
     let bytes = file(first(count));
     let Ok(package) = Package::read(bytes.as_slice()) else {
@@ -100,7 +100,7 @@ fn a_whole_update_records_every_component(rt: HostRuntime) {
     }
 }
 
-/// Whether an update of eight components starts, however many records there are, and records them.
+/// Whether an update of eight components starts, whatever the number of records, and records them.
 fn records_eight(session: &mut Session, lent: &Lent<'_>, number: usize) -> bool {
     let before = session.records().len();
     if session.start(number).is_err() {
@@ -127,7 +127,8 @@ fn a_session_starts_with_a_hundred_records(rt: HostRuntime) -> Result<(), Fail> 
     Ok(())
 }
 
-/// The response codes for both components, how many are then updated, and the last of them.
+/// The response codes for both components, the number of components that are then updated, and the
+/// last of them.
 static RESPONSES: [(u8, u8, usize, usize); 7] = [
     (0, 0, 2, 1),
     (0, 6, 1, 0),
@@ -172,7 +173,8 @@ fn only_what_is_to_be_done_is_updated(rt: HostRuntime) -> Result<(), Fail> {
     Ok(())
 }
 
-/// Whether a session at this unit that was led on so many times wishes the command that is written so; none, if no bytes are given.
+/// Whether a session at this unit after `turns` turns has the pending command with this encoding;
+/// none, if no bytes are given.
 fn wishes(alloc: Global, unit: Unit, lent: &Lent<'_>, turns: usize, expected: &[u8]) -> bool {
     let session = session_at(alloc, unit, lent, turns);
     let Some(command) = session.wish(lent) else {
@@ -184,7 +186,7 @@ fn wishes(alloc: Global, unit: Unit, lent: &Lent<'_>, turns: usize, expected: &[
     command.is_writable() && command.code() == *code && write(&command).as_slice() == fields
 }
 
-/// The numbers of turns, and the command that is wished then.
+/// The numbers of turns, and the pending command then.
 static WISHES: [(usize, &[u8]); 11] = [
     (0, &[0x01]),
     (1, &[0x02]),
@@ -209,7 +211,7 @@ static WISHES: [(usize, &[u8]); 11] = [
     (15, &[0x1A, 1]),
 ];
 
-/// The fourth of them at the unit of 128 bytes: 496 bytes at once.
+/// The fourth of them at the unit of 128 bytes, with transfer size 496.
 const LONG_REQUEST: [u8; 13] = [0x10, 240, 1, 0, 0, 2, 0, 1, 0, 0, 1, 1, b'A'];
 
 #[test]
@@ -227,7 +229,7 @@ fn wishes_each_command_with_its_fields(rt: HostRuntime) -> Result<(), Fail> {
     Ok(())
 }
 
-/// The number of components, the turns, and the flag of the table entry that is wished then.
+/// The number of components, the turns, and the flag of the pending table entry then.
 static FLAGS: [(usize, usize, TransferFlag); 4] = [
     (1, 4, TransferFlag::StartAndEnd),
     (3, 4, TransferFlag::Start),
@@ -235,7 +237,7 @@ static FLAGS: [(usize, usize, TransferFlag); 4] = [
     (3, 6, TransferFlag::End),
 ];
 
-/// Whether the table entry that is wished after so many turns has this flag.
+/// Whether the table entry that is pending after `turns` turns has this flag.
 fn has_flag(alloc: Global, count: usize, turns: usize, flag: TransferFlag) -> bool {
     let bytes = file(first(count));
     let Ok(package) = Package::read(bytes.as_slice()) else {
@@ -258,7 +260,7 @@ fn the_table_has_a_first_a_middle_and_a_last_entry(rt: HostRuntime) {
     }
 }
 
-/// Where an answer, or one that is malformed, leads that comes after so many turns.
+/// The state after an answer, or a malformed one, that is received after `turns` turns.
 fn led_by(alloc: Global, lent: &Lent<'_>, turns: usize, code: Option<u8>) -> SessionState {
     let mut session = session_after(alloc, lent, turns);
     match code {
@@ -268,7 +270,8 @@ fn led_by(alloc: Global, lent: &Lent<'_>, turns: usize, code: Option<u8>) -> Ses
     session.state()
 }
 
-/// Whether refusals and a malformed answer after so many turns, in this state, lead where they are to.
+/// Whether refusals and a malformed answer after `turns` turns, in this state, lead to the expected
+/// states.
 fn asks_again(alloc: Global, lent: &Lent<'_>, turns: usize, state: SessionState) -> bool {
     for code in &[1u8, 4, 0x80, 0x81, 0x84] {
         let after = match (state, *code) {
@@ -286,7 +289,7 @@ fn asks_again(alloc: Global, lent: &Lent<'_>, turns: usize, state: SessionState)
         && led_by(alloc, lent, turns, None) == SessionState::Failed(Cause::Answer)
 }
 
-/// The turns that lead to each state of one component's update that wishes a command.
+/// The numbers of turns before each state of one component's update with a pending command.
 static WISHING: [(usize, SessionState); 7] = [
     (0, SessionState::Query),
     (1, SessionState::Params),
@@ -311,7 +314,8 @@ fn asks_again_where_the_device_is_not_ready(rt: HostRuntime) -> Result<(), Fail>
     Ok(())
 }
 
-/// Whether the descriptors of a device, whose vendor's identifier has these bytes, lead there.
+/// Whether the descriptors of a device, whose vendor's identifier has these bytes, lead to this
+/// state.
 fn leads(alloc: Global, draft: Draft<'_>, vendor: &[u8; 2], state: SessionState) -> bool {
     let bytes = file(draft);
     let Ok(package) = Package::read(bytes.as_slice()) else {
@@ -323,7 +327,7 @@ fn leads(alloc: Global, draft: Draft<'_>, vendor: &[u8; 2], state: SessionState)
     session.state() == state
 }
 
-/// How many components the package has, the vendor's identifier, and where they lead.
+/// The number of the package's components, the vendor's identifier, and the state after it.
 static NAMED: [(usize, [u8; 2], SessionState); 4] = [
     (1, [0x34, 0x12], SessionState::Params),
     (1, [0x34, 0x13], SessionState::Failed(Cause::NoRecord)),

@@ -1,18 +1,18 @@
-//! What an answerer gives again, and until when.
+//! The answers that an answerer keeps for repeated requests, and how long.
 
 use super::answer_to;
 use mctp_reasm::Message;
 use mctp_wire::Unit;
 use pldm_exch::{Answerer, Asked};
 
-/// A step of a row.
+/// A step of a case.
 #[derive(Clone, Copy)]
 enum Step {
     /// The answer to the request of this tag and identifier is kept, with this field.
     Keep(u8, u8, u8),
-    /// The request of this tag and identifier comes: the field of the answer that comes again, if any.
+    /// The request of this tag and identifier is received: the field of the kept answer, if any.
     Ask(u8, u8, Option<u8>),
-    /// So many ticks pass.
+    /// This number of ticks passes.
     Ticks(u32),
 }
 
@@ -24,7 +24,7 @@ fn request(tag: u8, identifier: u8) -> Option<Message> {
     Message::new(Unit::U64, 9, 8, true, tag % 8, &bytes).ok()
 }
 
-/// Whether the request of a tag and an identifier is answered again with this field, or is new.
+/// Whether the request of a tag and an identifier gets the kept answer with this field, or is new.
 fn asks(answerer: &Answerer, tag: u8, identifier: u8, wanted: Option<u8>) -> bool {
     let Some(request) = request(tag, identifier) else {
         return false;
@@ -45,7 +45,7 @@ fn keep(answerer: &mut Answerer, tag: u8, identifier: u8, field: u8) {
     }
 }
 
-/// Whether these steps hold on an answerer that keeps nothing.
+/// Whether the steps hold for an answerer without kept answers.
 fn hold(steps: &[Step]) -> bool {
     let mut answerer = Answerer::new();
     for step in steps {

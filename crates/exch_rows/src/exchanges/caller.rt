@@ -1,4 +1,4 @@
-//! What a caller says, call by call.
+//! The requests of a caller, call by call.
 
 use super::answer_to;
 use mctp_reasm::Message;
@@ -13,7 +13,7 @@ struct Run {
 }
 
 impl Run {
-    /// No request was begun.
+    /// Creates a caller before the first request.
     fn new() -> Run {
         Run {
             caller: Caller::new(8, 9),
@@ -21,9 +21,10 @@ impl Run {
         }
     }
 
-    /// Makes a call: `b` begins a request, `a` hears the answer to the last one, `x` does both, `c` gives it up and `t`
-    /// is a tick. What a tick sends is answered by `S`, or `?` where it isn't the request, giving up by `G`, an answer
-    /// that isn't heard by `-`, and anything else by the state after it.
+    /// Makes a call: `b` begins a request, `a` gives it the answer to the last one, `x` does both,
+    /// `c` abandons it and `t` is a tick. The result is `S` for a tick that sends the last request,
+    /// `?` for one that sends another message, `G` if the caller gives up, `-` for an answer that
+    /// isn't accepted, `!` for a call that isn't possible, and otherwise the state afterwards.
     fn call(&mut self, call: u8) -> u8 {
         match call {
             b'b' => self.begin(),
@@ -40,7 +41,7 @@ impl Run {
         }
     }
 
-    /// Begins a request, where one may begin.
+    /// Begins a request, if one may begin.
     fn begin(&mut self) -> u8 {
         if !self.caller.can_begin() {
             return b'!';
@@ -49,7 +50,7 @@ impl Run {
         self.state()
     }
 
-    /// Hears the answer to the last request.
+    /// Gives the caller the answer to the last request.
     fn hear(&mut self) -> u8 {
         let Some(request) = &self.request else {
             return b'!';
@@ -63,7 +64,7 @@ impl Run {
         self.state()
     }
 
-    /// A tick passes.
+    /// Passes a tick.
     fn tick(&mut self) -> u8 {
         match self.caller.tick() {
             CallTick::Nothing => self.state(),
@@ -73,7 +74,7 @@ impl Run {
         }
     }
 
-    /// Whether the message that is to be sent again is that of the last request.
+    /// Whether the message to send again is that of the last request.
     fn repeats(&self) -> bool {
         match (self.caller.open_message(), &self.request) {
             (Some(again), Some(request)) => again.bytes() == request.bytes(),
@@ -81,7 +82,8 @@ impl Run {
         }
     }
 
-    /// How it stands: `o` for an open request, `m` where one may begin, `q` where it is quiet and `w` where it waits.
+    /// The state: `o` for an open request, `m` if one may begin, `q` if it is quiet and `w` if it
+    /// waits.
     fn state(&self) -> u8 {
         if self.caller.is_open() {
             b'o'
@@ -95,10 +97,10 @@ impl Run {
     }
 }
 
-/// Calls, how many times they are made, and what they give each time.
+/// Calls, the number of repetitions, and the expected result of each.
 type Turns<'a> = (&'a [u8], u32, &'a [u8]);
 
-/// Whether calls on a caller give what they are to.
+/// Whether calls on a caller have their expected results.
 fn give(run: &mut Run, turns: &[Turns<'_>]) -> bool {
     for &(calls, times, wanted) in turns {
         for _ in 0..times {
@@ -171,7 +173,8 @@ fn eight_requests_leave_the_rests_33_to_40(rt: HostRuntime) {
     assert!(rt; eight_requests_rest());
 }
 
-/// What the third request, of tag 2 and identifier 2, hears in a message under a tag: the last byte of an answer.
+/// The answer that the third request, of tag 2 and identifier 2, accepts from a message under a
+/// tag: its last byte.
 fn heard(to: bool, tag: u8, bytes: &[u8]) -> Option<u8> {
     let mut run = Run::new();
     for call in b"xxb" {
@@ -186,7 +189,7 @@ fn heard(to: bool, tag: u8, bytes: &[u8]) -> Option<u8> {
     }
 }
 
-/// A situation: TO and the tag of a message, its bytes, and what is heard.
+/// A case: TO and the tag of a message, its bytes, and the accepted answer.
 type Row<'a> = (&'a str, bool, u8, [u8; 5], Option<u8>);
 
 static MESSAGES: [Row<'static>; 9] = [

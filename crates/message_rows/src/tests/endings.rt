@@ -1,4 +1,4 @@
-//! A cancel that meets a completion, and an update at the greater unit.
+//! A cancel at the same time as a completion, and an update at the greater transmission unit.
 
 use crate::tests::packages::{file, package};
 use crate::tests::seeing::{
@@ -19,12 +19,13 @@ use std::alloc::Global;
 use std::test::Fail;
 use ua_core::SessionState;
 
-/// Whether the first image runs, nothing is applied and nothing recorded.
+/// Whether the first image is active, no image is applied and nothing is recorded.
 fn is_as_before(world: &Small<'_>) -> bool {
     runs_first(world) && applied(world, KEY).is_empty() && records(world).is_empty()
 }
 
-/// Whether a cancel at ApplyComplete has it refused, and these steps then end the update without a record.
+/// Whether ApplyComplete is refused if the update is cancelled then, and these steps then end the
+/// update without a record.
 fn is_refused_late(
     alloc: Global,
     packages: &[Package<'_>],
@@ -47,7 +48,7 @@ fn is_refused_late(
 fn a_stale_completion_records_nothing(rt: HostRuntime) -> Result<(), Fail> {
     let one = file(rt.alloc())?;
     let packages = [package(&one)?];
-    // the device learns the refusal, or is cancelled before
+    // the device gets the refusal, or is cancelled before
     let rows: [&[MessageStep]; 2] = [
         &[LEARN_UP, ASK_DOWN, TAKE_BUSY, LEARN_DOWN],
         &[ASK_DOWN, TAKE_BUSY, LEARN_DOWN, DROP_UP],

@@ -1,4 +1,4 @@
-//! What is lost: commands and answers that nobody waits for any longer, and memory.
+//! Losses: commands and answers that nobody waits for any longer, and refused memory.
 
 use crate::tests::packages::{file, package};
 use crate::tests::seeing::{
@@ -22,7 +22,8 @@ fn is_done(world: &Small<'_>) -> bool {
     stands(world, State::Activate, SessionState::Done)
 }
 
-/// Whether the session has failed where its asker gives up, these steps then empty the cell, and a next update is done.
+/// Whether the session fails if its asker gives up, these steps then empty the cell, and a next
+/// update is done.
 fn fails_and_goes_on(
     alloc: Global,
     packages: &[Package<'_>],
@@ -49,10 +50,12 @@ fn a_session_fails_when_its_asker_gives_up(rt: HostRuntime) -> Result<(), Fail> 
     Ok(())
 }
 
-/// The worked steps that take memory: Start, the verdict ApplyOk, and the Takes of ApplyComplete and of ActivateFirmware.
+/// The worked steps that allocate: Start, the verdict ApplyOk, and the Takes of ApplyComplete and
+/// of ActivateFirmware.
 const NEEDY: [usize; 4] = [0, APPLY, COMPLETE_ASKED, ACTIVATING + 1];
 
-/// Whether a worked step is taken, at once or, where it takes memory, that is refused and nothing changes, at the second try.
+/// Whether a worked step is taken, at once or, if memory is refused and nothing changes, at the
+/// second try.
 fn takes_again(world: &mut Small<'_>, number: usize, step: MessageStep) -> bool {
     let before = look_at(world);
     match replay(world, &[step]) {
@@ -64,7 +67,7 @@ fn takes_again(world: &mut Small<'_>, number: usize, step: MessageStep) -> bool 
     }
 }
 
-/// The worked device's world, which it joins at once or at the second try.
+/// The world with the worked device, which joins it at once or at the second try.
 fn joined<'a>(alloc: Global, packages: &'a [Package<'a>]) -> Result<Small<'a>, MessageStepFault> {
     let mut world = opening(alloc, packages);
     if join(alloc, &mut world, DEVICE).is_err() {
@@ -73,7 +76,7 @@ fn joined<'a>(alloc: Global, packages: &'a [Package<'a>]) -> Result<Small<'a>, M
     Ok(world)
 }
 
-/// Takes the worked steps until the device's bank fails, if it does and has answered so. Whether each is taken.
+/// Takes the worked steps until the device's bank fails, if it does. Returns whether each is taken.
 fn takes_until_failed(world: &mut Small<'_>) -> bool {
     for (number, step) in worked().iter().enumerate() {
         if !takes_again(world, number, *step) {
@@ -86,7 +89,7 @@ fn takes_until_failed(world: &mut Small<'_>) -> bool {
     true
 }
 
-/// Whether the one failure of the bank has failed the update, and the next one goes well.
+/// Whether the one failure of the bank has failed the update, and the next update is done.
 fn is_failed_and_goes_on(world: &mut Small<'_>) -> bool {
     let failed = SessionState::Failed(Cause::Answer);
     failures(world) == 1
@@ -95,7 +98,8 @@ fn is_failed_and_goes_on(world: &mut Small<'_>) -> bool {
         && takes_worked(world, WHOLE)
 }
 
-/// Whether the worked update is done, the device runs its image, and that is recorded.
+/// Whether the worked update is done, the device's active image is the new one, and that is
+/// recorded.
 fn is_updated(world: &Small<'_>) -> bool {
     is_done(world)
         && is_worked_image(active(world, KEY))
@@ -104,7 +108,7 @@ fn is_updated(world: &Small<'_>) -> bool {
         && happened(world, b"ARV")
 }
 
-/// The worked update of forty steps. Holds whichever single allocation is refused.
+/// The worked update of forty steps. Whichever single allocation is refused, the test holds.
 #[test]
 fn refused_memory_leaves_the_world(rt: HostRuntime) -> Result<(), Fail> {
     let bytes = match file(rt.alloc()) {

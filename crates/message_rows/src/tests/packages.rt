@@ -3,8 +3,8 @@
 use fw_package::{Package, PackageFault};
 use std::alloc::{AllocError, Global};
 
-/// The header of the worked package: one record of the descriptor 0000 with data 34 12, set text `A`, and component (10, 1)
-/// with stamp 2, options 0002, text `v2` and 241 bytes.
+/// The header of the worked package: one record of the descriptor 0000 with data 34 12, set text
+/// `A`, and component (10, 1) with stamp 2, options 0002, text `v2` and 241 bytes.
 const HEADER: &[u8] = &[
     0xF0, 0x18, 0x87, 0x8C, 0xCB, 0x7D, 0x49, 0x43, 0x98, 0, 0xA0, 0x2F, 0x05, 0x9A, 0xCA, 0x02,
     0x01, 0x56, 0, 0, 0, 0, 0, 0, 0, 0, 0, 0, 0, 0, 0, 0, 0x08, 0, 0x01, 0, 0x01, 0x13, 0, 0x01, 0,
@@ -23,7 +23,7 @@ pub fn file(alloc: Global) -> Result<Vec<u8>, AllocError> {
     Ok(out)
 }
 
-/// `Package::read`: the proofs of the tests need nothing of its contract.
+/// `Package::read`; its contract isn't needed in the proofs of the tests.
 pub fn package(bytes: &[u8]) -> Result<Package<'_>, PackageFault> {
     Package::read(bytes)
 }

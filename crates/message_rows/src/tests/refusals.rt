@@ -1,4 +1,4 @@
-//! Steps that aren't taken.
+//! Steps that are refused.
 
 use crate::tests::packages::{file, package};
 use crate::tests::seeing::look_at;
@@ -15,10 +15,11 @@ use fw_package::Package;
 use std::alloc::Global;
 use std::test::Fail;
 
-/// A situation, by how many of the worked steps and which others lead to it, and a step that isn't taken there.
+/// A case: the number of worked steps and the other steps that lead to it, and a step that is
+/// refused there.
 type Row<'a> = (&'a str, usize, &'a [MessageStep], MessageStep);
 
-/// Cells that aren't empty, or nothing that is wished.
+/// Cells that aren't empty, and no pending command.
 const ASKS: [Row<'static>; 12] = [
     ("the session wishes nothing", 0, &[], ASK_DOWN),
     ("the device wishes nothing", 0, &[], ASK_UP),
@@ -34,7 +35,7 @@ const ASKS: [Row<'static>; 12] = [
     ("the device gave up", DATA_ASKED, &[GIVE_UP_UP], ASK_UP),
 ];
 
-/// Cells that hold nothing to be taken, and devices that aren't quiet.
+/// Cells without a command to take, and devices that aren't quiet.
 const TAKES: [Row<'static>; 13] = [
     ("no update", 0, &[], TAKE_DOWN),
     ("no update, not quiet", 0, &[], TAKE_BUSY),
@@ -66,7 +67,7 @@ const TAKES: [Row<'static>; 13] = [
     ),
 ];
 
-/// Cells without an answer that anybody waits for.
+/// Cells without an answer that somebody waits for.
 const LEARNS: [Row<'static>; 10] = [
     ("no update", 0, &[], LEARN_DOWN),
     ("no update, up", 0, &[], LEARN_UP),
@@ -90,7 +91,7 @@ const LEARNS: [Row<'static>; 10] = [
     ),
 ];
 
-/// Nothing to give up, nothing to drop, nobody to wait.
+/// Nothing to give up, nothing to drop, and nobody waiting.
 const ENDS: [Row<'static>; 17] = [
     ("an empty cell", 0, &[], GIVE_UP_DOWN),
     ("an empty cell, up", 0, &[], GIVE_UP_UP),
@@ -145,7 +146,7 @@ const CALLS: [Row<'static>; 15] = [
     ("in Cancelling", ALL_APPLIED, &[CANCEL], ACTIVATE),
 ];
 
-/// Whether a replay stops at this step for this cause, and leaves the world as it was.
+/// Whether a replay stops at this step for this cause, and leaves the world unchanged.
 fn is_refused(
     alloc: Global,
     packages: &[Package<'_>],
@@ -159,7 +160,7 @@ fn is_refused(
     Ok(stops && look_at(&world) == before)
 }
 
-/// Whether a replay stops at the step of this number for this cause.
+/// Whether a replay stops at step `number` for this cause.
 fn stops(
     world: &mut Small<'_>,
     steps: &[MessageStep],
@@ -192,7 +193,7 @@ fn refused_steps_leave_the_world(rt: HostRuntime) -> Result<(), Fail> {
     Ok(())
 }
 
-/// Steps of each kind of a device, and one of no node.
+/// Steps of each kind of a device, and one of an unknown node.
 fn of_device(eid: u8) -> [MessageStep; 19] {
     [
         MessageStep::Ask(eid, Way::Down),
@@ -217,7 +218,7 @@ fn of_device(eid: u8) -> [MessageStep; 19] {
     ]
 }
 
-/// Whether all steps of a device of this identifier are refused behind so many of the worked steps.
+/// Whether all steps of a device with this identifier are refused after the first worked steps.
 fn is_no_device(
     alloc: Global,
     packages: &[Package<'_>],
@@ -245,7 +246,7 @@ fn a_step_of_no_device_is_known_before_all_else(rt: HostRuntime) -> Result<(), F
     Ok(())
 }
 
-/// Whether replays stop at the first step that is refused, and the world goes on from there.
+/// Whether replays stop at the first step that is refused, and the world continues from there.
 fn stop_there(alloc: Global, packages: &[Package<'_>]) -> Result<bool, Fail> {
     let mut alone = opening(alloc, packages);
     let steps = [RESTART_AGENT, START, START];

@@ -1,4 +1,4 @@
-//! What is seen of a world, and what is to be seen of it.
+//! Observations of a world, and their expected values.
 
 use crate::tests::setup::{KEY, SECOND, Small};
 use crate::tests::steps::DEVICE;
@@ -7,22 +7,22 @@ use fw_message::{CellContent, Entry, HistoryEvent, Way};
 use fwup_wire::Answer;
 use ua_core::{Recorded, SessionState};
 
-/// Whether the worked device and its session stand there.
+/// Whether the worked device and its session are in these states.
 pub fn stands(world: &Small<'_>, device: State, session: SessionState) -> bool {
     state_of(world) == Some((device, session))
 }
 
-/// Where the worked device and its session stand.
+/// The states of the worked device and its session.
 fn state_of(world: &Small<'_>) -> Option<(State, SessionState)> {
     let device = world.device(DEVICE)?;
     let session = world.session(DEVICE)?;
     Some((device.state(), session.state()))
 }
 
-/// A cell: the code of its command, that of its answer, and whether its asker waits.
+/// A cell: the code of its command, the code of its answer, and whether its asker waits.
 pub type Cell = Option<(u8, Option<u8>, bool)>;
 
-/// What the cell of a way of the worked device holds.
+/// The content of the cell of a way of the worked device.
 pub fn cell_of(world: &Small<'_>, way: Way) -> Cell {
     let held = world.cell(DEVICE, way)?;
     Some((held.command().code(), answer_code(held), held.is_live()))
@@ -36,11 +36,12 @@ fn answer_code(held: &CellContent<'_>) -> Option<u8> {
     }
 }
 
-/// A component's image that runs and the one that is applied: their bytes counted, and summed up by place.
+/// A component's active and applied image: the number of bytes, and a sum over bytes and positions.
 type Images = [(usize, usize); 2];
 
-/// What is seen of the worked device and its session without memory: where they stand, what the device has transferred, both
-/// cells, the images of both components, how often the bank failed, and how much was recorded and happened.
+/// An observation of the worked device and its session that needs no memory: their states, the
+/// transferred bytes, both cells, the images of both components, the bank's failures, and the
+/// numbers of records and history entries.
 pub type Glance = (
     Option<(State, SessionState)>,
     Option<(Option<Progress>, Option<(Key, u32)>, u64)>,
@@ -49,7 +50,7 @@ pub type Glance = (
     [usize; 2],
 );
 
-/// What is seen of the worked device now.
+/// Returns the observation of the worked device now.
 pub fn look_at(world: &Small<'_>) -> Glance {
     let transferred = match world.device(DEVICE) {
         Some(device) => Some((device.progress(), device.staged(), device.bank().failures())),
@@ -79,13 +80,14 @@ fn size_and_sum(bytes: &[u8]) -> (usize, usize) {
     (bytes.len(), sum)
 }
 
-/// What happened with the worked device, a letter each: A image applied, R component 0 of package 1 recorded, V activated; a
-/// question mark where an image isn't the worked one of the worked component.
+/// Returns whether the history of the worked device is these letters: A image applied, R component
+/// 0 of package 1 recorded, V activated; a question mark if an image isn't the worked one of the
+/// worked component.
 pub fn happened(world: &Small<'_>, letters: &[u8]) -> bool {
     world.history().len() == letters.len() && happened_last(world, letters)
 }
 
-/// Whether that is what happened last.
+/// Returns whether the history ends with these letters.
 pub fn happened_last(world: &Small<'_>, letters: &[u8]) -> bool {
     let before = world.history().len().saturating_sub(letters.len());
     let last = world.history().get(before..).unwrap_or(&[]);
@@ -117,7 +119,7 @@ fn is_worked(entry: &Entry<'_>, key: Key, bytes: &[u8]) -> bool {
     entry.device == DEVICE && key == KEY && is_worked_image(bytes)
 }
 
-/// Whether these are 241 bytes and byte i is i mod 256.
+/// Returns whether the bytes are 241, and byte i is i mod 256.
 pub fn is_worked_image(bytes: &[u8]) -> bool {
     for (place, byte) in bytes.iter().enumerate() {
         if usize::from(*byte) != place % 256 {
@@ -135,7 +137,7 @@ fn bank<'w>(world: &'w Small<'_>) -> Option<&'w MemBank> {
     }
 }
 
-/// The image that runs for a component of the worked device; empty where there is none.
+/// Returns the active image of a component of the worked device, or an empty one.
 pub fn active<'w>(world: &'w Small<'_>, key: Key) -> &'w [u8] {
     let Some(bank) = bank(world) else {
         return &[];
@@ -146,7 +148,7 @@ pub fn active<'w>(world: &'w Small<'_>, key: Key) -> &'w [u8] {
     }
 }
 
-/// The image that is applied for a component of the worked device; empty where there is none.
+/// Returns the applied image of a component of the worked device, or an empty one.
 pub fn applied<'w>(world: &'w Small<'_>, key: Key) -> &'w [u8] {
     let Some(bank) = bank(world) else {
         return &[];
@@ -157,12 +159,12 @@ pub fn applied<'w>(world: &'w Small<'_>, key: Key) -> &'w [u8] {
     }
 }
 
-/// Whether the image AA, with which it came, runs on the worked device.
+/// Returns whether the worked device's active image is AA, the first one.
 pub fn runs_first(world: &Small<'_>) -> bool {
     active(world, KEY) == [0xAA].as_slice()
 }
 
-/// What the agent recorded of the worked device.
+/// Returns the agent's records of the worked device.
 pub fn records<'w>(world: &'w Small<'_>) -> &'w [Recorded] {
     match world.session(DEVICE) {
         Some(session) => session.records(),
@@ -170,12 +172,13 @@ pub fn records<'w>(world: &'w Small<'_>) -> &'w [Recorded] {
     }
 }
 
-/// Whether the agent has the one record of the worked device that the first component of the first package gives.
+/// Returns whether the agent's only record of the worked device is the first component of the first
+/// package.
 pub fn has_first_record(world: &Small<'_>) -> bool {
     records(world) == [FIRST].as_slice()
 }
 
-/// How often the worked device's bank failed.
+/// Returns the number of failures of the worked device's bank.
 pub fn failures(world: &Small<'_>) -> u64 {
     match bank(world) {
         Some(bank) => bank.failures(),

@@ -1,4 +1,4 @@
-//! The worked devices and packages, and worlds of them.
+//! The worked devices and packages, and their worlds.
 
 ghost use Rattle.std.specs.Prelude.{◌≡◌, ◌∷◌, [], IfOk, map};
 ghost use Rattle.fd_core.specs.Components.{HasComponents};
@@ -12,10 +12,10 @@ use fwup_wire::{DescriptorList, DeviceDescriptor, TypedText, Version};
 use mctp_wire::Unit;
 use std::alloc::Global;
 
-/// The agent.
+/// The agent's endpoint identifier.
 pub const AGENT: u8 = 8;
 
-/// No node has this identifier.
+/// An identifier without a node.
 pub const NOBODY: u8 = 11;
 
 /// The worked device's component.
@@ -43,7 +43,7 @@ fn descriptors() -> DescriptorList {
     descriptors
 }
 
-/// Stamp 1, `1.0`.
+/// The label with stamp 1 and text `1.0`.
 fn label() -> Label {
     Label::new(&Version {
         stamp: 1,
@@ -54,7 +54,7 @@ fn label() -> Label {
     })
 }
 
-/// The worked device's bank: image AA.
+/// The worked device's bank, with image AA.
 fn bank_of_one(alloc: Global) -> Result<MemBank, BankFault>
     ensures { IfOk result (λ b. map key_of b.rows ≡ KEY ∷ []) }
 {
@@ -63,7 +63,7 @@ fn bank_of_one(alloc: Global) -> Result<MemBank, BankFault>
     Ok(bank)
 }
 
-/// The worked device at this unit.
+/// The worked device at this transmission unit.
 fn device_of_one(unit: Unit, bank: MemBank) -> Device<MemBank>
     requires { map key_of bank.rows ≡ KEY ∷ [] }
     ensures { HasComponents result.device }
@@ -73,12 +73,12 @@ fn device_of_one(unit: Unit, bank: MemBank) -> Device<MemBank>
     Device::new(unit, descriptors(), components, bank)
 }
 
-/// A worked device of this identifier, at the unit of 64 bytes, joins a world that has none.
+/// Adds a worked device with this identifier, at the unit of 64 bytes, to a world without it.
 pub fn join(alloc: Global, world: &mut Small<'_>, eid: u8) -> Result<(), MessageStepFault> {
     join_at(alloc, world, eid, Unit::U64)
 }
 
-/// The same at this unit.
+/// The same at this transmission unit.
 pub fn join_at(
     alloc: Global,
     world: &mut Small<'_>,
@@ -91,7 +91,7 @@ pub fn join_at(
     add(world, eid, device_of_one(unit, bank))
 }
 
-/// A device joins a world that has no node of its identifier.
+/// Adds a device to a world without a node of its identifier.
 fn add(world: &mut Small<'_>, eid: u8, device: Device<MemBank>) -> Result<(), MessageStepFault>
     requires { HasComponents device.device }
 {
@@ -101,7 +101,7 @@ fn add(world: &mut Small<'_>, eid: u8, device: Device<MemBank>) -> Result<(), Me
     world.add(eid, device)
 }
 
-/// The agent without devices.
+/// The world of the agent without devices.
 pub fn opening<'a>(alloc: Global, packages: &'a [Package<'a>]) -> Small<'a> {
     MessageWorld::new(alloc, AGENT, packages)
 }

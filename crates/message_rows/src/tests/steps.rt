@@ -6,7 +6,7 @@ use fw_message::{MessageStep, MessageStepFault, Side, Way, message_replay};
 use fw_package::Package;
 use std::alloc::Global;
 
-/// The worked device.
+/// The worked device's endpoint identifier.
 pub const DEVICE: u8 = 9;
 
 pub const ASK_DOWN: MessageStep = MessageStep::Ask(DEVICE, Way::Down);
@@ -45,35 +45,36 @@ pub const TIME_OUT_DEVICE: MessageStep = MessageStep::TimeOut(DEVICE, Side::Devi
 
 pub const RESTART_AGENT: MessageStep = MessageStep::Restart(AGENT);
 
-/// The device takes a command and is told that its own cell isn't empty.
+/// The device takes a command; its own cell isn't empty.
 pub const TAKE_BUSY: MessageStep = MessageStep::Take(DEVICE, Way::Down, false);
 
-/// The worked steps before the first is answered: Start, and what is asked.
+/// The number of worked steps before the first request is answered: Start and the request.
 pub const ASKED: usize = 2;
-/// Before it is learnt.
+/// The number before its answer is received.
 pub const ANSWERED: usize = 3;
-/// Before the first request for data.
+/// The number before the first request for data.
 pub const DOWNLOAD: usize = 19;
-/// Before it is answered.
+/// The number before that is answered.
 pub const DATA_ASKED: usize = 20;
-/// Before it is learnt.
+/// The number before its answer is received.
 pub const DATA_ANSWERED: usize = 21;
-/// Before the verdict ApplyOk.
+/// The number before the verdict ApplyOk.
 pub const APPLY: usize = 32;
-/// Behind it.
+/// The number after it.
 pub const APPLIED: usize = 33;
-/// Before ApplyComplete is answered.
+/// The number before ApplyComplete is answered.
 pub const COMPLETE_ASKED: usize = 34;
-/// Before Activate.
+/// The number before Activate.
 pub const ALL_APPLIED: usize = 36;
-/// Behind it.
+/// The number after it.
 pub const ACTIVATING: usize = 37;
-/// All of them.
+/// The number of all worked steps.
 pub const WHOLE: usize = 40;
 
-/// The forty steps of an update of one component of 241 bytes. Down go QueryDeviceIdentifiers, GetFirmwareParameters,
-/// CancelUpdate, RequestUpdate, PassComponentTable and UpdateComponent, and ActivateFirmware at the end; up go two
-/// RequestFirmwareData and TransferComplete, then VerifyComplete, then ApplyComplete.
+/// The forty steps of an update of one component of 241 bytes. The agent sends
+/// QueryDeviceIdentifiers, GetFirmwareParameters, CancelUpdate, RequestUpdate, PassComponentTable
+/// and UpdateComponent, and ActivateFirmware at the end. The device sends two RequestFirmwareData
+/// and TransferComplete, then VerifyComplete, then ApplyComplete.
 pub fn worked() -> [MessageStep; WHOLE] {
     let (a, b, c) = (ASK_DOWN, TAKE_DOWN, LEARN_DOWN);
     let (x, y, z) = (ASK_UP, TAKE_UP, LEARN_UP);
@@ -83,7 +84,8 @@ pub fn worked() -> [MessageStep; WHOLE] {
     ]
 }
 
-/// The steps of the same update at the unit of 128 bytes, where one RequestFirmwareData asks for all of the image.
+/// The steps of the same update at the unit of 128 bytes, where one RequestFirmwareData requests
+/// the whole image.
 pub fn worked_long() -> [MessageStep; 37] {
     let (a, b, c) = (ASK_DOWN, TAKE_DOWN, LEARN_DOWN);
     let (x, y, z) = (ASK_UP, TAKE_UP, LEARN_UP);
@@ -93,7 +95,7 @@ pub fn worked_long() -> [MessageStep; 37] {
     ]
 }
 
-/// `message_replay`: the proofs of the tests need nothing of its contract.
+/// `message_replay`; its contract isn't needed in the proofs of the tests.
 pub fn replay(
     world: &mut Small<'_>,
     steps: &[MessageStep],
@@ -101,17 +103,17 @@ pub fn replay(
     message_replay(world, steps)
 }
 
-/// Whether each of these steps is taken.
+/// Returns whether each step is taken.
 pub fn takes(world: &mut Small<'_>, steps: &[MessageStep]) -> bool {
     replay(world, steps).is_ok()
 }
 
-/// Whether each of so many of the worked steps is taken.
+/// Returns whether each of the first `count` worked steps is taken.
 pub fn takes_worked(world: &mut Small<'_>, count: usize) -> bool {
     takes(world, worked().get(..count).unwrap_or(&[]))
 }
 
-/// The worked device behind so many of the worked steps, and these.
+/// The world after the first worked steps, and then these.
 pub fn led<'a>(
     alloc: Global,
     packages: &'a [Package<'a>],
@@ -127,20 +129,20 @@ pub fn led<'a>(
     }
 }
 
-/// All that the worked device and its session may do next, with good verdicts.
+/// All steps that the worked device and its session may take next, with good verdicts.
 const ROUND: [MessageStep; 12] = [
     ASK_DOWN, TAKE_DOWN, TAKE_BUSY, LEARN_DOWN, DROP_DOWN, ASK_UP, TAKE_UP, LEARN_UP, DROP_UP,
     VERIFY_OK, APPLY_OK, ACTIVATE,
 ];
 
-/// Goes on with the worked device as long as it may take.
+/// Takes steps of the worked device as long as one is taken.
 pub fn go_on(world: &mut Small<'_>) {
     for _ in 0..40 {
         try_each(world, &ROUND);
     }
 }
 
-/// Each of these steps that may be taken.
+/// Takes each step that is allowed.
 fn try_each(world: &mut Small<'_>, steps: &[MessageStep]) {
     for step in steps {
         let _ = takes(world, &[*step]);

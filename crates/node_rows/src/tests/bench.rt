@@ -1,4 +1,4 @@
-//! An agent and a device on perfect links, and what is seen of them.
+//! An agent and a device on perfect links, and observations of them.
 
 use crate::tests::setup::{AGENT, DEVICE, KEY, device_node, endpoint};
 use fd_core::{Bank, MemBank, Progress, State, Verdict};
@@ -8,7 +8,8 @@ use mctp_wire::{RawPacket, Unit};
 use std::alloc::{AllocError, Global};
 use ua_core::SessionState;
 
-/// The devices' answers and requests of one command have this byte in their packet, where it was another.
+/// A fault of the links: in the device's answers and requests of one command, one byte of the
+/// packet is replaced by this one.
 #[derive(Clone, Copy)]
 pub struct Fault {
     pub command: u8,
@@ -17,7 +18,7 @@ pub struct Fault {
 }
 
 impl Fault {
-    /// It stands in this packet.
+    /// Applies the fault to a packet.
     fn put(&self, packet: &mut RawPacket) {
         if packet.get(1) != Some(&AGENT) || packet.get(7) != Some(&self.command) {
             return;
@@ -28,7 +29,8 @@ impl Fault {
     }
 }
 
-/// The agent, its first device, all packets that were sent so far, the number of those that were handed over, and the time.
+/// The agent, its first device, all packets sent so far, the number of those delivered, and the
+/// time.
 #[derive(Drop)]
 pub struct Bench<'p> {
     alloc: Global,
@@ -41,7 +43,7 @@ pub struct Bench<'p> {
     pub fault: Option<Fault>,
 }
 
-/// The packets of an outbox go behind those that were sent before.
+/// Appends the packets of an outbox to those sent before.
 fn collect(packets: &mut Vec<RawPacket>, outbox: &mut Outbox) -> Result<(), AllocError> {
     for _ in 0..64 {
         let Some(packet) = outbox.pop() else {
@@ -52,7 +54,7 @@ fn collect(packets: &mut Vec<RawPacket>, outbox: &mut Outbox) -> Result<(), Allo
     Ok(())
 }
 
-/// A packet comes to a device.
+/// Delivers a packet to a device.
 fn device_hears(
     alloc: Global,
     device: &mut DeviceNode<MemBank>,
@@ -85,7 +87,8 @@ fn verdict_of(device: &DeviceNode<MemBank>) -> Option<Verdict> {
 }
 
 impl<'p> Bench<'p> {
-    /// The agent of the worked device, and that device, at time 0, on a network of this transmission unit.
+    /// Creates the agent of the worked device, and that device, at time 0, on a network with this
+    /// transmission unit.
     pub fn new(
         alloc: Global,
         unit: Unit,
@@ -106,7 +109,8 @@ impl<'p> Bench<'p> {
         })
     }
 
-    /// Starts an update of the worked device with the first package. Whether it started.
+    /// Starts an update of the worked device with the first package, and returns whether it
+    /// started.
     pub fn start(&mut self) -> bool {
         if self.agent.session(DEVICE).is_none() {
             return false;
@@ -114,7 +118,7 @@ impl<'p> Bench<'p> {
         self.agent.start(self.packages, DEVICE, 1, self.now).is_ok()
     }
 
-    /// Where the session of the worked device stands.
+    /// Returns the state of the worked device's session.
     pub fn session(&self) -> SessionState {
         match self.agent.session(DEVICE) {
             Some(session) => session.state(),
@@ -122,7 +126,8 @@ impl<'p> Bench<'p> {
         }
     }
 
-    /// Whether the session is done, and the device runs the image of so many bytes: byte i is i modulo 256.
+    /// Returns whether the session is done, and the device's active image is the one of `size`
+    /// bytes: byte i is i modulo 256.
     pub fn is_updated(&self, size: usize) -> bool {
         let image = match self.device.device().bank().active(KEY) {
             Some((_, image)) => image,
@@ -145,7 +150,7 @@ impl<'p> Bench<'p> {
         device_ticks(self.alloc, &mut self.device, &mut self.packets)
     }
 
-    /// So many ticks, in which nothing is handed over.
+    /// Passes `count` ticks, in which nothing is delivered.
     pub fn ticks(&mut self, count: usize) -> Result<(), AllocError> {
         for _ in 0..count {
             self.tick()?;
@@ -153,7 +158,7 @@ impl<'p> Bench<'p> {
         Ok(())
     }
 
-    /// The bytes of a packet go to the agent, or else to the device.
+    /// Delivers the bytes of a packet to the agent, or else to the device.
     pub fn hand_over(&mut self, bytes: &[u8]) -> Result<(), AllocError> {
         if bytes.get(1) == Some(&AGENT) {
             let mut outbox = Outbox::new(self.alloc)?;
@@ -164,7 +169,8 @@ impl<'p> Bench<'p> {
         device_hears(self.alloc, &mut self.device, bytes, &mut self.packets)
     }
 
-    /// Hands a packet over. Whether these bytes go back, or nothing where there are none.
+    /// Delivers a packet, and returns whether these bytes are sent back, or nothing if there are
+    /// none.
     pub fn answers(&mut self, bytes: &[u8], answer: &[u8]) -> Result<bool, AllocError> {
         let before = self.packets.len();
         self.hand_over(bytes)?;
@@ -176,12 +182,12 @@ impl<'p> Bench<'p> {
         }
     }
 
-    /// Where the device stands.
+    /// Returns the device's state.
     pub fn state(&self) -> State {
         self.device.device().state()
     }
 
-    /// Whether the device runs the image that it had, AA.
+    /// Returns whether the device's active image is the first one, AA.
     pub fn runs_first(&self) -> bool {
         match self.device.device().bank().active(KEY) {
             Some((_, image)) => image == [0xAA].as_slice(),
@@ -189,7 +195,7 @@ impl<'p> Bench<'p> {
         }
     }
 
-    /// The next packet that wasn't handed over, with the fault of the links in it.
+    /// The next undelivered packet, with the fault of the links in it.
     fn next(&mut self) -> Option<RawPacket> {
         let packet = self.packets.get(self.delivered)?;
         let mut bytes = RawPacket::new();
@@ -201,7 +207,7 @@ impl<'p> Bench<'p> {
         Some(bytes)
     }
 
-    /// Hands each packet over, until none is left.
+    /// Delivers each packet, until none is left.
     pub fn deliver(&mut self) -> Result<(), AllocError> {
         for _ in 0..256 {
             let Some(bytes) = self.next() else {
@@ -212,7 +218,7 @@ impl<'p> Bench<'p> {
         Ok(())
     }
 
-    /// The verdicts and the activation that are due.
+    /// Takes the verdicts and the activation that are due.
     fn decide(&mut self) {
         if let Some(verdict) = verdict_of(&self.device) {
             let _ = self.device.verdict(verdict);
@@ -220,7 +226,7 @@ impl<'p> Bench<'p> {
         let _ = self.agent.activate(self.packages, DEVICE, self.now);
     }
 
-    /// So many turns: a tick, all packets, then what is due.
+    /// Takes `count` turns: a tick, all packets, then what is due.
     pub fn turns(&mut self, count: usize) -> Result<(), AllocError> {
         for _ in 0..count {
             self.tick()?;
@@ -230,7 +236,8 @@ impl<'p> Bench<'p> {
         Ok(())
     }
 
-    /// Whether the log's second and last record says that the update with package 1 failed at this time for this cause.
+    /// Returns whether the log's second and last record is that the update with package 1 failed at
+    /// this time for this cause.
     pub fn noted_failure(&mut self, time: u8, cause: u8) -> bool {
         let reply = self.agent.request(0x43, &[0, 0, 2, 0, 0, 0xFF], self.now);
         let want = [0xC1, time, 0, 0, 0, 0, 0, 0, 4, DEVICE, 1, 0, cause, 0];

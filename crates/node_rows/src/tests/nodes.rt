@@ -1,4 +1,4 @@
-//! Rows of packets and ticks.
+//! Cases of packets and ticks.
 
 use crate::tests::setup::{Event, device_fails};
 
@@ -7,10 +7,10 @@ const REQUEST_UPDATE: &[u8] = &[
     0x01, 9, 8, 0xC8, 0x01, 0x80, 0x05, 0x10, 0xF0, 0, 0, 0, 1, 0, 1, 0, 0, 1, 1, 0x41,
 ];
 
-/// It is taken.
+/// Its answer: accepted.
 const TAKEN: &[u8] = &[0x01, 8, 9, 0xC0, 0x01, 0, 0x05, 0x10, 0, 0, 0, 0];
 
-/// The device is in an update already.
+/// Its answer: the device is in an update already.
 const ALREADY: &[u8] = &[0x01, 8, 9, 0xC0, 0x01, 0, 0x05, 0x10, 0x81];
 
 /// The same with another identifier.
@@ -18,10 +18,10 @@ const REQUEST_OTHER: &[u8] = &[
     0x01, 9, 8, 0xC8, 0x01, 0x81, 0x05, 0x10, 0xF0, 0, 0, 0, 1, 0, 1, 0, 0, 1, 1, 0x41,
 ];
 
-/// The device is in an update already, to that identifier.
+/// The answer under that identifier: the device is in an update already.
 const ALREADY_OTHER: &[u8] = &[0x01, 8, 9, 0xC0, 0x01, 0x01, 0x05, 0x10, 0x81];
 
-/// A repeated request meets its kept answer.
+/// A repeated request gets its kept answer.
 const REPEATED: [Event<'static>; 6] = [
     Event::Packet(REQUEST_UPDATE, TAKEN),
     Event::Packet(REQUEST_UPDATE, TAKEN),

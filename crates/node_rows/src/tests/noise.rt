@@ -1,4 +1,5 @@
-//! Packets that look random, at both nodes: whatever comes, only replies go back, and an update still works afterwards.
+//! Pseudo-random packets, at both nodes: whatever arrives, only replies are sent back, and an
+//! update still works afterwards.
 
 use crate::tests::bench::Bench;
 use crate::tests::packages::{ONE, file, package};
@@ -7,10 +8,10 @@ use mctp_wire::{RawPacket, Unit};
 use std::alloc::AllocError;
 use std::test::Fail;
 
-/// How many packets come to each node.
+/// The number of packets for each node.
 const PACKETS: usize = 200_000;
 
-/// Numbers that look random, each run the same (xorshift, 64 bits).
+/// Pseudo-random numbers, the same in each run (xorshift, 64 bits).
 #[derive(Drop)]
 struct Dice {
     state: u64,
@@ -27,8 +28,9 @@ impl Dice {
     }
 }
 
-/// A packet to a node from its peer. One of four is nothing but random bytes; the others have a header, and three of four of
-/// these are whole messages, most of them requests of a type and with a command that there is.
+/// A packet to a node from its peer. One in four consists of random bytes only. The others have a
+/// header, and three in four of them are whole messages, most of them requests of a known type with
+/// a known command.
 fn noise(dice: &mut Dice, node: u8, peer: u8) -> RawPacket {
     let mut packet = RawPacket::new();
     let kind = dice.byte();
@@ -47,8 +49,8 @@ fn noise(dice: &mut Dice, node: u8, peer: u8) -> RawPacket {
     packet
 }
 
-/// Whether a packet is a node's answer to its peer: it is no request, and an answer of PLDM that begins in it has a code that
-/// DSP0240 or DSP0267 has.
+/// Whether a packet is a node's answer to its peer: it is not a request, and if a PLDM answer
+/// begins in it, its code is one of DSP0240 or DSP0267.
 fn is_answer(packet: &[u8], node: u8, peer: u8) -> bool {
     let [1, dest, source, flags, message_type, rest @ ..] = packet else {
         return false;
@@ -62,7 +64,8 @@ fn is_answer(packet: &[u8], node: u8, peer: u8) -> bool {
     *dest == peer && *source == node && flags & 0x08 == 0 && is_coded
 }
 
-/// So many packets come to a node; a tick passes after each eighth. How many answers went back; none where something else did.
+/// Delivers `PACKETS` packets to a node, with a tick after each eighth. Returns the number of
+/// answers, or none if anything else was sent back.
 fn answers(
     bench: &mut Bench<'_>,
     dice: &mut Dice,
@@ -87,7 +90,7 @@ fn answers(
     Ok(Some(count))
 }
 
-/// Whether an update over perfect links ends well once the nodes have come to rest.
+/// Whether an update over perfect links succeeds after the nodes have become quiet.
 fn still_updates(bench: &mut Bench<'_>) -> Result<bool, AllocError> {
     bench.ticks(300)?;
     bench.packets.clear();
@@ -97,7 +100,7 @@ fn still_updates(bench: &mut Bench<'_>) -> Result<bool, AllocError> {
     Ok(started && bench.is_updated(241))
 }
 
-/// Whether more than 10,000 answers, and nothing else, go back from each node.
+/// Whether more than 10,000 answers, and nothing else, are sent back from each node.
 fn answer_noise(bench: &mut Bench<'_>) -> Result<bool, AllocError> {
     let mut dice = Dice {
         state: 0x2545F4914F6CDD1D,

@@ -3,8 +3,8 @@
 use fw_package::{Package, PackageFault};
 use std::alloc::{AllocError, Global};
 
-/// The header of the worked package: one record of the descriptor 0000 with data 34 12, set text `A`, and component (10, 1)
-/// with stamp 2, options 0002, text `v2` and 241 bytes.
+/// The header of the worked package: one record of the descriptor 0000 with data 34 12, set text
+/// `A`, and component (10, 1) with stamp 2, options 0002, text `v2` and 241 bytes.
 pub const ONE: &[u8] = &[
     0xF0, 0x18, 0x87, 0x8C, 0xCB, 0x7D, 0x49, 0x43, 0x98, 0, 0xA0, 0x2F, 0x05, 0x9A, 0xCA, 0x02,
     0x01, 0x56, 0, 0, 0, 0, 0, 0, 0, 0, 0, 0, 0, 0, 0, 0, 0x08, 0, 0x01, 0, 0x01, 0x13, 0, 0x01, 0,
@@ -22,7 +22,7 @@ pub const LONG: &[u8] = &[
     0x6E, 0x15, 0xD3,
 ];
 
-/// The first with that component twice, which can't be planned.
+/// The first with that component twice, for which there is no plan.
 pub const TWICE: &[u8] = &[
     0xF0, 0x18, 0x87, 0x8C, 0xCB, 0x7D, 0x49, 0x43, 0x98, 0, 0xA0, 0x2F, 0x05, 0x9A, 0xCA, 0x02,
     0x01, 0x6E, 0, 0, 0, 0, 0, 0, 0, 0, 0, 0, 0, 0, 0, 0, 0x08, 0, 0x01, 0, 0x01, 0x13, 0, 0x01, 0,
@@ -37,7 +37,7 @@ pub fn file(alloc: Global, header: &[u8]) -> Result<Vec<u8>, AllocError> {
     file_of(alloc, header, 241)
 }
 
-/// The file of a header and an image of so many bytes: byte i is i modulo 256.
+/// The file of a header and an image of `size` bytes: byte i is i modulo 256.
 pub fn file_of(alloc: Global, header: &[u8], size: u32) -> Result<Vec<u8>, AllocError> {
     let mut out = Vec::new(alloc);
     out.extend_from_slice(header)?;
@@ -48,7 +48,7 @@ pub fn file_of(alloc: Global, header: &[u8], size: u32) -> Result<Vec<u8>, Alloc
     Ok(out)
 }
 
-/// `Package::read`: the proofs of the tests need nothing of its contract.
+/// `Package::read`; its contract isn't needed in the proofs of the tests.
 pub fn package(bytes: &[u8]) -> Result<Package<'_>, PackageFault> {
     Package::read(bytes)
 }

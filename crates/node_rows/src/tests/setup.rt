@@ -1,4 +1,4 @@
-//! The worked device and its agent, and how rows run on their nodes.
+//! The worked device and its agent, and how cases run on their nodes.
 
 use arrayvec::ArrayVec;
 use fd_core::{BankComponent, Device, Key, Label, MemBank};
@@ -21,12 +21,12 @@ pub const KEY: Key = Key {
     identifier: 1,
 };
 
-/// What happens to a node: a packet comes, or so many ticks pass in which it sends nothing.
+/// An event at a node: a packet, or a number of ticks in which it sends nothing.
 #[derive(Clone, Copy)]
 pub enum Event<'a> {
-    /// This packet comes, and these bytes go back, or nothing.
+    /// This packet arrives, and these bytes are sent back, or nothing.
     Packet(&'a [u8], &'a [u8]),
-    /// So many ticks pass, and nothing is sent.
+    /// This number of ticks passes, and nothing is sent.
     Quiet(usize),
 }
 
@@ -40,7 +40,8 @@ fn descriptors() -> DescriptorList {
     descriptors
 }
 
-/// The node of the worked device, on a network of this transmission unit: component (10, 1), stamp 1, `1.0`, image AA.
+/// The node of the worked device, on a network of this transmission unit: component (10, 1), stamp
+/// 1, `1.0`, image AA.
 pub fn device_node(alloc: Global, unit: Unit) -> Option<DeviceNode<MemBank>> {
     let label = Label::new(&Version {
         stamp: 1,
@@ -67,7 +68,7 @@ pub fn endpoint(eid: u8) -> Endpoint {
     }
 }
 
-/// Whether an outbox holds this one packet, or nothing where there are no bytes.
+/// Whether an outbox holds only this packet, or nothing if there are no bytes.
 fn holds(outbox: &mut Outbox, packet: &[u8]) -> bool {
     match outbox.pop() {
         Some(sent) => sent.as_slice() == packet && outbox.pop().is_none(),
@@ -75,7 +76,7 @@ fn holds(outbox: &mut Outbox, packet: &[u8]) -> bool {
     }
 }
 
-/// A packet comes to a device's node. Whether it sends this.
+/// Delivers a packet to a device's node, and returns whether it sends this one back.
 fn device_answers(
     alloc: Global,
     node: &mut DeviceNode<MemBank>,
@@ -89,7 +90,7 @@ fn device_answers(
     holds(&mut outbox, answer)
 }
 
-/// A tick of a device's node. Whether it sends nothing.
+/// Passes a tick of a device's node, and returns whether it sends nothing.
 fn device_is_quiet(alloc: Global, node: &mut DeviceNode<MemBank>) -> bool {
     let Ok(mut outbox) = Outbox::new(alloc) else {
         return false;
@@ -98,7 +99,7 @@ fn device_is_quiet(alloc: Global, node: &mut DeviceNode<MemBank>) -> bool {
     outbox.is_empty()
 }
 
-/// So many ticks of it. Whether it sends nothing.
+/// Passes `ticks` ticks of it, and returns whether it sends nothing.
 fn device_stays_quiet(alloc: Global, node: &mut DeviceNode<MemBank>, ticks: usize) -> bool {
     for _ in 0..ticks {
         if !device_is_quiet(alloc, node) {
@@ -108,7 +109,7 @@ fn device_stays_quiet(alloc: Global, node: &mut DeviceNode<MemBank>, ticks: usiz
     true
 }
 
-/// What happens in one row. Whether the device's node does as it says.
+/// Takes the event of a case, and returns whether the device's node does as expected.
 fn device_does(alloc: Global, node: &mut DeviceNode<MemBank>, event: &Event<'_>) -> bool {
     match event {
         Event::Packet(bytes, answer) => device_answers(alloc, node, bytes, answer),
@@ -116,7 +117,7 @@ fn device_does(alloc: Global, node: &mut DeviceNode<MemBank>, event: &Event<'_>)
     }
 }
 
-/// The number of the first row, from 1, that a device's node doesn't do; 0 where it does all.
+/// The number of the first case, from 1, that fails on a device's node; 0 if none does.
 pub fn device_fails(alloc: Global, events: &[Event<'_>]) -> usize {
     let Some(mut node) = device_node(alloc, Unit::U64) else {
         return 1;

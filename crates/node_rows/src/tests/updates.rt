@@ -1,4 +1,5 @@
-//! Updates by an agent and a device, with a fault in one of their packets, or a restart between them.
+//! Updates by an agent and a device, with a fault in one of their packets, or a restart between
+//! them.
 
 use crate::tests::bench::{Bench, Fault};
 use crate::tests::packages::{LONG, ONE, TWICE, file, file_of, package};
@@ -9,8 +10,8 @@ use std::alloc::{AllocError, Global};
 use std::test::Fail;
 use ua_core::{Cause, SessionState};
 
-/// An update that fails: the package's header; of which command the packets have at which place which byte; the cause; and the
-/// turn in which the update ends.
+/// An update that fails: the package's header; the command, the position and the byte of the fault
+/// in its packets; the cause; and the turn in which the update ends.
 type Row = (&'static [u8], (u8, usize, u8), Cause, u8);
 
 const FAILURES: [Row; 8] = [
@@ -24,7 +25,7 @@ const FAILURES: [Row; 8] = [
     (ONE, (0x18, 8, 0xB0), Cause::Apply, 11),
 ];
 
-/// Whether an update fails as its row says, which is noted.
+/// Whether an update fails as its case expects, which is noted.
 fn fails(alloc: Global, row: Row) -> Result<bool, Fail> {
     let (header, (command, place, value), cause, at) = row;
     let bytes = file(alloc, header)?;
@@ -52,13 +53,13 @@ fn each_failure_is_noted_with_its_cause(rt: HostRuntime) -> Result<(), Fail> {
 /// GetStatus to the device.
 const GET_STATUS: &[u8] = &[0x01, 9, 8, 0xC8, 0x01, 0x80, 0x05, 0x1B];
 
-/// Its answer of an idle device that started anew.
+/// Its answer from an idle device that restarted.
 const IDLE: &[u8] = &[
     0x01, 8, 9, 0xC0, 0x01, 0, 0x05, 0x1B, 0, 0, 0, 3, 0, 0x65, 0, 0, 0, 0, 0,
 ];
 
-/// Whether the device, which starts anew now, doesn't answer GetStatus 39 ticks later, and answers it one tick after that as an idle
-/// device.
+/// Restarts the device, and returns whether it doesn't answer GetStatus 39 ticks later, and answers
+/// it one tick after that as an idle device.
 fn is_deaf(bench: &mut Bench<'_>) -> Result<bool, AllocError> {
     bench.device.restart();
     bench.ticks(39)?;
@@ -68,7 +69,8 @@ fn is_deaf(bench: &mut Bench<'_>) -> Result<bool, AllocError> {
     Ok(unheard && heard)
 }
 
-/// Whether that is so of a device that loads an image, after 7 turns, and then runs its first one.
+/// Whether this holds for a device that loads an image, after 7 turns, and whether its first image
+/// is then active.
 fn restarts(bench: &mut Bench<'_>) -> Result<bool, AllocError> {
     let started = bench.start();
     bench.turns(7)?;
@@ -86,8 +88,9 @@ fn a_restarted_device_is_deaf_for_40_ticks(rt: HostRuntime) -> Result<(), Fail> 
     Ok(())
 }
 
-/// An update with an image of 497 bytes: the transmission unit; the transfer size that the agent names; the offsets and lengths of
-/// the pieces that the device asks for; the bytes of the longest packet, and how many packets and turns there are.
+/// An update with an image of 497 bytes: the transmission unit; the transfer size that the agent
+/// sends; the offsets and lengths of the pieces that the device requests; the size of the longest
+/// packet, and the numbers of packets and turns.
 #[derive(Clone, Copy)]
 struct Pieces {
     unit: Unit,
@@ -98,7 +101,8 @@ struct Pieces {
     turns: usize,
 }
 
-/// A piece has at most 16 bytes fewer than four packets carry, and at least 32; a packet has 4 bytes before those that it carries.
+/// A piece has at most 16 bytes less than four packets carry, and at least 32; a packet has 4 bytes
+/// before those that it carries.
 const AT_64: Pieces = Pieces {
     unit: Unit::U64,
     transfer_size: 240,
@@ -155,7 +159,8 @@ fn piece_in(packet: &[u8]) -> Option<(u32, u32)> {
     }
 }
 
-/// Whether one of these packets names that transfer size, they ask for those pieces, and the longest has so many bytes.
+/// Whether one of the packets has that transfer size, they request those pieces, and the longest
+/// has that size.
 fn are_as(packets: &[RawPacket], row: &Pieces) -> bool {
     let mut named: usize = 0;
     let mut asked: usize = 0;
@@ -178,7 +183,7 @@ fn are_as(packets: &[RawPacket], row: &Pieces) -> bool {
     (named, asked) == (1, row.asked.len()) && longest == row.longest && packets.len() == row.packets
 }
 
-/// Whether the update ends well in its last turn, by those packets.
+/// Whether the update succeeds in its last turn, with those packets.
 fn goes_by_pieces(alloc: Global, row: &Pieces) -> Result<bool, Fail> {
     let bytes = file_of(alloc, LONG, 497)?;
     let packages = [package(&bytes)?];

@@ -1,10 +1,10 @@
-//! Lines of packets, and the lines that answer them.
+//! Lines of packets, and the lines of their answers.
 
 use fwupd_base::answer_stream;
 use std::alloc::Global;
 use uuid::Uuid;
 
-/// A stream of lines to the device 9: what it shows, its text, and the answers' text.
+/// A stream of lines to the device 9: its name, its text, and the text of the answers.
 type Exchange<'a> = (&'a str, &'a [u8], &'a [u8]);
 
 static EXCHANGES: [Exchange<'static>; 13] = [
@@ -66,7 +66,7 @@ static EXCHANGES: [Exchange<'static>; 13] = [
     ),
 ];
 
-/// Whether the device 9 answers this text by these answers.
+/// Whether the answers of the device 9 to this text are these.
 fn is_answered(alloc: Global, text: &[u8], answers: &[u8]) -> bool {
     let mut reader = text;
     let mut written = Vec::new(alloc);

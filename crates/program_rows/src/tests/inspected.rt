@@ -1,11 +1,12 @@
-//! The package of two records and two components, inspected whole, changed and cut.
+//! The package of two records and two components, inspected as a whole, changed and cut off.
 
 use fw_package::PackageFault;
 use fwupd_base::{InspectFault, inspect};
 use std::alloc::Global;
 
-/// The package's header: bitmaps of 8 bits and the text `pkg`; records with the set texts `A` and `B`; component (10, 1) without
-/// a stamp and an image, and component (10, 2) with stamp 7, options 2 and an image of 300 bytes. Its checksum is computed apart.
+/// The package's header: bitmaps of 8 bits and the text `pkg`; records with the set texts `A` and
+/// `B`; component (10, 1) without a stamp and an image, and component (10, 2) with stamp 7, options
+/// 2 and an image of 300 bytes. Its checksum is computed by another program.
 static HEADER: [u8; 134] = [
     0xF0, 0x18, 0x87, 0x8C, 0xCB, 0x7D, 0x49, 0x43, 0x98, 0x00, 0xA0, 0x2F, 0x05, 0x9A, 0xCA, 0x02,
     0x01, 0x86, 0x00, 0x00, 0x00, 0x00, 0x00, 0x00, 0x00, 0x00, 0x00, 0x00, 0x00, 0x00, 0x00, 0x00,
@@ -18,7 +19,7 @@ static HEADER: [u8; 134] = [
     0x76, 0x32, 0x3C, 0xC8, 0x3D, 0x23,
 ];
 
-/// What is printed of the package.
+/// The output for the package.
 static TEXT: &[u8] = b"package header 134 records 2 components 2\n\
     record 1 flags 00000000 set \"A\" uses 1 2\n\
     descriptor 0000 3412\n\
@@ -27,7 +28,8 @@ static TEXT: &[u8] = b"package header 134 records 2 components 2\n\
     component 1 class 10 ident 1 stamp FFFFFFFF options 0000 offset 134 size 0 version \"v1\"\n\
     component 2 class 10 ident 2 stamp 00000007 options 0002 offset 134 size 300 version \"v2\"\n";
 
-/// The package with this first byte of the release time: its header, an image of 300 bytes, and 5 bytes more.
+/// The package with this first byte of the release time: its header, an image of 300 bytes, and 5
+/// bytes more.
 fn package(release: u8) -> [u8; 439] {
     let mut file = [0; 439];
     for (to, from) in file.iter_mut().zip(&HEADER) {
@@ -37,7 +39,8 @@ fn package(release: u8) -> [u8; 439] {
     file
 }
 
-/// A situation: the first byte of the release time, the length to which the file is cut, and the fault, if there is one.
+/// A case: the first byte of the release time, the length to which the file is cut, and the fault,
+/// if any.
 type Inspection<'a> = (&'a str, u8, usize, Option<PackageFault>);
 
 static INSPECTIONS: [Inspection<'static>; 5] = [
@@ -53,7 +56,8 @@ static INSPECTIONS: [Inspection<'static>; 5] = [
     ("the empty file", 0, 0, Some(PackageFault::Short)),
 ];
 
-/// Whether the inspection of these bytes prints the package, or is refused by this fault, where there is one.
+/// Whether the inspection of the bytes prints the package, or is refused with this fault, if one is
+/// given.
 fn is_inspected(alloc: Global, bytes: &[u8], fault: Option<PackageFault>) -> bool {
     match inspect(alloc, bytes) {
         Ok(text) => fault.is_none() && text.as_slice() == TEXT,

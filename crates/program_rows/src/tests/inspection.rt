@@ -1,9 +1,9 @@
-//! Inspections where memory is refused.
+//! Inspections if memory is refused.
 
 use fw_json::inspect_json;
 use fwupd_base::{InspectFault, inspect};
 
-/// The package with the text `v`, its checksum computed apart.
+/// The package with the text `v`, its checksum computed by another program.
 const PACKAGE: [u8; 83] = [
     0xF0, 0x18, 0x87, 0x8C, 0xCB, 0x7D, 0x49, 0x43, 0x98, 0x00, 0xA0, 0x2F, 0x05, 0x9A, 0xCA, 0x02,
     0x01, 0x53, 0x00, 0x00, 0x00, 0x00, 0x00, 0x00, 0x00, 0x00, 0x00, 0x00, 0x00, 0x00, 0x00, 0x00,
@@ -13,7 +13,7 @@ const PACKAGE: [u8; 83] = [
     0x17, 0x67, 0x07,
 ];
 
-/// Holds whichever single allocation is refused.
+/// Whichever single allocation is refused, the test holds.
 #[test]
 fn refused_memory_refuses_the_inspection(rt: HostRuntime) {
     match inspect(rt.alloc(), &PACKAGE) {
@@ -22,7 +22,7 @@ fn refused_memory_refuses_the_inspection(rt: HostRuntime) {
     }
 }
 
-/// Holds whichever single allocation is refused.
+/// Whichever single allocation is refused, the test holds.
 #[test]
 fn refused_memory_refuses_the_line_of_json(rt: HostRuntime) {
     match inspect_json(rt.alloc(), &PACKAGE) {

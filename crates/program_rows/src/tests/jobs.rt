@@ -17,7 +17,8 @@ use std::alloc::{AllocError, Global};
 use std::os::unix::net::UnixStream;
 use std::test::Fail;
 
-/// Files in memory: a path, the file's number, and its bytes. Paths of one number are of one file.
+/// Files in memory: a path, the file's number, and its bytes. Paths with the same number name the
+/// same file.
 #[derive(Drop)]
 pub struct MemFiles<'a> {
     pub files: &'a [(&'a str, u64, &'a [u8])],
@@ -81,7 +82,7 @@ const CONFIG: &[u8] = b"agent 8 00000000-0000-0000-0000-000000000000\n\
     descriptor 0000 3412\n\
     component 10 1 0 1 1.0 AA\n";
 
-/// What is written of a job that ends with this fault or without one, and the fault's text.
+/// The output of a job that ends with this fault or without one, and the fault's text.
 pub fn outcome(
     rt: &HostRuntime,
     end: Result<(), JobFault>,
@@ -95,7 +96,7 @@ pub fn outcome(
     Ok(text)
 }
 
-/// Links in memory, and how many are opened; that to this device isn't.
+/// Links in memory, and the number of those opened; the link to this device can't be opened.
 #[derive(Drop)]
 struct MemWires {
     alloc: Global,
@@ -115,10 +116,10 @@ impl Wires<MemLink> for MemWires {
     }
 }
 
-/// A link whose device's end is closed.
+/// A link whose device end is closed.
 #[derive(Drop)]
 struct CutWires {
-    /// Where what the agent's end takes comes out.
+    /// The stream that receives the packets of the agent's end.
     taken: UnixStream,
     link: Option<StreamLink<UnixStream>>,
 }
@@ -151,7 +152,8 @@ impl Wires<StreamLink<UnixStream>> for CutWires {
     }
 }
 
-/// Counts the turns that it sees, and can't tell of the one of this number where it is to tell of packets. It begins with each file but that of the path "/".
+/// An observer that counts turns and fails in the turn of this number if packets are traced. It can
+/// open every file but the path "/".
 #[derive(Drop)]
 pub struct Counter {
     is_quiet: bool,
@@ -167,7 +169,7 @@ pub struct Counter {
 }
 
 impl Counter {
-    /// One that has seen nothing, and can't tell of the turn of this number.
+    /// Creates an observer that has seen nothing, and fails in turn `broken`.
     pub fn new(broken: usize) -> Counter {
         Counter {
             is_quiet: false,
@@ -183,7 +185,7 @@ impl Counter {
         }
     }
 
-    /// How a call ends.
+    /// The result of a call.
     fn outcome(&self) -> Result<(), ObserverFault>
         ensures ok { OnOk result (self.now.fault ≡ None) }
         ensures err { IfErr result (λ e. self.now.fault ≡ Some e) }
@@ -261,7 +263,8 @@ pub fn package(rt: &HostRuntime) -> Result<Vec<u8>, Fail> {
     Ok(bytes)
 }
 
-/// What an update over these links writes, its fault, how many turns were seen, and whose link failed.
+/// The output of an update over these links, its fault, the number of turns observed, and the
+/// device whose link failed.
 fn updated<'a, L: Link + Drop, S: Wires<L>>(
     rt: &HostRuntime,
     config: &'a [u8],
@@ -329,14 +332,14 @@ const WIDE: &[u8] = b"agent 8 00000000-0000-0000-0000-000000000000\n\
     component 10 1 0 1 1.0 AA\n\
     package p\n";
 
-/// The first of a device that the package isn't for.
+/// The first with a device to which no record applies.
 const OTHER: &[u8] = b"agent 8 00000000-0000-0000-0000-000000000000\n\
     device 9 00000000-0000-0000-0000-000000000000\n\
     descriptor 0000 3413\n\
     component 10 1 0 1 1.0 AA\n\
     package p\n";
 
-/// What is planned with the package of this number, and the text of the fault, if there is one.
+/// The plan with the package of this number, and the text of the fault, if any.
 fn planned(
     rt: &HostRuntime,
     config: &[u8],

@@ -1,4 +1,4 @@
-//! Captures, the lines of an event log, and replays that are looked on.
+//! Captures, the lines of an event log, and observed replays.
 
 use crate::tests::jobs::{Counter, MemFiles, WHOLE, outcome, package};
 use fw_setup::SystemStores;
@@ -7,7 +7,7 @@ use fwupd_base::Form;
 use fwupd_jobs::{Output, Show, TraceForm, replay_files, sel_file};
 use std::test::Fail;
 
-/// The bytes that a text of digits spells, which may hold spaces.
+/// The bytes that a text of hexadecimal digits encodes, which may contain spaces.
 fn bytes_of(rt: &HostRuntime, text: &str) -> Result<Vec<u8>, Fail> {
     let mut digits = Vec::new(rt.alloc());
     for byte in text.bytes() {
@@ -180,10 +180,10 @@ fn the_log_in_a_file_is_told(rt: HostRuntime) -> Result<(), Fail> {
     Ok(())
 }
 
-/// A schedule whose last step isn't taken.
+/// A schedule whose last step is refused.
 const STEPS: &[u8] = b"start 9 1\ntick\ndeliver 9 1 9\ntick 3\ncancel 10\n";
 
-/// What a replay writes, its fault, and how many steps were seen.
+/// The output of a replay, its fault, and the number of steps observed.
 fn replayed<'a, 'b>(
     rt: &HostRuntime,
     config: &'a [u8],

@@ -19,7 +19,7 @@ fn is_first(device: &DeviceConfig) -> bool {
         && least.image.as_slice() == [0xAA, 0].as_slice()
 }
 
-/// Whether this is the first component of the text below, whose text is cut.
+/// Whether this is the first component of the text below, whose label is truncated.
 fn is_widest(component: &ComponentConfig) -> bool {
     let key = component.component.key;
     let text = component.label.version().text;
@@ -85,10 +85,10 @@ fn reads_each_line_in_its_order(rt: HostRuntime) -> Result<(), Fail> {
 /// The agent's line of the texts below.
 const AGENT: &[u8] = b"agent 8 00000000000000000000000000000000\n";
 
-/// The lines behind it, of the devices.
+/// The device lines after it.
 const DEVICE: &[u8] = b"device 9 00000000000000000000000000000000\ncomponent 10 1 0 1 1.0 AA\n";
 
-/// Lines between those of the agent and the device, and the unit of the configuration.
+/// Lines between the agent's and the device's, and the unit of the configuration.
 const UNITS: [(&[u8], Unit); 7] = [
     (b"", Unit::U64),
     (b"# unit 128\n", Unit::U64),
@@ -99,7 +99,7 @@ const UNITS: [(&[u8], Unit); 7] = [
     (b"unit 0000128\n", Unit::U128),
 ];
 
-/// Lines behind the agent's, and the line and the fault of the configuration.
+/// Lines after the agent's, and the line and the fault of the configuration.
 const NO_UNITS: [(&[u8], usize, ScriptCause); 21] = [
     (b"unit\n", 2, ScriptCause::Fields),
     (b"unit \n", 2, ScriptCause::Fields),
@@ -136,7 +136,7 @@ const NO_UNITS: [(&[u8], usize, ScriptCause); 21] = [
     (b"Unit 64\n", 2, ScriptCause::Directive),
 ];
 
-/// What three texts say, one behind the other, of the unit.
+/// The unit of three texts, joined.
 fn unit_in(rt: &HostRuntime, parts: [&[u8]; 3]) -> Result<Unit, ScriptFault> {
     let mut text = Vec::new(rt.alloc());
     for part in parts {

@@ -1,4 +1,4 @@
-//! Texts that are read where memory is refused, and what their faults are called.
+//! Reading texts if memory is refused, and the names of faults.
 
 use fw_script::{
     ScheduleText, ScriptCause, ScriptFault, read_config, read_package_spec, read_schedule,
@@ -8,7 +8,7 @@ use fw_setup::opening_world;
 use fw_world::{Missed, Step};
 use std::test::Fail;
 
-/// Holds whichever single allocation is refused.
+/// Whichever single allocation is refused, the test holds.
 #[test]
 fn refused_memory_is_told_of_configurations(rt: HostRuntime) {
     let text = b"agent 8 00000000000000000000000000000000\n\
@@ -24,7 +24,7 @@ fn refused_memory_is_told_of_configurations(rt: HostRuntime) {
     }
 }
 
-/// Holds whichever single allocation is refused.
+/// Whichever single allocation is refused, the test holds.
 #[test]
 fn refused_memory_opens_no_world(rt: HostRuntime) {
     let text = b"agent 8 00000000000000000000000000000000\n\
@@ -40,7 +40,7 @@ fn refused_memory_opens_no_world(rt: HostRuntime) {
     }
 }
 
-/// Holds whichever single allocation is refused.
+/// Whichever single allocation is refused, the test holds.
 #[test]
 fn refused_memory_is_told_of_schedules(rt: HostRuntime) {
     match read_schedule(rt.alloc(), b"tick 4\nsel 4000\nrestart 9\n") {
@@ -49,7 +49,7 @@ fn refused_memory_is_told_of_schedules(rt: HostRuntime) {
     }
 }
 
-/// Holds whichever single allocation is refused.
+/// Whichever single allocation is refused, the test holds.
 #[test]
 fn refused_memory_writes_no_schedule(rt: HostRuntime) {
     let text = b"tick 4\nsel 4000\nmiss 9 8\ndeliver 9 1 8\nverdict 9 apply-ok\ntick\n".as_slice();
@@ -61,7 +61,8 @@ fn refused_memory_writes_no_schedule(rt: HostRuntime) {
     }
 }
 
-/// A step that was refused memory is handed over again. Holds whichever single allocation is refused.
+/// A step for which memory was refused is written again. Whichever single allocation is refused,
+/// the test holds.
 #[test]
 fn refused_memory_keeps_the_ticks(rt: HostRuntime) {
     let table: [(Step, &[u8]); 4] = [
@@ -81,7 +82,7 @@ fn refused_memory_keeps_the_ticks(rt: HostRuntime) {
     }
 }
 
-/// Holds whichever single allocation is refused.
+/// Whichever single allocation is refused, the test holds.
 #[test]
 fn refused_memory_is_told_of_package_texts(rt: HostRuntime) {
     let text =

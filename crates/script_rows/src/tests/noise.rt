@@ -1,9 +1,10 @@
-//! Texts that look random, and good ones of which one byte is another: a fault never stands before what is wrong.
+//! Pseudo-random texts, and good ones with one byte changed: the line of a fault is never before
+//! the change.
 
 use fw_script::{ScriptCause, ScriptFault, read_config, read_schedule};
 use std::test::Fail;
 
-/// How many texts of each kind are read.
+/// The number of texts of each kind.
 const TEXTS: usize = 10_000;
 
 /// A good configuration.
@@ -32,10 +33,10 @@ restart 8
 sel 40
 ";
 
-/// What random texts are made of.
+/// The bytes of random texts.
 const BYTES: &[u8] = b"\n #0123456789abcdefgimnoprstuvy-\xFF";
 
-/// Numbers that look random, each run the same (xorshift, 64 bits).
+/// Pseudo-random numbers, the same in each run (xorshift, 64 bits).
 #[derive(Drop)]
 struct Dice {
     state: u64,
@@ -56,7 +57,7 @@ impl Dice {
     }
 }
 
-/// What reads a text: the fault that it tells.
+/// The reader of a text.
 #[derive(Clone, Copy)]
 enum Reader {
     Config,
@@ -64,7 +65,7 @@ enum Reader {
 }
 
 impl Reader {
-    /// The line of the fault of a text, and whether memory was wanted; none of a good one.
+    /// The line of the fault of a text, and whether memory was refused; none for a good text.
     fn fault(self, rt: &HostRuntime, text: &[u8]) -> Option<(usize, bool)> {
         let fault = match self {
             Reader::Config => read_config(rt.alloc(), text).err(),
@@ -75,7 +76,7 @@ impl Reader {
     }
 }
 
-/// The number of the line that a byte stands in, from 1.
+/// The number of the line that contains a byte, from 1.
 fn line_at(text: &[u8], place: usize) -> usize {
     let mut line: usize = 1;
     for (at, byte) in text.iter().enumerate() {
@@ -86,7 +87,8 @@ fn line_at(text: &[u8], place: usize) -> usize {
     line
 }
 
-/// Whether each of so many texts with one byte changed is read, or refused at the changed line or behind it; how many are read.
+/// Whether each text with one byte changed is read, or refused at the changed line or after it.
+/// Returns the number of texts that are read.
 fn changed(
     rt: &HostRuntime,
     reader: Reader,
@@ -113,7 +115,8 @@ fn changed(
     Ok(Some(read))
 }
 
-/// Whether each of so many texts of random bytes is read, or refused at one of its lines or at the one after the last.
+/// Whether each text of random bytes is read, or refused at one of its lines or at the one after
+/// the last.
 fn random(rt: &HostRuntime, reader: Reader, dice: &mut Dice) -> Result<bool, Fail> {
     for _ in 0..TEXTS {
         let mut text = Vec::new(rt.alloc());
@@ -131,7 +134,8 @@ fn random(rt: &HostRuntime, reader: Reader, dice: &mut Dice) -> Result<bool, Fai
     Ok(true)
 }
 
-/// Whether all texts of a reader are read or refused so, the good one is read, and so are more than 100 of those that are changed.
+/// Whether all texts of a reader are read or refused that way, the good one is read, and so are
+/// more than 100 of the changed ones.
 fn are_read_or_refused(
     rt: &HostRuntime,
     reader: Reader,

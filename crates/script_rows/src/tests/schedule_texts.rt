@@ -1,4 +1,4 @@
-//! Schedules that are written, and read again.
+//! Schedules that are written, and read back.
 
 use fd_core::Verdict;
 use fw_script::{ScheduleText, read_schedule, write_schedule};
@@ -6,10 +6,10 @@ use fw_world::{LogRequest, Missed, Step};
 use std::alloc::{AllocError, Global};
 use std::test::Fail;
 
-/// One update over perfect links, behind its remark.
+/// The remark before one update over perfect links.
 const REMARK: &[u8] = b"# One update over perfect links.\n";
 
-/// The steps of it.
+/// The steps of that update.
 const UPDATE: &[u8] = b"\
 start 9 1
 tick
@@ -56,21 +56,21 @@ deliver 9 26 9
 deliver 9 27 8
 ";
 
-/// A request of the event log.
+/// An event log request.
 fn request(bytes: &[u8]) -> Step {
     let mut request = LogRequest::new();
     let _ = request.try_extend_from_slice(bytes);
     Step::Sel(request)
 }
 
-/// A tick that these nodes miss.
+/// A tick that the listed nodes miss.
 fn miss(nodes: &[u8]) -> Step {
     let mut missed = Missed::new();
     let _ = missed.try_extend_from_slice(nodes);
     Step::Tick(missed)
 }
 
-/// So many ticks that nobody misses, behind a step and before another.
+/// `count` ticks that no node misses, between two other steps.
 fn ticks(alloc: Global, count: usize) -> Result<Vec<Step>, AllocError> {
     let mut steps = Vec::new(alloc);
     let _ = steps.push(Step::Restart(8));
@@ -176,7 +176,7 @@ fn ticks_in_a_row_are_lines_of_a_thousand(rt: HostRuntime) -> Result<(), Fail> {
     Ok(())
 }
 
-/// A tick that a node misses stands between others as a line of its own.
+/// A tick that a node misses is a line of its own among others.
 #[test]
 fn ticks_are_held_back_until_another_step(rt: HostRuntime) -> Result<(), Fail> {
     let mut writer = ScheduleText::new();
@@ -202,7 +202,7 @@ fn ticks_are_held_back_until_another_step(rt: HostRuntime) -> Result<(), Fail> {
     Ok(())
 }
 
-/// What is written turn by turn, with the ends of turns between ticks, is what is written at once.
+/// The text written turn by turn, with turns that end between ticks, is the text written at once.
 #[test]
 fn portions_are_the_whole(rt: HostRuntime) -> Result<(), Fail> {
     let steps = read_schedule(rt.alloc(), b"start 9 1\ntick 3\ndeliver 9 1 9\ntick 2\n")?;
@@ -229,7 +229,8 @@ fn an_update_is_written_as_its_schedule_without_the_remark(rt: HostRuntime) -> R
     Ok(())
 }
 
-/// Zeros before a number, digits in lower case, remarks, empty lines and ticks that stand apart are read, and are not written.
+/// Leading zeros, lower-case digits, remarks, empty lines and split ticks are read, and are not
+/// written.
 #[test]
 fn what_is_read_is_written_in_one_way(rt: HostRuntime) -> Result<(), Fail> {
     let steps = read_schedule(

@@ -5,14 +5,14 @@ use fw_script::{LineSteps, NextStep, read_lines, read_schedule, step_count};
 use fw_world::{LogRequest, Missed, Step};
 use std::test::Fail;
 
-/// A request of the event log.
+/// An event log request.
 fn request(bytes: &[u8]) -> Step {
     let mut request = LogRequest::new();
     let _ = request.try_extend_from_slice(bytes);
     Step::Sel(request)
 }
 
-/// A tick that these nodes miss.
+/// A tick that the listed nodes miss.
 fn miss(nodes: &[u8]) -> Step {
     let mut missed = Missed::new();
     let _ = missed.try_extend_from_slice(nodes);

@@ -1,4 +1,4 @@
-//! The worked update by its schedule's text, and what is reported of it.
+//! The worked update by its schedule's text, and its reports.
 
 use fd_core::MemBank;
 use fw_package::{Package, PackageFault};
@@ -8,15 +8,15 @@ use fw_world::{Step, StepFault, World, replay};
 use std::alloc::{AllocError, Global};
 use std::test::Fail;
 
-/// The agent 8, and the device 9, which runs the image AA.
+/// The agent 8, and the device 9, whose active image is AA.
 const CONFIG: &[u8] = b"agent 8 00000000-0000-0000-0000-000000000000\n\
     device 9 00000000-0000-0000-0000-000000000000\n\
     descriptor 0000 3412\n\
     component 10 1 0 1 1.0 AA\n\
     package one.fwpkg\n";
 
-/// The header of the worked package: one record of the descriptor 0000 with data 34 12, set text `A`, and component (10, 1)
-/// with stamp 2, options 0002, text `v2` and 241 bytes.
+/// The header of the worked package: one record of the descriptor 0000 with data 34 12, set text
+/// `A`, and component (10, 1) with stamp 2, options 0002, text `v2` and 241 bytes.
 const HEADER: &[u8] = &[
     0xF0, 0x18, 0x87, 0x8C, 0xCB, 0x7D, 0x49, 0x43, 0x98, 0, 0xA0, 0x2F, 0x05, 0x9A, 0xCA, 0x02,
     0x01, 0x56, 0, 0, 0, 0, 0, 0, 0, 0, 0, 0, 0, 0, 0, 0, 0x08, 0, 0x01, 0, 0x01, 0x13, 0, 0x01, 0,
@@ -25,7 +25,7 @@ const HEADER: &[u8] = &[
     0x62, 0x75,
 ];
 
-/// The schedule of the update over links that lose nothing.
+/// The schedule of the update over perfect links.
 const SCHEDULE: &[u8] = b"start 9 1\n\
     tick\ndeliver 9 1 9\ndeliver 9 2 8\n\
     tick\ndeliver 9 3 9\ndeliver 9 4 8\n\
@@ -50,7 +50,7 @@ const UPDATED: &[u8] = b"now 12\n\
     recorded 9 1 1\n\
     activated 9 10 1 241\n";
 
-/// The report where the device's bank can't begin with the image.
+/// The report if the device's bank can't begin with the image.
 const NOT_BEGUN: &[u8] = b"now 7\n\
     agent 8 up\n\
     device 9 up READY session Failed:Answer sent 12\n\
@@ -74,7 +74,7 @@ fn file(alloc: Global) -> Result<Vec<u8>, AllocError> {
     Ok(out)
 }
 
-/// `Package::read`: the proofs of the tests need nothing of its contract.
+/// `Package::read`; its contract isn't needed in the proofs of the tests.
 fn package(bytes: &[u8]) -> Result<Package<'_>, PackageFault> {
     Package::read(bytes)
 }
@@ -90,7 +90,7 @@ fn opened<'a>(
     opening_world(alloc, config.unit, config.agent, config.devices, packages)
 }
 
-/// The same, asked for again where memory is refused.
+/// The same, at the second try if memory is refused.
 fn opened_twice<'a>(
     alloc: Global,
     packages: &'a [Package<'a>],
@@ -101,12 +101,12 @@ fn opened_twice<'a>(
     }
 }
 
-/// `replay`: the proofs of the tests need nothing of its contract.
+/// `replay`; its contract isn't needed in the proofs of the tests.
 fn replayed(world: &mut World<'_, MemBank>, steps: &[Step]) -> Result<(), (usize, StepFault)> {
     replay(world, steps)
 }
 
-/// Takes the steps, and goes on where memory was refused to one. Whether each is taken.
+/// Takes the steps, each again if memory was refused. Returns whether each is taken.
 fn takes(world: &mut World<'_, MemBank>, steps: &[Step]) -> bool {
     match replayed(world, steps) {
         Ok(()) => true,
@@ -118,12 +118,12 @@ fn takes(world: &mut World<'_, MemBank>, steps: &[Step]) -> bool {
     }
 }
 
-/// `report`: the proofs of the tests need nothing of its contract.
+/// `report`; its contract isn't needed in the proofs of the tests.
 fn report_of(alloc: Global, world: &World<'_, MemBank>) -> Result<Vec<u8>, AllocError> {
     report(alloc, world)
 }
 
-/// Whether the report is this text; it is asked for again where memory is refused.
+/// Whether the report is this text, at the second try if memory is refused.
 fn is_reported(alloc: Global, world: &World<'_, MemBank>, text: &[u8]) -> bool {
     let told = match report_of(alloc, world) {
         Ok(told) => Ok(told),
@@ -159,7 +159,7 @@ fn the_worked_update_is_reported(rt: HostRuntime) -> Result<(), Fail> {
     Ok(())
 }
 
-/// Holds whichever single allocation is refused.
+/// Whichever single allocation is refused, the test holds.
 #[test]
 fn refused_memory_writes_no_report(rt: HostRuntime) -> Result<(), Fail> {
     let bytes = match file(rt.alloc()) {

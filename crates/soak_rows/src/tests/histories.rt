@@ -1,4 +1,4 @@
-//! Histories, and whether the checker finds them right.
+//! Histories, and whether the checker finds them lawful.
 
 ghost use Rattle.std.specs.Prelude.{IfSome, map};
 ghost use Rattle.fw_script.specs.Seen.{device_of};
@@ -14,8 +14,8 @@ use std::borrow::CowSlice;
 use std::test::Fail;
 use ua_core::Recorded;
 
-/// The header of the worked package: one record of the descriptor 0000 with data 34 12, set text `A`, and component (10, 1)
-/// with stamp 2, options 0002, text `v2` and 241 bytes.
+/// The header of the worked package: one record of the descriptor 0000 with data 34 12, set text
+/// `A`, and component (10, 1) with stamp 2, options 0002, text `v2` and 241 bytes.
 const ONE: &[u8] = &[
     0xF0, 0x18, 0x87, 0x8C, 0xCB, 0x7D, 0x49, 0x43, 0x98, 0, 0xA0, 0x2F, 0x05, 0x9A, 0xCA, 0x02,
     0x01, 0x56, 0, 0, 0, 0, 0, 0, 0, 0, 0, 0, 0, 0, 0, 0, 0x08, 0, 0x01, 0, 0x01, 0x13, 0, 0x01, 0,
@@ -24,7 +24,7 @@ const ONE: &[u8] = &[
     0x62, 0x75,
 ];
 
-/// The worked device 9, and a device 10 for which the package names nothing.
+/// The worked device 9, and a device 10 for which the package has no image.
 const CONFIG: &[u8] = b"agent 8 00000000-0000-0000-0000-000000000000\n\
     device 9 00000000-0000-0000-0000-000000000000\n\
     descriptor 0000 3412\n\
@@ -33,31 +33,31 @@ const CONFIG: &[u8] = b"agent 8 00000000-0000-0000-0000-000000000000\n\
     descriptor 0000 3413\n\
     component 10 1 0 1 1.0 AA\n";
 
-/// What is done to the package's image, whose byte i is i.
+/// A change of the package's image, whose byte i is i.
 #[derive(Clone, Copy)]
 enum Bytes {
-    /// Nothing.
+    /// No change.
     Own,
-    /// The last byte is another.
+    /// The last byte is changed.
     Other,
-    /// A byte follows.
+    /// A byte is appended.
     Padded,
-    /// The last byte is left out.
+    /// The last byte is removed.
     Short,
 }
 
-/// What happens to a device.
+/// An event of a device.
 #[derive(Clone, Copy)]
 enum Happens {
-    /// It applies this for the component (10, N).
+    /// The device applies this image for the component (10, N).
     Applies(u16, Bytes),
-    /// The agent records the component of this number of the package of this number.
+    /// The agent records this component of this package, both by number.
     Records(usize, usize),
-    /// It activates this for the component (10, N).
+    /// The device activates this image for the component (10, N).
     Activates(u16, Bytes),
 }
 
-/// The file of the worked package, whose configuration this is.
+/// Returns the file of the worked package.
 pub fn package_file(alloc: Global) -> Result<Vec<u8>, AllocError> {
     let mut file = Vec::new(alloc);
     file.extend_from_slice(ONE)?;
@@ -67,7 +67,7 @@ pub fn package_file(alloc: Global) -> Result<Vec<u8>, AllocError> {
     Ok(file)
 }
 
-/// The worked devices.
+/// Returns the configuration of the worked devices.
 pub fn worked(alloc: Global) -> Option<Config>
     ensures { IfSome result (λ c. AreWhole c.agent.eid (map device_of c.devices.items)) }
 {
@@ -98,7 +98,7 @@ fn image(alloc: Global, identifier: u16, bytes: Bytes) -> Result<Image<'static>,
     })
 }
 
-/// These things as entries of a history, each of a device.
+/// The entries of a history with these events, each of a device.
 fn entries(alloc: Global, things: &[(u8, Happens)]) -> Result<Vec<Entry<'static>>, AllocError> {
     let mut entries = Vec::new(alloc);
     for (device, thing) in things {
@@ -122,7 +122,7 @@ fn entries(alloc: Global, things: &[(u8, Happens)]) -> Result<Vec<Entry<'static>
     Ok(entries)
 }
 
-/// Whether the checker finds these things right.
+/// Whether the checker finds these events lawful.
 fn are_right(alloc: Global, things: &[(u8, Happens)]) -> Option<bool> {
     let config = worked(alloc)?;
     let Ok(file) = package_file(alloc) else {
@@ -154,25 +154,25 @@ fn judges_histories(rt: HostRuntime) {
     assert!(rt; are_right(alloc, &[]) == Some(true));
     assert!(rt; are_right(alloc, &[applied, recorded, activated]) == Some(true));
     assert!(rt; are_right(alloc, &[applied, recorded, activated, applied, recorded]) == Some(true));
-    // What a device applies is its own affair until it is recorded or activated.
+    // An image that a device applies isn't checked until it is recorded or activated.
     assert!(rt; are_right(alloc, &[(9, Happens::Applies(1, Bytes::Other))]) == Some(true));
-    // Other bytes, also such that begin alike.
+    // Other bytes, also some with an equal beginning.
     for bytes in [Bytes::Other, Bytes::Padded, Bytes::Short] {
         assert!(rt; are_right(alloc, &[(9, Happens::Activates(1, bytes))]) == Some(false));
         assert!(rt; are_right(alloc, &[(9, Happens::Applies(1, bytes)), recorded]) == Some(false));
     }
-    // A record without its application, before it, or with another device's or component's.
+    // A record without its application, before it, or after another device's or component's.
     assert!(rt; are_right(alloc, &[recorded]) == Some(false));
     assert!(rt; are_right(alloc, &[recorded, applied]) == Some(false));
     assert!(rt;
         are_right(alloc, &[(10, Happens::Applies(1, Bytes::Own)), recorded]) == Some(false)
     );
     assert!(rt; are_right(alloc, &[(9, Happens::Applies(2, Bytes::Own)), recorded]) == Some(false));
-    // A record of a component or a package that isn't there.
+    // A record of a component or a package that doesn't exist.
     assert!(rt; are_right(alloc, &[applied, (9, Happens::Records(1, 1))]) == Some(false));
     assert!(rt; are_right(alloc, &[applied, (9, Happens::Records(2, 0))]) == Some(false));
     assert!(rt; are_right(alloc, &[applied, (9, Happens::Records(0, 0))]) == Some(false));
-    // An image that is another component's, and one that the package names for another device, or for none.
+    // An image of another component, and one that the package has for another device, or for none.
     assert!(rt; are_right(alloc, &[(9, Happens::Activates(2, Bytes::Own))]) == Some(false));
     assert!(rt; are_right(alloc, &[(10, Happens::Activates(1, Bytes::Own))]) == Some(false));
     assert!(rt; are_right(alloc, &[(11, Happens::Activates(1, Bytes::Own))]) == Some(false));

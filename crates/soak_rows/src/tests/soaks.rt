@@ -7,7 +7,7 @@ use fwupd_base::Roughness;
 use std::alloc::Global;
 use std::test::Fail;
 
-/// Counts how often it sees something, and what it saw last.
+/// Counts its observations, and stores the last one.
 #[derive(Drop)]
 struct Counting {
     seen: u64,
@@ -21,7 +21,7 @@ impl SoakObserver for Counting {
     }
 }
 
-/// So many runs by a seed.
+/// The result of `runs` runs with a seed.
 fn soaked(alloc: Global, seed: u64, runs: u32, observer: &mut Counting) -> Option<Soaked> {
     let config = worked(alloc)?;
     let Ok(file) = package_file(alloc) else {

@@ -20,12 +20,14 @@ static OPENING: [u8; 17] = [
     1,
 ];
 
-/// A record of 19 bytes with set text `A` and descriptor 0000, data 34 12, which uses components 1 and 2.
+/// A record of 19 bytes with set text `A` and descriptor 0000, data 34 12, which uses components 1
+/// and 2.
 static RECORD_A: [u8; 19] = [
     19, 0, 1, 0, 0, 0, 0, 1, 1, 0, 0, 0x03, b'A', 0x00, 0x00, 2, 0, 0x34, 0x12,
 ];
 
-/// A record of 21 bytes with set text `B` and descriptor 0001, data 78 56 34 12, which uses component 2.
+/// A record of 21 bytes with set text `B` and descriptor 0001, data 78 56 34 12, which uses
+/// component 2.
 static RECORD_B: [u8; 21] = [
     21, 0, 1, 0, 0, 0, 0, 1, 1, 0, 0, 0x02, b'B', 0x01, 0x00, 4, 0, 0x78, 0x56, 0x34, 0x12,
 ];
@@ -63,7 +65,7 @@ fn put(out: &mut File, bytes: &[u8]) {
     let _ = out.try_extend_from_slice(bytes);
 }
 
-/// Puts a list of parts after their number.
+/// Appends the number of parts, and the parts.
 fn put_all(out: &mut File, parts: &[&[u8]], more: &[u8]) {
     put(out, &[u8::try_from(parts.len()).unwrap_or(0)]);
     put(out, more);
@@ -90,7 +92,7 @@ pub fn file(draft: Draft<'_>) -> File {
     out
 }
 
-/// The checksum by single bits.
+/// The checksum, computed bit by bit.
 pub fn sum_by_bits(bytes: &[u8]) -> u32 {
     let mut register = u32::MAX;
     for byte in bytes {

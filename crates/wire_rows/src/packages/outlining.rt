@@ -1,15 +1,15 @@
-//! The outline of the worked package, read from its header and its file's length alone.
+//! The outline of the worked package, decoded from its header and its file's length.
 
 use super::drafts::worked;
 use super::reading::uses;
 use fw_package::{Outline, PackageFault, Place};
 
-/// The bytes of the worked package's header, and those of its whole file.
+/// The sizes of the worked package's header and of its whole file, in bytes.
 const HEADER: usize = 134;
 
 const WHOLE: usize = 439;
 
-/// What the header says of a component, in the order of its fields.
+/// The fields of a component in the header, in order.
 fn fields(place: &Place<'_>) -> [usize; 7] {
     [
         usize::from(place.classification),
@@ -38,7 +38,7 @@ fn has_places(outline: &Outline<'_>) -> bool {
         && second.text.bytes == b"v2".as_slice()
 }
 
-/// Whether these are its records.
+/// Whether these are the records of the worked package.
 fn has_records(outline: &Outline<'_>) -> bool {
     let mut records = outline.records();
     let Some(first) = records.next() else {
@@ -50,7 +50,7 @@ fn has_records(outline: &Outline<'_>) -> bool {
     records.next().is_none() && uses(first) == 901 && uses(second) == 91
 }
 
-/// The outline that so many bytes of the worked package give, in a file of this length.
+/// The outline of the first `size` bytes of the worked package, in a file of `file_length` bytes.
 fn outline_of(file: &[u8], size: usize, file_length: usize) -> Result<Outline<'_>, PackageFault> {
     Outline::read(&file[..size.min(file.len())], file_length)
 }
@@ -67,7 +67,7 @@ fn is_worked(file: &[u8], size: usize, file_length: usize) -> bool {
         && has_places(&outline)
 }
 
-/// Its fault.
+/// Its fault, if any.
 fn fault_of(file: &[u8], size: usize, file_length: usize) -> Option<PackageFault> {
     outline_of(file, size, file_length).err()
 }

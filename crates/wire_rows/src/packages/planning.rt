@@ -1,4 +1,4 @@
-//! The record that is chosen for a device, and its plan.
+//! The record that applies to a device, and its plan.
 
 use super::drafts::{Draft, File, file, worked};
 use fw_package::{Descriptor, Package, PlanFault};
@@ -9,7 +9,7 @@ const FIRST: Descriptor<'static> = Descriptor {
     bytes: &[0x34, 0x12],
 };
 
-/// The descriptor of the second one.
+/// The descriptor of the second record.
 const SECOND: Descriptor<'static> = Descriptor {
     kind: 1,
     bytes: &[0x78, 0x56, 0x34, 0x12],
@@ -27,7 +27,7 @@ const OTHER_TYPE: Descriptor<'static> = Descriptor {
     bytes: &[0x34, 0x12],
 };
 
-/// A device's descriptors, and the record that is for it.
+/// A device's descriptors, and the record that applies to it.
 static CHOICES: [(&[Descriptor<'static>], Option<usize>); 6] = [
     (&[SECOND], Some(1)),
     (&[FIRST, SECOND], Some(0)),
@@ -37,7 +37,7 @@ static CHOICES: [(&[Descriptor<'static>], Option<usize>); 6] = [
     (&[], None),
 ];
 
-/// Whether this record of a package is for a device.
+/// Whether this record of a package applies to a device.
 fn is_chosen(file: &[u8], descriptors: &[Descriptor<'_>], record: Option<usize>) -> bool {
     match Package::read(file) {
         Ok(package) => package.record_for(descriptors) == record,
@@ -69,7 +69,7 @@ fn is_planned(file: &[u8], record: usize, components: &[usize]) -> bool {
     }
 }
 
-/// The fault of the first record's plan.
+/// The fault of the first record's plan, if any.
 fn fault_of(file: &[u8]) -> Option<PlanFault> {
     let Ok(package) = Package::read(file) else {
         return None;
@@ -111,7 +111,7 @@ pub static NINE: [&[u8]; 9] = [
     ],
 ];
 
-/// The package of so many of them, with one record that uses as many.
+/// The package of the given components, with one record that uses the first `used`.
 fn with_components(components: &[&[u8]], used: u8) -> File {
     file(Draft {
         bitmap_bits: 16,
@@ -131,7 +131,7 @@ fn plans_eight_components_at_most(rt: HostRuntime) {
     assert!(rt; fault_of(nine.as_slice()) == Some(PlanFault::TooManyComponents));
 }
 
-/// These bytes, and behind them a text of this many.
+/// The bytes, and then a text of `size` bytes.
 fn with_text(bytes: &[u8], size: u8) -> File {
     let mut out = File::new();
     let _ = out.try_extend_from_slice(bytes);
@@ -141,8 +141,8 @@ fn with_text(bytes: &[u8], size: u8) -> File {
     out
 }
 
-/// The package of component (10, 1) and another of this identifier and a text of this size, with one record of a set text
-/// of this size.
+/// The package of component (10, 1) and another with this identifier and a text of this size, with
+/// one record with a set text of this size.
 fn twofold(identifier: u8, text: u8, set_text: u8) -> File {
     let size = set_text.wrapping_add(12);
     let record = with_text(&[size, 0, 0, 0, 0, 0, 0, 1, set_text, 0, 0, 3], set_text);
@@ -161,7 +161,7 @@ fn twofold(identifier: u8, text: u8, set_text: u8) -> File {
     })
 }
 
-/// A situation: the second component's identifier and text, the set text, and the fault.
+/// A case: the second component's identifier and text size, the set text's size, and the fault.
 type Row<'a> = (&'a str, u8, u8, u8, Option<PlanFault>);
 
 static FAULTS: [Row<'static>; 6] = [

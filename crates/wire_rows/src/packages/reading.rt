@@ -1,9 +1,9 @@
-//! The worked package, read.
+//! The worked package, decoded.
 
 use super::drafts::{sum_by_bits, worked, worked_rest};
 use fw_package::{Component, Package, Record, crc32};
 
-/// What the header says of a component, in the order of its fields, with its image's length.
+/// The fields of a component in the header, in order, with its image's length.
 fn fields(component: &Component<'_>) -> [usize; 7] {
     [
         usize::from(component.classification),
@@ -39,7 +39,7 @@ fn is_worked(file: &[u8]) -> bool {
         && fields(&package.component_at(1)) == [10, 2, 7, 2, 134, 1, 300]
 }
 
-/// The image of the second component: it outlives the package that it is read from.
+/// The image of the second component: it outlives the package decoded from the file.
 fn image_alone(file: &[u8]) -> &[u8] {
     let Ok(package) = Package::read(file) else {
         return &[];
@@ -52,7 +52,7 @@ fn image_alone(file: &[u8]) -> &[u8] {
     image
 }
 
-/// Whether that file is read, with the checksum that other software writes into its header.
+/// Whether that file decodes, with the checksum that other software writes into its header.
 fn is_read(file: &[u8]) -> bool {
     file.len() == 439
         && is_worked(file)
@@ -71,6 +71,6 @@ const CHECK: u32 = 0xCBF4_3926;
 #[test]
 fn computes_the_check_value(rt: HostRuntime) {
     assert!(rt; crc32(b"123456789") == CHECK);
-    // the tests' own checksum, by which they sign packages
+    // the tests' own checksum, with which they sign packages
     assert!(rt; sum_by_bits(b"123456789") == CHECK);
 }

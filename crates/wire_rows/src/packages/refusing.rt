@@ -1,24 +1,25 @@
-//! What `Package::read` answers to the worked package with a byte changed, a bit turned, or its end cut off.
+//! The results of `Package::read` for the worked package with a byte changed, a bit flipped, or its
+//! end cut off.
 
 use super::drafts::{Draft, File, file, sum_by_bits, worked};
 use super::planning::NINE;
 use fw_package::{Package, PackageFault};
 
-/// The bytes of the worked package's header before its checksum.
+/// The number of bytes of the worked package's header before its checksum.
 const SUMMED: usize = 130;
 
-/// The bits of the whole header.
+/// The number of bits of the whole header.
 const HEADER_BITS: usize = 1072;
 
-/// The bytes of the whole file.
+/// The number of bytes of the whole file.
 const WHOLE: usize = 439;
 
-/// The fault of a file, if it has one.
+/// The fault of a file, if any.
 fn fault_of(bytes: &[u8]) -> Option<PackageFault> {
     Package::read(bytes).err()
 }
 
-/// The fault of the first `length` bytes of a file, if they have one.
+/// The fault of the first `length` bytes of a file, if any.
 fn fault_of_cut(bytes: &[u8], length: usize) -> Option<PackageFault> {
     fault_of(&bytes[..length.min(bytes.len())])
 }
@@ -30,7 +31,7 @@ fn set(file: &mut File, place: usize, byte: u8) {
     }
 }
 
-/// Computes the header's checksum again.
+/// Recomputes the header's checksum.
 fn sign(file: &mut File) {
     let Some(summed) = file.as_slice().get(..SUMMED) else {
         return;
@@ -41,7 +42,7 @@ fn sign(file: &mut File) {
     }
 }
 
-/// A change: what it means, the byte's place, the new byte, and the fault, if it is one.
+/// A case: its name, the byte's position, the new byte, and the fault, if any.
 type Change<'a> = (&'a str, usize, u8, Option<PackageFault>);
 
 static CHANGES: [Change<'static>; 16] = [
@@ -128,7 +129,7 @@ static CHANGES: [Change<'static>; 16] = [
     ("an image that ends with the file", 122, 49, None),
 ];
 
-/// The worked package with this byte, and its checksum computed again.
+/// The worked package with this byte, and its checksum recomputed.
 fn changed(place: usize, byte: u8) -> File {
     let mut file = worked();
     set(&mut file, place, byte);
@@ -155,7 +156,8 @@ fn refuses_bitmaps_of_fewer_bits_than_components(rt: HostRuntime) {
     assert!(rt; fault_of(file.as_slice()) == Some(PackageFault::BitmapLength));
 }
 
-/// A change for each fault but `Short`, the last fault first: the byte's place, the new byte, and the fault.
+/// A change for each fault but `Short`, the last fault first: the byte's position, the new byte,
+/// and the fault.
 static FROM_THE_LAST: [(usize, u8, PackageFault); 7] = [
     (122, 50, PackageFault::ImageRange),
     (19, 0x14, PackageFault::Checksum),
@@ -166,8 +168,9 @@ static FROM_THE_LAST: [(usize, u8, PackageFault); 7] = [
     (15, 0x03, PackageFault::Identifier),
 ];
 
-/// Makes the changes one after the other, and computes the checksum again after the first alone. Whether each file so made is
-/// refused by the fault of its last change, which comes before those of the earlier changes.
+/// Makes the changes one after the other, and recomputes the checksum after the first only. Returns
+/// whether each file is refused with the fault of its last change, which comes before those of the
+/// earlier changes.
 fn are_first(file: &mut File, changes: &[(usize, u8, PackageFault)]) -> bool {
     for (count, (place, byte, fault)) in changes.iter().enumerate() {
         set(file, *place, *byte);
@@ -208,7 +211,7 @@ fn refuses_each_cut_that_ends_before_the_images(rt: HostRuntime) {
     }
 }
 
-/// Turns a bit of a file.
+/// Flips a bit of a file.
 fn turn(file: &mut File, bit: usize) {
     if let Some(byte) = file.as_mut_slice().get_mut(bit / 8) {
         *byte ^= 1 << (bit % 8);

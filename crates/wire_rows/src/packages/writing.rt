@@ -1,4 +1,4 @@
-//! Headers of packages that are asked for.
+//! Headers of packages to build.
 
 use super::drafts::{worked, worked_rest};
 use fw_package::{
@@ -90,7 +90,7 @@ static WRITTEN: [(AskedPackage<'static>, &[u8]); 2] = [
     ),
 ];
 
-/// Whether a package's header is written as these bytes.
+/// Whether a package's header is encoded as these bytes.
 fn is_written(package: &AskedPackage<'_>, bytes: &[u8]) -> bool {
     let mut header = Header::new();
     package.write_header(&mut header).is_ok() && header.as_slice() == bytes
@@ -103,7 +103,7 @@ fn writes_a_header(rt: HostRuntime) {
     }
 }
 
-/// The package of two records that the other rows read, up to its last image's end.
+/// The package of two records that the other tests decode, up to the end of its last image.
 static WORKED: AskedPackage<'static> = AskedPackage {
     release: [0x15; 13],
     version: b"pkg",
@@ -143,7 +143,7 @@ static WORKED: AskedPackage<'static> = AskedPackage {
     ],
 };
 
-/// Whether these are its header, its last image and five bytes more, and it is read without those.
+/// Whether the file is its header, its last image and five more bytes, and decodes without those.
 fn is_written_worked(file: &[u8]) -> bool {
     let (Some(header), Some(image), Some(package)) = (
         file.get(..134),
@@ -163,7 +163,7 @@ fn writes_the_package_of_two_records(rt: HostRuntime) {
     assert!(rt; is_written_worked(worked().as_slice()));
 }
 
-/// Why a package can't be written, if there is a reason. What stood in the buffer stands there still.
+/// The fault of a package that can't be encoded, if any. The buffer is unchanged then.
 fn fault_of(package: &AskedPackage<'_>) -> Option<AskedFault> {
     let mut header = Header::new();
     header.push(7);
@@ -174,7 +174,7 @@ fn fault_of(package: &AskedPackage<'_>) -> Option<AskedFault> {
     }
 }
 
-/// A situation: a package, and why it can't be written, if there is a reason.
+/// A case: a package, and its fault, if any.
 type Asking<'a> = (&'a str, AskedPackage<'a>, Option<AskedFault>);
 
 /// The package whose second record has these uses.
@@ -325,7 +325,7 @@ fn refuses_what_is_too_many(rt: HostRuntime) {
     assert!(rt; fault_of_records(&records) == Some(AskedFault::Limit));
 }
 
-/// Bytes for what is as long as it may be.
+/// Bytes for values of the greatest length.
 static LONG: [u8; 65_535] = [b'x'; 65_535];
 
 #[test]
@@ -348,7 +348,7 @@ fn fault_of_size(size: usize) -> Option<AskedFault> {
     fault_of(&asked(&[RECORD], &[COMPONENT, large]))
 }
 
-/// The bytes of a file with two components, at most, without the second one's image.
+/// The most bytes of a file with two components, without the second one's image.
 const ROOM: usize = 4_294_967_295 - 110 - 241;
 
 #[test]

@@ -1,4 +1,4 @@
-//! The ticks that nodes count, by a counter of the tests' own.
+//! The ticks that nodes count, computed by a counter of the tests.
 
 use arrayvec::ArrayVec;
 use fw_world::Missed;
@@ -6,15 +6,15 @@ use fw_world::Missed;
 /// The agent and its devices.
 const NODES: [u8; 3] = [8, 9, 10];
 
-/// A moment: the units of time that had passed, and the ticks that a node had counted.
+/// A moment: the ticks that had passed, and those that a node had counted.
 #[derive(Clone, Copy, Default)]
 struct Moment {
     units: u32,
     ticks: u32,
 }
 
-/// A node: what it counted until now, the moments before each tick that it missed, and how many it counted since the last of
-/// these, at most 8.
+/// A node's clock: its count so far, the moments before each tick that it missed, and the ticks
+/// counted since the last of these, at most 8.
 #[derive(Drop)]
 struct Clock {
     now: Moment,
@@ -30,7 +30,7 @@ pub struct Clocks {
 }
 
 impl Clock {
-    /// A clock that has missed no tick.
+    /// Creates a clock that has missed no tick.
     fn new() -> Clock {
         Clock {
             now: Moment { units: 0, ticks: 0 },
@@ -39,7 +39,7 @@ impl Clock {
         }
     }
 
-    /// A unit passes, which the node counts or misses: whether it keeps time.
+    /// Passes a tick, which the node counts or misses. Returns whether it keeps time.
     fn pass(&mut self, counts: bool) -> bool {
         let before = self.now;
         self.now.units = before.units.saturating_add(1);
@@ -56,8 +56,9 @@ impl Clock {
         self.keeps_time()
     }
 
-    /// Whether the units are at most the ticks counted in them, an eighth of these and one, from each tick that was missed to the
-    /// last. It suffices to look at these times: a tick that is counted before or after one adds a unit on both sides.
+    /// Whether the ticks passed are at most the ticks counted in them, an eighth of these and one,
+    /// from each missed tick to the last one. It suffices to test these times: a tick that is
+    /// counted before or after adds one on both sides.
     fn keeps_time(&self) -> bool {
         for first in self.misses.iter() {
             let ticks = self.now.ticks.saturating_sub(first.ticks);
@@ -71,7 +72,7 @@ impl Clock {
 }
 
 impl Clocks {
-    /// None has missed a tick.
+    /// Creates clocks that have missed no tick.
     pub fn new() -> Clocks {
         Clocks {
             clocks: [Clock::new(), Clock::new(), Clock::new()],
@@ -79,7 +80,7 @@ impl Clocks {
         }
     }
 
-    /// Whether each of these nodes has counted eight ticks since it last missed one.
+    /// Returns whether each of the listed nodes has counted eight ticks since it last missed one.
     pub fn may_miss(&self, missed: &[u8]) -> bool {
         for (node, clock) in NODES.iter().zip(self.clocks.iter()) {
             if missed.contains(node) && clock.since_miss < 8 {
@@ -89,7 +90,7 @@ impl Clocks {
         true
     }
 
-    /// A unit passes, which these nodes miss.
+    /// Passes a tick, which the listed nodes miss.
     pub fn pass(&mut self, missed: &[u8]) {
         for (node, clock) in NODES.iter().zip(self.clocks.iter_mut()) {
             let keeps = clock.pass(!missed.contains(node));
@@ -98,7 +99,7 @@ impl Clocks {
     }
 }
 
-/// These nodes, as a tick names them.
+/// Returns the nodes as the argument of a tick.
 pub fn missed_by(nodes: &[u8]) -> Missed {
     let mut missed = Missed::new();
     let _ = missed.try_extend_from_slice(nodes);

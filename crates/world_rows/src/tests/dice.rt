@@ -1,13 +1,13 @@
-//! Numbers by a fixed rule.
+//! Pseudo-random numbers.
 
-/// Numbers that look random, each run the same (xorshift, 64 bits).
+/// Pseudo-random numbers, the same in each run (xorshift, 64 bits).
 #[derive(Drop)]
 pub struct Dice {
     state: u64,
 }
 
 impl Dice {
-    /// Dice that begin with this number.
+    /// Creates dice with this seed.
     pub fn new(seed: u64) -> Dice {
         Dice { state: seed | 1 }
     }
@@ -20,13 +20,13 @@ impl Dice {
         self.state
     }
 
-    /// Whether the next throw is one of `hits` of 256.
+    /// Returns true with a probability of `hits` in 256.
     pub fn hits(&mut self, hits: u8) -> bool {
         let [_, byte, ..] = self.roll().to_le_bytes();
         byte < hits
     }
 
-    /// A number from 0 to 255.
+    /// Returns a number from 0 to 255.
     pub fn byte(&mut self) -> u8 {
         let [_, _, byte, ..] = self.roll().to_le_bytes();
         byte

@@ -1,5 +1,5 @@
-//! Headers of packages whose images follow a rule. But for the last: sizes 38 + 20 c + 5 p, for component c and package p from 0,
-//! or 12 times that.
+//! Headers of packages whose images follow a rule. The sizes are 38 + 20 c + 5 p for component c
+//! and package p, both from 0, or 12 times that. The last header is an exception.
 
 /// The header of package 1 with 2 components.
 pub const TWO_FIRST: &[u8] = &[

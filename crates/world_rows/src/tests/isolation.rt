@@ -1,4 +1,4 @@
-//! Two worlds side by side, in which the same is between the agent and one device.
+//! Two worlds side by side that are the same between the agent and one device.
 
 use crate::tests::clocks::missed_by;
 use crate::tests::packages::{file, package};
@@ -13,10 +13,10 @@ use std::alloc::{AllocError, Global};
 use std::test::Fail;
 use ua_core::{Cause, SessionState};
 
-/// The device to which no packet comes.
+/// The device that receives no packet.
 const SILENT: u8 = 10;
 
-/// Puts a step of device 9 behind these for the other devices too; device 10 is started alone.
+/// Appends a step of device 9, and the same step for the other devices; device 10 is only started.
 fn put_for_all(steps: &mut Vec<Step>, step: &Step) -> Result<(), AllocError> {
     match step {
         Step::Start(_, package) => {
@@ -32,8 +32,8 @@ fn put_for_all(steps: &mut Vec<Step>, step: &Step) -> Result<(), AllocError> {
     Ok(())
 }
 
-/// The schedule of 19 ticks in which device 9 is updated over links that lose nothing, and misses the 15th tick; in that for all
-/// devices, 11 is updated likewise, and 10 hears nothing.
+/// The schedule of 19 ticks in which device 9 is updated over perfect links, and misses the 15th
+/// tick. In the schedule for all devices, 11 is updated in the same way, and 10 receives nothing.
 fn schedule(alloc: Global, all: bool) -> Result<Vec<Step>, AllocError> {
     let mut steps = Vec::new(alloc);
     for step in perfect(alloc)? {
@@ -59,7 +59,8 @@ fn is_done(world: &Small<'_>) -> bool {
         && stands(world, DEVICE, SessionState::Done, State::Idle, 27)
 }
 
-/// Whether device 9 is updated in both worlds alike, and the agent gave up the silent device.
+/// Whether device 9 is updated in both worlds in the same way, and the agent gave up the silent
+/// device.
 fn is_as_alone(among: &Small<'_>, alone: &Small<'_>) -> bool {
     let silent = SessionState::Failed(Cause::Silent);
     is_done(among)
@@ -68,7 +69,7 @@ fn is_as_alone(among: &Small<'_>, alone: &Small<'_>) -> bool {
         && stands(among, SILENT, silent, State::Idle, 3)
 }
 
-/// Whether both schedules are taken, and device 9 is updated among three as alone.
+/// Whether both schedules are taken, and device 9 is updated among three devices as alone.
 fn is_updated_as_alone<'a>(alloc: Global, packages: &'a [Package<'a>]) -> Result<bool, AllocError> {
     let for_all = schedule(alloc, true)?;
     let for_one = schedule(alloc, false)?;

@@ -1,4 +1,4 @@
-//! A request that comes again late, and meets the answer that was kept of it.
+//! A late repeated request, which gets the kept answer.
 
 use crate::tests::headers::TWO_COUNTED;
 use crate::tests::packages::package;
@@ -10,16 +10,17 @@ use mctp_wire::Unit;
 use std::alloc::{AllocError, Global};
 use std::test::Fail;
 
-/// The bytes that the device asks for last: behind 480 of 500, and at least 32.
+/// The last bytes that the device requests: after 480 of 500, and at least 32.
 const LAST: Command<'static> = Command::RequestFirmwareData {
     offset: 480,
     length: 32,
 };
 
-/// More packets than a turn of one device has.
+/// A bound above the number of packets in a turn of one device.
 const MOST: usize = 64;
 
-/// Where a message's command stands in its first packet: behind the packet's four bytes, the message's type, and two of PLDM's.
+/// The position of a message's command in its first packet: after the packet's four bytes, the
+/// message type, and two bytes of PLDM.
 const COMMAND: usize = 7;
 
 /// That request from its command on: RequestFirmwareData, the offset and the length (DSP0267).
@@ -34,7 +35,7 @@ fn file(alloc: Global) -> Result<Vec<u8>, AllocError> {
     Ok(out)
 }
 
-/// Appends so many bytes, byte i being i modulo 256.
+/// Appends `size` bytes, byte i being i modulo 256.
 fn count_up(out: &mut Vec<u8>, size: u32) -> Result<(), AllocError> {
     for place in 0..size {
         out.push((place % 256) as u8)?;
@@ -47,13 +48,14 @@ fn packet_at<'a>(world: &'a Small<'_>, number: usize) -> Option<DatedPacket<'a>>
     world.packets(DEVICE)?.get(number.checked_sub(1)?)
 }
 
-/// Who is to get a packet of the device's pair, if there is such a packet: its second byte says it (DSP0236).
+/// The destination of a packet of the device's pair, its second byte, if there is such a packet
+/// (DSP0236).
 fn receiver(world: &Small<'_>, number: usize) -> Option<u8> {
     packet_at(world, number)?.bytes.get(1).copied()
 }
 
-/// A tick, then each packet that isn't yet delivered, by rising number, and then the verdict that the device waits for, if it
-/// does. It gives how many packets are delivered then.
+/// Passes a tick, delivers each undelivered packet, in ascending numbers, and then gives the
+/// verdict that the device waits for, if any. Returns the number of packets delivered then.
 fn turn(world: &mut Small<'_>, delivered: usize) -> Result<usize, StepFault> {
     let mut delivered = delivered;
     step(world, &Step::Tick(Missed::new()))?;
@@ -73,7 +75,7 @@ fn turn(world: &mut Small<'_>, delivered: usize) -> Result<usize, StepFault> {
     Ok(delivered)
 }
 
-/// Whether a packet of the device's pair is its request for those bytes, sent in that tick.
+/// Whether a packet of the device's pair is its request for those bytes, sent at that tick.
 fn asks_for_last(world: &Small<'_>, number: usize, date: u32) -> bool {
     let Some(packet) = packet_at(world, number) else {
         return false;
@@ -89,7 +91,7 @@ fn waits_for_last(world: &Small<'_>) -> bool {
     node.device().state() == State::Download && node.device().wish() == Some(LAST)
 }
 
-/// Whether two packets of the device's pair are the same.
+/// Whether two packets of the device's pair are equal.
 fn is_same(world: &Small<'_>, one: usize, other: usize) -> bool {
     match (packet_at(world, one), packet_at(world, other)) {
         (Some(one), Some(other)) => one.bytes == other.bytes,
@@ -97,7 +99,8 @@ fn is_same(world: &Small<'_>, one: usize, other: usize) -> bool {
     }
 }
 
-/// UpdateComponent of the first component, packet 14, comes again while the second is loaded: its answer, packet 15, is sent again.
+/// UpdateComponent of the first component, packet 14, arrives again while the second is loaded: its
+/// answer, packet 15, is sent again.
 #[test]
 fn a_late_request_meets_its_kept_answer(rt: HostRuntime) -> Result<(), Fail> {
     let bytes = file(rt.alloc())?;

@@ -1,4 +1,4 @@
-//! The worked update, where memory is refused to none of its steps or to any one.
+//! The worked update, without refused memory or with one refused allocation.
 
 use crate::tests::packages::{file, is_image, package};
 use crate::tests::seeing::{is_updated, stands};
@@ -13,7 +13,7 @@ use std::borrow::CowSlice;
 use std::test::Fail;
 use ua_core::{Cause, SessionState};
 
-/// The time, and how many packets and entries of the history there are.
+/// The time, and the numbers of packets and of history entries.
 fn seen(world: &Small<'_>) -> (u32, usize, usize) {
     let packets = match world.packets(DEVICE) {
         Some(packets) => packets.len(),
@@ -22,8 +22,8 @@ fn seen(world: &Small<'_>) -> (u32, usize, usize) {
     (world.now(), packets, world.history().len())
 }
 
-/// Takes these steps, each again where memory is refused, up to the first that isn't allowed. Whether a refused step leaves the
-/// world as it was, and is taken when it is asked for again.
+/// Takes the steps, each again if memory is refused, up to the first that isn't allowed. Returns
+/// whether a refused step leaves the world unchanged, and is taken at the second try.
 fn takes(world: &mut Small<'_>, steps: &[Step]) -> bool {
     for next in steps {
         let before = seen(world);
@@ -40,15 +40,15 @@ fn takes(world: &mut Small<'_>, steps: &[Step]) -> bool {
     true
 }
 
-/// Whether this is the worked image, lent by its package.
+/// Whether this is the worked image, borrowed from its package.
 fn is_worked(image: &Image<'_>) -> bool {
     image.key == KEY
         && is_image(image.bytes.as_slice())
         && matches!(image.bytes, CowSlice::Borrowed(_))
 }
 
-/// Whether the device applied the image, the agent recorded the first component of the first package, and the device activated
-/// the image.
+/// Whether the device applied the image, the agent recorded the first component of the first
+/// package, and the device activated the image.
 fn told(world: &Small<'_>) -> bool {
     let [applied, recorded, activated] = world.history() else {
         return false;
@@ -67,8 +67,8 @@ fn told(world: &Small<'_>) -> bool {
         && (r.package, r.component) == (1, 0)
 }
 
-/// Whether the device runs the image after 12 ticks and 27 packets, of which those of the first 3 ticks are dead, and all is
-/// recorded.
+/// Returns whether the image is active after 12 ticks and 27 packets, of which those of the first 3
+/// ticks are dead, and all is recorded.
 pub fn is_done(world: &Small<'_>) -> bool {
     world.now() == 12
         && stands(world, DEVICE, SessionState::Done, State::Activate, 27)
@@ -78,7 +78,7 @@ pub fn is_done(world: &Small<'_>) -> bool {
         && (world.dead_packets(DEVICE), world.dead_packets(10)) == (6, 0)
 }
 
-/// Whether the device's bank failed once, and the session for that.
+/// Whether the device's bank failed once, and the session failed for that.
 fn is_failed(world: &Small<'_>) -> bool {
     let (Some(node), Some(session)) = (world.device(DEVICE), world.agent().session(DEVICE)) else {
         return false;
@@ -86,7 +86,7 @@ fn is_failed(world: &Small<'_>) -> bool {
     node.device().bank().failures() == 1 && session.state() == SessionState::Failed(Cause::Answer)
 }
 
-/// The worked world, asked for once more where memory for it is refused.
+/// Creates the worked world, at the second try if memory is refused.
 pub fn asked_twice<'a>(
     alloc: Global,
     packages: &'a [Package<'a>],
@@ -97,7 +97,7 @@ pub fn asked_twice<'a>(
     }
 }
 
-/// Holds whichever single allocation is refused.
+/// Whichever single allocation is refused, the test holds.
 #[test]
 fn refused_memory_takes_no_step(rt: HostRuntime) -> Result<(), Fail> {
     let bytes = match file(rt.alloc()) {

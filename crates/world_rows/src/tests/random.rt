@@ -1,4 +1,5 @@
-//! Random schedules, with misses of ticks, whose histories and clocks checkers of their own look at after each step.
+//! Random schedules, with missed ticks. After each step, separate checkers test their histories and
+//! clocks.
 
 use crate::tests::clocks::{Clocks, missed_by};
 use crate::tests::dice::Dice;
@@ -15,13 +16,13 @@ use mctp_wire::Unit;
 use std::alloc::{AllocError, Global};
 use std::test::Fail;
 
-/// How many ticks each schedule has.
+/// The number of ticks of each schedule.
 const TICKS: u32 = 90;
 
 const DEVICES: [u8; 2] = [9, 10];
 
-/// Schedules of a kind: how many, the network's transmission unit, the headers of both packages, how many components a device has,
-/// and how often the size of their images is stretched.
+/// Schedules of a kind: their number, the network's transmission unit, the headers of both
+/// packages, the number of a device's components, and the factor of the size of their images.
 #[derive(Clone, Copy)]
 struct Kind {
     schedules: u32,
@@ -39,7 +40,7 @@ const TWO: Kind = Kind {
     stretch: 1,
 };
 
-/// Images of one piece or two, each of up to 496 bytes, which four packets of 128 bytes carry.
+/// Images of one or two pieces, each of up to 496 bytes, which four packets of 128 bytes carry.
 const LONG: Kind = Kind {
     schedules: 2_000,
     unit: Unit::U128,
@@ -70,7 +71,7 @@ impl Kind {
     }
 }
 
-/// A world that takes random steps, and what its history shows.
+/// A world that takes random steps, and the observations of its history.
 #[derive(Drop)]
 struct Trial<'a> {
     world: Small<'a>,
@@ -81,13 +82,13 @@ struct Trial<'a> {
 }
 
 impl<'a> Trial<'a> {
-    /// Takes a step, if the world does, and looks at the history.
+    /// Takes a step, if the world allows it, and checks the history.
     fn take(&mut self, next: Step) {
         let _ = step(&mut self.world, &next);
         self.watch.look(self.world.history());
     }
 
-    /// The operator and the devices' users do something, sometimes.
+    /// Takes random steps of the operator and the devices' users.
     fn operate(&mut self, device: u8) {
         if self.dice.hits(40) {
             let number = if self.dice.hits(128) { 1 } else { 2 };
@@ -107,7 +108,7 @@ impl<'a> Trial<'a> {
         }
     }
 
-    /// Verdicts, mostly good, and the activation.
+    /// Takes verdicts, mostly good, and the activation.
     fn judge(&mut self, device: u8) {
         let bad = self.dice.hits(4);
         self.take(Step::Verdict(
@@ -129,7 +130,8 @@ impl<'a> Trial<'a> {
         self.take(Step::Activate(device));
     }
 
-    /// A packet comes to its other end, or to any node; some are lost, for now or forever.
+    /// Delivers a packet to its destination, or to any node; some packets are lost, for now or
+    /// forever.
     fn hand(&mut self, device: u8, number: usize) {
         if self.dice.hits(6) {
             return;
@@ -139,7 +141,7 @@ impl<'a> Trial<'a> {
         self.take(Step::Deliver(device, number, other));
     }
 
-    /// The packets that are new come, some of those that came before come again.
+    /// Delivers the new packets, and some of the earlier ones again.
     fn hand_new(&mut self, device: u8, place: usize) {
         for _ in 0..32 {
             let count = match self.world.packets(device) {
@@ -162,7 +164,7 @@ impl<'a> Trial<'a> {
         }
     }
 
-    /// The nodes that miss a tick: none, mostly.
+    /// The nodes that miss a tick, mostly none.
     fn missing(&mut self) -> &'static [u8] {
         if self.dice.hits(200) {
             return &[];
@@ -177,7 +179,8 @@ impl<'a> Trial<'a> {
         }
     }
 
-    /// A unit passes, which some nodes miss; where one of these may not, the world refuses it, and then nobody does.
+    /// Passes a tick, which some nodes miss. If one of them must not miss it, the world refuses
+    /// that, and then no node misses it.
     fn pass(&mut self) {
         let missed = self.missing();
         if self.clocks.may_miss(missed) {
@@ -190,7 +193,7 @@ impl<'a> Trial<'a> {
         self.count(&[]);
     }
 
-    /// A unit passes, which these nodes miss.
+    /// Passes a tick, which the listed nodes miss.
     fn count(&mut self, missed: &[u8]) {
         let taken = step(&mut self.world, &Step::Tick(missed_by(missed)));
         self.clocks.pass(missed);
@@ -210,7 +213,8 @@ impl<'a> Trial<'a> {
     }
 }
 
-/// How many activations the schedules reach; None where a history isn't safe, or a node doesn't keep time.
+/// The number of activations in the schedules; None if a history isn't safe, or a node doesn't keep
+/// time.
 fn activations<'p>(
     alloc: Global,
     packages: &'p [Package<'p>],
@@ -239,7 +243,8 @@ fn packages_of<'a>(first: &'a [u8], second: &'a [u8]) -> Result<[Package<'a>; 2]
     Ok([package(first)?, package(second)?])
 }
 
-/// Tells how many activations the schedules over two packages reach, and that they are safe, and more than one of five schedules.
+/// Prints the number of activations in the schedules over two packages. Returns whether the
+/// histories are safe, and that number exceeds a fifth of the number of schedules.
 fn many_are_safe(rt: &HostRuntime, kind: &Kind) -> Result<bool, Fail> {
     let first = kind.file(rt.alloc(), 0)?;
     let second = kind.file(rt.alloc(), 1)?;

@@ -1,4 +1,4 @@
-//! The worked update by `replay`, where memory is refused to none of its steps or to any one.
+//! The worked update by `replay`, without refused memory or with one refused allocation.
 
 use crate::tests::memory::{asked_twice, is_done};
 use crate::tests::packages::{file, package};
@@ -13,15 +13,15 @@ use std::alloc::{AllocError, Global};
 use std::test::Fail;
 use ua_core::{Cause, SessionState};
 
-/// How a replay ended.
+/// The result of a replay.
 type End = Result<(), (usize, StepFault)>;
 
-/// `replay`: the proofs of the tests need nothing of its contract.
+/// `replay`; its contract isn't needed in the proofs of the tests.
 fn replayed(world: &mut Small<'_>, steps: &[Step]) -> End {
     replay(world, steps)
 }
 
-/// Whether a fresh world that takes the first `count` steps is then the same.
+/// Whether a fresh world after the first `count` steps is the same.
 fn is_replay<'a>(
     alloc: Global,
     packages: &'a [Package<'a>],
@@ -37,14 +37,16 @@ fn is_replay<'a>(
     Ok(taken && are_alike(&fresh, made))
 }
 
-/// The answer to UpdateComponent, packet 12, where the bank can't begin: the command's byte, and completion code 1.
+/// The answer to UpdateComponent, packet 12, if the bank can't begin: the command's byte, and
+/// completion code 1.
 const NOT_BEGUN: &[u8] = &[0x14, 1];
 
-/// The place of the packet that the schedule delivers in the seventh tick, and which isn't sent where the bank can't begin.
+/// The place of the packet that the schedule delivers in the seventh tick, and which isn't sent if
+/// the bank can't begin.
 const DATA_REQUEST: usize = 20;
 
-/// Whether the device's bank failed once, at its `begin`: the device answers so, and the session fails, for which there is no data
-/// request in the seventh tick.
+/// Whether the device's bank failed once, in its `begin`: the device answers with the failure, and
+/// the session fails, since there is no data request in the seventh tick.
 fn is_without_stage(world: &Small<'_>) -> bool {
     let (Some(node), Some(packets)) = (world.device(DEVICE), world.packets(DEVICE)) else {
         return false;
@@ -67,8 +69,8 @@ fn is_without_stage(world: &Small<'_>) -> bool {
         && world.history().is_empty()
 }
 
-/// Whether the replay of these steps ended rightly, in this world: the update is done; or memory was refused, and the world is that
-/// of the steps before; or the bank had no memory for the image.
+/// Whether the replay of the steps ended as it may: the update is done; or memory was refused, and
+/// the world is that of the steps before; or the bank had no memory for the image.
 fn ends_rightly<'a>(
     alloc: Global,
     packages: &'a [Package<'a>],
@@ -83,7 +85,7 @@ fn ends_rightly<'a>(
     }
 }
 
-/// Holds whichever single allocation is refused.
+/// Whichever single allocation is refused, the test holds.
 #[test]
 fn refused_memory_ends_a_replay(rt: HostRuntime) -> Result<(), Fail> {
     let bytes = match file(rt.alloc()) {

@@ -1,4 +1,4 @@
-//! What is seen of a world.
+//! Observations of a world.
 
 use crate::tests::packages::is_image;
 use crate::tests::setup::{DEVICE, KEY, Small};
@@ -6,7 +6,8 @@ use fd_core::{Bank, State};
 use fw_world::{Entry, HistoryEvent, Image};
 use ua_core::SessionState;
 
-/// Whether the same packets were sent between the agent and a device in two worlds, each at the same tick.
+/// Returns whether the same packets were sent between the agent and a device in two worlds, each at
+/// the same tick.
 pub fn sent_alike(one: &Small<'_>, other: &Small<'_>, device: u8) -> bool {
     let (Some(packets), Some(others)) = (one.packets(device), other.packets(device)) else {
         return false;
@@ -19,7 +20,8 @@ pub fn sent_alike(one: &Small<'_>, other: &Small<'_>, device: u8) -> bool {
     packets.len() == others.len()
 }
 
-/// Whether a device and its session stand so, and so many packets were sent between it and the agent.
+/// Returns whether a device and its session are in these states, and this number of packets was
+/// sent between it and the agent.
 pub fn stands(
     world: &Small<'_>,
     device: u8,
@@ -39,7 +41,7 @@ pub fn stands(
     }
 }
 
-/// The image that a device runs.
+/// The active image of a device.
 fn image_of<'w>(world: &'w Small<'_>, device: u8) -> &'w [u8] {
     let Some(node) = world.device(device) else {
         return &[];
@@ -50,17 +52,18 @@ fn image_of<'w>(world: &'w Small<'_>, device: u8) -> &'w [u8] {
     }
 }
 
-/// Whether a device runs the worked image.
+/// Returns whether a device's active image is the worked one.
 pub fn is_updated(world: &Small<'_>, device: u8) -> bool {
     is_image(image_of(world, device))
 }
 
-/// Whether a device runs the image AA, with which it came.
+/// Returns whether a device's active image is AA, the first one.
 pub fn runs_first(world: &Small<'_>, device: u8) -> bool {
     image_of(world, device) == [0xAA].as_slice()
 }
 
-/// Whether the worked device and its session are in the same state in two worlds, and the device runs the same image.
+/// Whether the worked device and its session are in the same states in two worlds, with the same
+/// active image.
 fn nodes_alike(one: &Small<'_>, other: &Small<'_>) -> bool {
     let (Some(node), Some(session)) = (one.device(DEVICE), one.agent().session(DEVICE)) else {
         return false;
@@ -88,12 +91,12 @@ fn logs_alike(one: &Small<'_>, other: &Small<'_>) -> bool {
     log.len() == others.len()
 }
 
-/// Whether two images are the same.
+/// Whether two images are equal.
 fn images_alike(one: &Image<'_>, other: &Image<'_>) -> bool {
     one.key == other.key && one.bytes.as_slice() == other.bytes.as_slice()
 }
 
-/// Whether two entries of a history are the same.
+/// Whether two entries of a history are equal.
 fn entries_alike(one: &Entry<'_>, other: &Entry<'_>) -> bool {
     one.device == other.device
         && match (&one.event, &other.event) {
@@ -119,8 +122,8 @@ fn histories_alike(one: &Small<'_>, other: &Small<'_>) -> bool {
     history.len() == others.len()
 }
 
-/// Whether two worlds of the worked device show the same: the time, the nodes, the packets, the event log, its last answer and the
-/// history.
+/// Returns whether two worlds of the worked device are equal in time, nodes, packets, event log,
+/// its last answer, and history.
 pub fn are_alike(one: &Small<'_>, other: &Small<'_>) -> bool {
     one.now() == other.now()
         && nodes_alike(one, other)

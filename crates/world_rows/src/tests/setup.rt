@@ -1,4 +1,4 @@
-//! The worked devices with their agent, as worlds.
+//! The worlds of the worked devices with their agent.
 
 ghost use Rattle.std.specs.Prelude.{◌≡◌, IfOk};
 ghost use Rattle.std.specs.List.{AllByRecursion};
@@ -19,7 +19,7 @@ use mctp_wire::Unit;
 use std::alloc::{AllocError, Global};
 use uuid::Uuid;
 
-/// The worked device.
+/// The worked device's endpoint identifier.
 pub const DEVICE: u8 = 9;
 
 /// The devices' first component: stamp 1, `1.0`, image AA.
@@ -28,7 +28,7 @@ pub const KEY: Key = Key {
     identifier: 1,
 };
 
-/// The second and the third component of a device that has them.
+/// The second and the third component of a device with more than one.
 const SECOND: Key = Key {
     classification: 10,
     identifier: 2,
@@ -62,7 +62,7 @@ fn descriptors() -> DescriptorList {
     descriptors
 }
 
-/// Stamp 1, `1.0`.
+/// The label with stamp 1 and text `1.0`.
 fn label() -> Label {
     Label::new(&Version {
         stamp: 1,
@@ -73,7 +73,7 @@ fn label() -> Label {
     })
 }
 
-/// A device of so many components, 1 to 3: (10, 1) to (10, 3).
+/// A device of `count` components, 1 to 3: (10, 1) to (10, 3).
 fn device(alloc: Global, unit: Unit, count: usize) -> Result<Device<MemBank>, AllocError>
     ensures unit { IfOk result (λ d. d.device.unit ≡ unit) }
     ensures components { IfOk result (λ d. HasComponents d.device) }
@@ -126,7 +126,7 @@ fn node(
     Ok(DeviceNode::new(endpoint(eid), 8, device))
 }
 
-/// The nodes of so many such devices, 1 to 3: 9 to 11.
+/// The nodes of such devices, 1 to 3: 9 to 11.
 fn nodes(
     alloc: Global,
     unit: Unit,
@@ -148,8 +148,8 @@ fn nodes(
     Ok(nodes)
 }
 
-/// The world of the agent 8 and so many devices alike, 1 to 3, of so many components, 1 to 3, on a network of this transmission
-/// unit.
+/// Creates the world of the agent 8 and 1 to 3 equal devices, of 1 to 3 components each, on a
+/// network with this transmission unit.
 pub fn world<'a>(
     alloc: Global,
     unit: Unit,
@@ -165,7 +165,7 @@ pub fn world<'a>(
     )
 }
 
-/// `World::step`: the proofs of the tests need nothing of its contract.
+/// `World::step`; its contract isn't needed in the proofs of the tests.
 pub fn step(world: &mut Small<'_>, step: &Step) -> Result<(), StepFault> {
     world.step(step)
 }

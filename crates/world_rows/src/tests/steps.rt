@@ -4,11 +4,12 @@ use fd_core::Verdict;
 use fw_world::{Missed, Step};
 use std::alloc::{AllocError, Global};
 
-/// The update over links that lose nothing, a letter a step: the start, points for ticks, the node that gets the next packet, the
-/// verdicts that the image verifies and is applied, and the activation.
+/// The update over perfect links, one letter a step: the start, points for ticks, the node that
+/// receives the next packet, the verdicts that the image verifies and is applied, and the
+/// activation.
 const UPDATE: &[u8; 43] = b"s.98.98.98.98.98.98.89999.89.89v.89a.89A.98";
 
-/// The schedule of an update over links that lose nothing, in turns.
+/// Returns the schedule of an update over perfect links, in turns.
 pub fn perfect(alloc: Global) -> Result<Vec<Step>, AllocError> {
     let mut steps = Vec::new(alloc);
     let mut number: usize = 0;
@@ -21,7 +22,7 @@ pub fn perfect(alloc: Global) -> Result<Vec<Step>, AllocError> {
     Ok(steps)
 }
 
-/// The step of a letter, where a packet that is delivered has this number.
+/// The step of a letter; `number` is that of the packet that it delivers.
 fn step_of(letter: u8, number: usize) -> Step {
     match letter {
         b'8' => Step::Deliver(9, number, 8),

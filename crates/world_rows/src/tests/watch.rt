@@ -1,8 +1,8 @@
-//! Whether a history is safe, told from its entries alone.
+//! Whether a history is safe, judged by its entries alone.
 
 use fw_world::{Entry, HistoryEvent, Image};
 
-/// How many packages, and how many components each.
+/// The number of packages, and of the components of each.
 const PACKAGES: usize = 2;
 
 const COMPONENTS: usize = 3;
@@ -16,12 +16,12 @@ pub fn byte_of(package: usize, component: usize, i: usize) -> u8 {
     byte
 }
 
-/// The size of that image, where sizes are stretched so many times, 1 to 12.
+/// Returns the size of that image, multiplied by `stretch`, 1 to 12.
 pub fn size_of(package: usize, component: usize, stretch: u8) -> usize {
     (38 + 20 * (component % 3) + 5 * (package % 2)).saturating_mul(usize::from(stretch))
 }
 
-/// Whether bytes are a package's image for a component, of a size that is stretched so many times.
+/// Whether bytes are a package's image for a component, with a size multiplied by `stretch`.
 fn is_image(package: usize, component: usize, stretch: u8, bytes: &[u8]) -> bool {
     if bytes.len() != size_of(package, component, stretch) {
         return false;
@@ -34,8 +34,9 @@ fn is_image(package: usize, component: usize, stretch: u8, bytes: &[u8]) -> bool
     true
 }
 
-/// What was seen of a device, whose images are stretched so many times: how often each component was applied and recorded, which
-/// were recorded since the last activation, which stood recorded before the one that goes on, and its package.
+/// The observations of a device whose images are multiplied by `stretch`: how often each component
+/// was applied and recorded, which were recorded since the last activation, which were recorded
+/// before the current one, and its package.
 #[derive(Clone, Copy)]
 struct Seen {
     stretch: u8,
@@ -46,7 +47,7 @@ struct Seen {
     package: Option<usize>,
 }
 
-/// What was seen of the devices 9 and 10, how many activations there were, and whether all was safe.
+/// The observations of the devices 9 and 10, the number of activations, and whether all was safe.
 #[derive(Drop)]
 pub struct Watch {
     devices: [Seen; 2],
@@ -56,7 +57,8 @@ pub struct Watch {
 }
 
 impl Watch {
-    /// Nothing is seen yet of devices whose images are stretched so many times.
+    /// Creates the observations of devices whose images are multiplied by `stretch`, before the
+    /// first entry.
     pub fn new(stretch: u8) -> Watch {
         let nothing = Seen {
             stretch,
@@ -74,7 +76,7 @@ impl Watch {
         }
     }
 
-    /// Looks at the entries that weren't there before.
+    /// Observes the new entries of a history.
     pub fn look(&mut self, history: &[Entry<'_>]) {
         let Some(new) = history.get(self.entries..) else {
             self.is_safe = false;
@@ -86,7 +88,7 @@ impl Watch {
         self.entries = history.len();
     }
 
-    /// Looks at an entry.
+    /// Observes an entry.
     fn see(&mut self, entry: &Entry<'_>) {
         let Some(seen) = self
             .devices
@@ -104,19 +106,19 @@ impl Watch {
     }
 }
 
-/// The component of this number, from 0, of an image's key.
+/// The number of the component, from 0, of an image's key.
 fn component_of(image: &Image<'_>) -> usize {
     usize::from(image.key.identifier).saturating_sub(1)
 }
 
-/// Counts one more.
+/// Increments a count.
 fn count(table: &mut Table, package: usize, component: usize) -> Option<u32> {
     let place = table.get_mut(package)?.get_mut(component)?;
     *place = place.saturating_add(1);
     Some(*place)
 }
 
-/// How often that was.
+/// The value of a count.
 fn times(table: &Table, package: usize, component: usize) -> u32 {
     match table.get(package) {
         Some(row) => row.get(component).copied().unwrap_or(0),
@@ -125,7 +127,7 @@ fn times(table: &Table, package: usize, component: usize) -> u32 {
 }
 
 impl Seen {
-    /// Whether an activation begins with this.
+    /// Whether an activation begins with this entry.
     fn begins(&self, event: &HistoryEvent<'_>) -> bool {
         match event {
             HistoryEvent::Activated(_) => self.package.is_none(),
@@ -133,7 +135,7 @@ impl Seen {
         }
     }
 
-    /// Takes note of what happened: whether it is safe.
+    /// Records an event, and returns whether it is safe.
     fn takes(&mut self, event: &HistoryEvent<'_>) -> bool {
         match event {
             HistoryEvent::Applied(image) => self.applies(image),
@@ -142,7 +144,7 @@ impl Seen {
         }
     }
 
-    /// An image is applied; an activation that went on has ended.
+    /// Records an applied image, which ends an activation. Returns whether that is safe.
     fn applies(&mut self, image: &Image<'_>) -> bool {
         self.package = None;
         let component = component_of(image);
@@ -154,7 +156,8 @@ impl Seen {
         false
     }
 
-    /// A component of a package, counted from 1, is recorded: it was applied once more than it was recorded.
+    /// Records a recorded component of a package, both counted from 1. It must have been applied
+    /// once more than it was recorded.
     fn records(&mut self, package: usize, component: usize) -> bool {
         let package = package.saturating_sub(1);
         let Some(recorded) = count(&mut self.recorded, package, component) else {
@@ -164,7 +167,8 @@ impl Seen {
         recorded <= times(&self.applied, package, component)
     }
 
-    /// An image is activated: it is a component's that was recorded, and all of one activation are of one package.
+    /// Records an activated image. It must be a recorded component's, and all images of one
+    /// activation must be of one package.
     fn activates(&mut self, image: &Image<'_>) -> bool {
         let component = component_of(image);
         if self.package.is_none() {
