@@ -79,7 +79,7 @@ abbrev pub since_all : List Bool → ℕ → ℕ
 since_all [] n = n
 since_all (b ∷ bs) n = since_all bs (since_after b n)
 
--- While some units pass, a node counts at most as many ticks as units, and at least so many that
--- the units are at most `late` of them.
+-- While some units pass, a node counts at most as many ticks as units, and the units are at most
+-- `late` of its ticks.
 abbrev pub TicksAreLate : Type 0
 TicksAreLate = (bs : List Bool) (n : ℕ) → n ≤ 8 → AreAllowed bs n → (counted_ticks bs ≤ length bs) × (length bs ≤ late (counted_ticks bs))

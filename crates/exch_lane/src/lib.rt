@@ -1,5 +1,5 @@
-//! One lane: the requests of one node to another and their replies, over packets (DSP0236) that are lost, repeated,
-//! reordered and late, with the exchanges of PLDM messages (DSP0240) at both ends.
+//! One lane: the requests of one node to another and their replies, over packets (DSP0236) that are
+//! lost, repeated, reordered and late, with the exchanges of PLDM messages (DSP0240) at both ends.
 #![tactic(auto)]
 
 mod clock;

@@ -34,8 +34,8 @@ node_calls_bank s (Some n) = pair_step_calls_bank n.pair (pair_step true s)
 abbrev pub message_step_calls_bank : MessageWorldOf → MessageStep → Bool
 message_step_calls_bank w s = node_calls_bank s (node_at w.nodes (device_of s))
 
--- The effect of a step that may be taken depends on whether the bank works exactly if the step calls
--- the bank.
+-- The effect of a step that may be taken depends on whether the bank works exactly if the step
+-- calls the bank.
 abbrev pub PairStepsDependOnCalls : Type 0
 PairStepsDependOnCalls = (packages : List PackageText) (m : PairOf) (s : MessageStep)
     → is_some (step_of packages m (pair_step true s)) ≡ true

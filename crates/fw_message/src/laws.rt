@@ -54,8 +54,8 @@ pub fn message_worlds_are_judged()
     ensures { MessageWorldsAreJudged }
 {}
 
-/// The effect of a step that may be taken depends on whether the bank works exactly if the step calls
-/// the bank.
+/// The effect of a step that may be taken depends on whether the bank works exactly if the step
+/// calls the bank.
 pub fn bank_calls_decide()
     ensures { PairStepsDependOnCalls }
 {}

@@ -1,5 +1,5 @@
--- The outcome of a packet for a device's half depends on whether the bank works exactly if the packet
--- calls the bank.
+-- The outcome of a packet for a device's half depends on whether the bank works exactly if the
+-- packet calls the bank.
 use Rattle.std.proofs.Common.{ℕ, ◌≡◌, ◌∷◌, [], ◌==◌, ◌&&◌, Bool, true, false, List, Option, Result, Ok, Err, refl}
 use Rattle.mctp_reasm.specs.Held.{Held}
 use Rattle.mctp_reasm.specs.Pieces.{MessageOf}
@@ -28,7 +28,7 @@ work_failed : HalfOutcome TimedDevice → Bool
 work_failed (HalfOutcome.Went half sent) = has_failed half.core.device.phase
 work_failed outcome = false
 
--- a half whose device took a command, and learnt an answer, by what that makes of the device
+-- a half whose device took a command, or received an answer, with this effect
 taken_by : HalfOf TimedDevice → CommandOf → List (Option Held) → MessageOf → PldmHead → CommandEffect → HalfOutcome TimedDevice
 taken_by h c requests m head t =
     HalfOutcome.Took

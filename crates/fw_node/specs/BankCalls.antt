@@ -28,8 +28,8 @@ packet_calls_bank core h bytes =
     incoming_calls_bank core h
     (incoming (asker_row h.unit h.own h.peer h.asker bytes) (taker_row h.unit h.own h.peer h.taker bytes))
 
--- The outcome of a packet for a device's half depends on whether the bank works exactly if the packet
--- calls the bank.
+-- The outcome of a packet for a device's half depends on whether the bank works exactly if the
+-- packet calls the bank.
 abbrev pub PacketsDependOnCalls : Type 0
 PacketsDependOnCalls = (h : HalfOf TimedDevice) (bytes : List ℕ)
     → DifferIf (packet_calls_bank device_core h bytes) (half_on_packet device_core false h bytes) (half_on_packet device_core true h bytes)
