@@ -1,6 +1,6 @@
 -- The effect of a call on a device depends on whether its bank works exactly if the device calls
 -- the bank.
-use Rattle.std.proofs.Common.{◌≡◌, ◌≢◌, ◌==◌, ◌∙◌, ap, refl, sym, nat_lt, not, Bool, true, false, ℕ, List, length, Option, Some, is_some, if◌then◌else◌}
+use Rattle.std.proofs.Common.{◌≡◌, ◌≢◌, ◌==◌, ◌∙◌, ap, refl, sym, nat_lt, not, Bool, true, false, ℕ, List, length, Option, Some, None, is_some, if◌then◌else◌}
 use Rattle.pldm_base.specs.Codes.{error, invalid_data}
 use Rattle.fwup_wire.specs.Answers.{answer_bytes}
 use Rattle.fwup_wire.specs.Values.{AnswerOf, CommandOf, TableEntryOf, OfferOf, UpdateRequestOf}
@@ -9,7 +9,7 @@ use Rattle.fd_core.specs.Codes.{activation_not_required, incomplete_update, long
 use Rattle.fd_core.specs.Commands.{OfferRow, RequestRow, SwitchRow, TableRow, bytes_work, cancel_by, cancel_row, device_answer, device_take, download_progress, has_applied, is_odd_request, is_switch, lacks_listed, offer_by, offer_restriction, offer_row, offer_under, request_by, request_row, restriction, return_by, return_row, switch_by, switch_row, table_by, table_row}
 use Rattle.fd_core.specs.Images.{RowOf}
 use Rattle.fd_core.specs.States.{DeviceState, Phase, UpdateOf, WorkOf}
-use Rattle.fd_core.specs.Steps.{VerdictEffect, device_verdict, judged_or, verdict_at}
+use Rattle.fd_core.specs.Steps.{VerdictEffect, device_verdict, verdict_at}
 use Rattle.fd_core.specs.Wishes.{DeviceLearnRow, applied_row, apply_by, asked_length, device_learn, download_by, download_row, has_failed, is_failure, learn_at, piece_row, report_row, stage_with, verified_row, verify_by}
 use Rattle.fd_core.specs.declared.parts.BankComponent.{BankComponent}
 use Rattle.fd_core.specs.declared.states.Progress.{Progress}
