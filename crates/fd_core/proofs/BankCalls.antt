@@ -118,14 +118,14 @@ answers_depend v a = differ_if (λ l. has_failed l.after.phase) (answer_calls_ba
 
 -- VERDICTS
 
-pub effect_failed : Option VerdictEffect → Bool
+abbrev pub effect_failed : Option VerdictEffect → Bool
 effect_failed None = false
 effect_failed (Some j) = has_failed j.after.phase
 
 verdicts_in : (v : DeviceState) (p : Phase) (verdict : Verdict) → DifferInIf effect_failed (verdict_calls_bank_in p verdict) (verdict_at v p verdict false) (verdict_at v p verdict true)
 verdicts_in v (Phase.Verify u w progress.InProgress) verdicts.VerifyOk = refl
 verdicts_in v (Phase.Verify u w progress.InProgress) verdicts.VerifyFail = refl
-verdicts_in v (Phase.Apply u w progress.InProgress) verdicts.ApplyOk = λ e. absurd (cc)
+verdicts_in v (Phase.Apply u w progress.InProgress) verdicts.ApplyOk = λ e. absurd (let same : true ≡ false = e in cc)
 verdicts_in v (Phase.Apply u w progress.InProgress) verdicts.ApplyFail = refl
 verdicts_in v p verdict = refl
 

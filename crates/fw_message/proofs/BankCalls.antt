@@ -65,21 +65,21 @@ world_alone w s works e = named_alone w s works (restarts_agent w.agent s) e
 
 -- A STEP THAT CALLS THE BANK
 
-reply_or : Option AnswerOf → AnswerOf
+abbrev reply_or : Option AnswerOf → AnswerOf
 reply_or None = AnswerOf.TransferComplete
 reply_or (Some a) = a
 
-reply_in : Option CellContentOf → AnswerOf
+abbrev reply_in : Option CellContentOf → AnswerOf
 reply_in None = AnswerOf.TransferComplete
 reply_in (Some h) = reply_or h.reply
 
 -- the answer in the cell of what the agent asks
-answer_given : Option Stepped → AnswerOf
+abbrev answer_given : Option Stepped → AnswerOf
 answer_given None = AnswerOf.TransferComplete
 answer_given (Some t) = reply_in t.after.down
 
 -- the work of the device failed
-work_failed : Option Stepped → Bool
+abbrev work_failed : Option Stepped → Bool
 work_failed None = false
 work_failed (Some t) = has_failed t.after.device.phase
 

@@ -19,17 +19,17 @@ use Rattle.fw_node.specs.Cores.{TimedDevice, answer_or, device_core}
 use Rattle.fw_node.specs.Halves.{HalfOf, HalfOutcome, half_after_answer, half_after_settle, half_on_rows, incoming, read_by, takes_if, takes_read}
 
 -- the answer that a core gave
-answer_given : HalfOutcome TimedDevice → AnswerOf
+abbrev answer_given : HalfOutcome TimedDevice → AnswerOf
 answer_given (HalfOutcome.Took half sent command answer) = answer
 answer_given outcome = AnswerOf.TransferComplete
 
 -- the work of the device failed
-work_failed : HalfOutcome TimedDevice → Bool
+abbrev work_failed : HalfOutcome TimedDevice → Bool
 work_failed (HalfOutcome.Went half sent) = has_failed half.core.device.phase
 work_failed outcome = false
 
 -- a half whose device took a command, or received an answer, with this effect
-taken_by : HalfOf TimedDevice → CommandOf → List (Option Held) → MessageOf → PldmHead → CommandEffect → HalfOutcome TimedDevice
+abbrev taken_by : HalfOf TimedDevice → CommandOf → List (Option Held) → MessageOf → PldmHead → CommandEffect → HalfOutcome TimedDevice
 taken_by h c requests m head t =
     HalfOutcome.Took
     (half_after_settle device_core (half_after_answer (record h { core = record { device = t.after; idle = idle_count_if h.core.idle t.stirs } }) requests m head (answer_bytes t.answer)))
@@ -37,7 +37,7 @@ taken_by h c requests m head t =
     c
     t.answer
 
-learnt_by : HalfOf TimedDevice → List (Option Held) → CallerState → AnswerEffect → HalfOutcome TimedDevice
+abbrev learnt_by : HalfOf TimedDevice → List (Option Held) → CallerState → AnswerEffect → HalfOutcome TimedDevice
 learnt_by h replies caller l =
     HalfOutcome.Went
     (half_after_settle device_core (record h {
