@@ -45,8 +45,8 @@ is_good verdicts.VerifyOk = true
 is_good verdicts.ApplyOk = true
 is_good verdict = false
 
--- A step that a run takes by itself: no node misses a tick or restarts, no update is started or
--- cancelled, and no event log request is made.
+-- A step that a run takes by itself: no node misses a tick or restarts, each verdict is a success,
+-- no update is started or cancelled, and no event log request is made.
 abbrev pub is_driven : Step → Bool
 is_driven (steps.Deliver device number node) = true
 is_driven (steps.Tick missed) = length missed.items == 0

@@ -118,8 +118,8 @@ pub record PartErr {A : Type 0} (tally : A → Tally) (taken gave : A → LinkBy
   pub failed : ReportsFaultOfLinks told (map (λ l. (tally l).failures) olds) (map (λ l. (tally l).failures) news)
 
 -- A fault ended a turn in one of its parts. The steps taken are listed, at most one of them a tick.
--- The fault is the clock's exactly if the clock is at its last tick, and a link's exactly if one
--- failed, once.
+-- The fault is the clock's exactly if the clock was at its last tick before the turn, and a link's
+-- exactly if one failed, once.
 pub record TurnErr {A : Type 0} (tally : A → Tally) (taken gave : A → LinkBytes) (told : EdgeFault) (w : WorldOf) (before : List Step) (written : List ℕ) (olds : List A) (v : WorldOf) (after : List Step) (news : List A) : Type 0 where
   pub drives : Drives w before v after
   pub few : ticks_in after ≤ ticks_in before + 1
@@ -145,7 +145,7 @@ pub record DriveOk {A : Type 0} (tally : A → Tally) (taken gave : A → LinkBy
   pub counts : LinksDriveOk tally turns w before olds v after news foreign
 
 -- A fault ended a run in one of the turns asked for. It is a link's exactly if one failed, once,
--- and the clock's exactly if the clock is at its last tick.
+-- and the clock's exactly if the clock was at its last tick before that turn.
 pub record DriveErr {A : Type 0} (tally : A → Tally) (taken gave : A → LinkBytes) (asked_for : ℕ) (told : EdgeFault) (w : WorldOf) (before : List Step) (written_before : List ℕ) (olds : List A) (v : WorldOf) (after : List Step) (news : List A) : Type 0 where
   pub failed : ReportsFaultOfLinks told (map (λ l. (tally l).failures) olds) (map (λ l. (tally l).failures) news)
   pub step : told ≡ faults.Step → v.now ≡ 2 ^ 32 - 1
@@ -172,7 +172,7 @@ pub record StepsErr (told : EdgeFault) (ss : List Step) (w : WorldOf) (before : 
   pub fault : told ≡ faults.Memory
   pub some : TakesSome w before ss v after
 
--- A step may fail for lack of memory: the list had no room for one more step, or it had, and the
--- step itself may need memory.
+-- A step may fail for lack of memory: the list had no room for one more step, or it has room now,
+-- and the step itself needs memory.
 abbrev pub LacksMemory : Step → (listed room_before room_now : ℕ) → Type 0
 LacksMemory step listed room_before room_now = (room_before < listed + 1) ⊎ ((listed + 1 ≤ room_now) × (needs_memory step ≡ true))

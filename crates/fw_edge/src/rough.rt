@@ -20,7 +20,7 @@ use mctp_wire::{RawPacket, copy_of};
 use rand_pcg::Pcg32;
 use std::alloc::{AllocError, Global};
 
-/// The number of delayed packets that fit without allocating: more than the frames of any turn.
+/// The number of delayed packets that `with_room` reserves room for.
 const MOST_HELD: usize = 1_024;
 
 /// A delayed packet.

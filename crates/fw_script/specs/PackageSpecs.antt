@@ -211,7 +211,7 @@ spec_draft_after_words line d (name ∷ fields) = line_named line d (spec_direct
 unfoldable pub after_spec_line : ℕ → SpecDraftOf → List ℕ → Result SpecDraftOf ScriptCause
 after_spec_line number d line = if is_skipped line then Ok d else spec_draft_after_words number d (words_of line)
 
--- a record uses a component beyond `count`
+-- a record uses a component, counted from 0, whose number isn't below `count`
 unfoldable pub is_past : ℕ → SpecRecordOf → Bool
 is_past count r = not (list_all (λ k. nat_lt k count) r.uses)
 
@@ -248,7 +248,7 @@ abbrev pub at_spec_line : ℕ → (SpecDraftOf → Result PackageSpecOf ScriptFa
 at_spec_line number next (Ok d) = next d
 at_spec_line number next (Err cause) = Err (record { line = number; cause = cause })
 
--- the description after the remaining lines, of which `before` lines were read already
+-- the description after the remaining lines; `before` lines were read already
 abbrev pub spec_from : List (List ℕ) → ℕ → SpecDraftOf → Result PackageSpecOf ScriptFault
 spec_from [] before d = spec_finished (before + 1) d
 spec_from (line ∷ lines) before d = at_spec_line (before + 1) (spec_from lines (before + 1)) (after_spec_line (before + 1) d line)

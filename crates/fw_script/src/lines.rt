@@ -6,7 +6,7 @@ ghost use Rattle.fw_script.specs.Lines.{fields_in, is_skipped as says_nothing, l
 
 use arrayvec::ArrayVec;
 
-/// The most fields of a line, except of one that lists nodes.
+/// The most fields of a line of a configuration or schedule, except of one that lists nodes.
 pub const MAX_FIELDS: usize = 6;
 
 /// The position of the first `byte`.

@@ -79,7 +79,7 @@ impl ScheduleText {
     }
 
     /// Writes the next step: the line of the held-back ticks, then the step's line. A tick that no
-    /// node misses is held back instead.
+    /// node misses is held back instead; the 1000th of them writes their line.
     ///
     /// # Errors
     /// `AllocError` if memory is refused. The count of held-back ticks is unchanged; the text's

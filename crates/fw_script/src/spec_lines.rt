@@ -99,7 +99,7 @@ fn are_there(uses: &[u16], count: usize) -> bool
     true
 }
 
-/// The line of the first record that uses a component beyond `count`.
+/// The line of the first record that uses a component, counted from 0, not below `count`.
 fn past_line(records: &[SpecRecord], count: usize) -> Option<usize>
     ensures { result ≡ past_line_of count (map spec_record_of records.now) }
 {
@@ -112,7 +112,7 @@ fn past_line(records: &[SpecRecord], count: usize) -> Option<usize>
 }
 
 impl SpecRecord {
-    /// Whether it uses a component beyond `count`.
+    /// Whether it uses a component, counted from 0, whose number isn't below `count`.
     #[tactic(auto, unfolding(crate::specs::PackageSpecs::is_past))]
     fn is_past(&self, count: usize) -> bool
         ensures { result ≡ is_past_of count (spec_record_of self.now) }

@@ -59,8 +59,8 @@ abbrev pub runs_after_entry : (own : Bool) → EntryOf → Key → (runs : List 
 runs_after_entry true (EntryOf.Activated p) key runs = if same_key key p.key then p.bytes else runs
 runs_after_entry own e key runs = runs
 
--- The active image under a key of a device after a history: the last one activated, or the first
--- one.
+-- The active image under a key of a device after a history: the last one activated, or else
+-- `first`, the one that the device began with.
 abbrev pub runs_after : List NotedOf → (device : ℕ) → Key → (first : List ℕ) → List ℕ
 runs_after [] device key first = first
 runs_after (x ∷ xs) device key first = runs_after xs device key (runs_after_entry (x.device == device) x.entry key first)

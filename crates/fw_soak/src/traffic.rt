@@ -11,7 +11,7 @@ use fwupd_base::Roughness;
 use std::alloc::{AllocError, Global};
 use std::collections::VecDeque;
 
-/// The number of rounds in a turn; two nodes need far fewer to finish an exchange.
+/// The most rounds of a turn; two nodes need far fewer to finish an exchange.
 const ROUNDS: u16 = 1024;
 
 /// A packet, by its pair, its number, and the node that receives it.

@@ -220,8 +220,8 @@ fn turn(
     Ok(())
 }
 
-/// Takes turns until each session is Done or Failed and the operator starts no more. Without a
-/// package there are none.
+/// Takes turns until each session is Done or Failed and the operator starts no more, at most
+/// `TURNS`. Without a package it takes none.
 #[tactic(auto, using(crate::proofs::Coursing::going))]
 fn take_turns(
     course: &mut SoakCourse<'_>,

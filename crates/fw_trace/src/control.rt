@@ -24,7 +24,7 @@ const REQUEST_SHIFT: u32 = 6;
 /// The mask of the instance identifier in that byte.
 const INSTANCE_MASK: u8 = 0x1F;
 
-/// The completion code of a success (DSP0236, Table 13). Only then fields follow.
+/// The completion code of a success (DSP0236, Table 13). Only then the fields are decoded.
 const SUCCESS: u8 = 0x00;
 
 /// The size of a UUID in bytes.

@@ -94,7 +94,8 @@ pub record ReportsUnseen (files : List ℕ → FileOf) (config : SourceOf) (sche
   pub had : watched.fault ≡ Some fault
   pub let_end : watched.has_ended ≡ true
 
--- Nothing is replayed: an input would be overwritten, or an output is refused.
+-- Nothing is replayed: an output may overwrite an input or another output, is in a store, or is
+-- refused.
 pub record LacksKept (files : List ℕ → FileOf) (config : SourceOf) (schedule : List ℕ) (show : ShowOf) (refuses : List ℕ → Bool) (told : JobFault) (watched : ObserverOf) (before now : OutputOf) : Type 0 where
   pub kept : now ≡ before
   pub says : ConfigOf

@@ -101,8 +101,8 @@ pub record ReportsUpdate (files : List ℕ → FileOf) (config : SourceOf) (numb
   pub kept_up : HasHistoryLinesIfAny watched.history left.history
   pub written : WritesOutput before now (report_in show.form left)
 
--- The report of the world that was reached is written. If a link failed, the observer got its
--- device. If the observer had no fault of its own, the steps to that world are recorded.
+-- The report of the world that was reached is written. If a link failed, the observer got a device
+-- of that world. If the observer had no fault of its own, the steps to that world are recorded.
 pub record ReportsReached (files : List ℕ → FileOf) (config : SourceOf) (number : ℕ) (show : ShowOf) (told : JobFault) (watched : ObserverOf) (before now : OutputOf) : Type 0 where
   pub world : WorldOf
   pub begins : IsObservedSetup files config number show world

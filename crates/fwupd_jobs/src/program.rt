@@ -122,7 +122,7 @@ fn run<W: Write + Drop>(rt: &HostRuntime, job: &Job<'_>, output: &mut Output<W>)
 }
 
 /// Exit status after printing help or a usage error: 2 for a usage error; 0 for help, even if the
-/// reader closed the pipe; 1, with a message, if writing failed.
+/// reader closed the pipe; 1, with a message, if writing the help failed.
 fn printed(rt: &HostRuntime, error: &clap::Error, outcome: io::Result<()>) -> ExitCode
     ensures usage { kind_of error.now ≢ DisplayHelp → kind_of error.now ≢ DisplayVersion → exit_status result ≡ 2 }
     ensures shown { (kind_of error.now ≡ DisplayHelp) ⊎ (kind_of error.now ≡ DisplayVersion) → OnOk outcome (exit_status result ≡ 0) }
@@ -138,8 +138,8 @@ fn printed(rt: &HostRuntime, error: &clap::Error, outcome: io::Result<()>) -> Ex
 }
 
 /// Prints help or a usage error in place of a job, and returns the exit status: 2 for a usage
-/// error; 0 for help, even if the reader closed the pipe; 1 if writing failed or memory was
-/// refused. No contract covers which arguments these are, or that the text was printed.
+/// error; 0 for help, even if the reader closed the pipe; 1 if writing the help failed or memory
+/// was refused. No contract covers which arguments these are, or that the text was printed.
 fn no_job(rt: &HostRuntime, error: &clap::Error) -> ExitCode
     ensures memory { kind_of error.now ≡ OutOfMemory → exit_status result ≡ 1 }
     ensures shown { (kind_of error.now ≡ DisplayHelp) ⊎ (kind_of error.now ≡ DisplayVersion)

@@ -53,7 +53,7 @@ fn connected<N: SocketNames>(
 /// Makes a socket at this path, and a link over it to itself. The path exists only meanwhile.
 ///
 /// # Errors
-/// The path exists already, or the socket can't be made. The path doesn't remain then.
+/// The path exists already, or the socket can't be made. Nothing of the socket remains then.
 #[tactic(auto, using(crate::proofs::Names::given_back))]
 fn socket_link<N: SocketNames>(
     alloc: Global,

@@ -32,7 +32,7 @@ IsApart files show paths =
     × ((IsApartFromUsed files show.log show.trace None paths × IsOutOfStore files show.log show.store)
     × (IsApartFromUsed files show.record_path show.trace show.log paths × IsOutOfStore files show.record_path show.store))
 
--- The output of this fault would overwrite one of the paths or another output, or is in a store.
+-- The output of this fault may overwrite one of the paths or another output, or is in a store.
 abbrev pub IsOverRead : (files : List ℕ → FileOf) → ShowOf → List (List ℕ) → JobFault → Type 0
 IsOverRead files show paths faults.Trace = IsOverUsed files show.trace None None paths ⊎ IsInStore files show.trace show.store
 IsOverRead files show paths faults.Log = IsOverUsed files show.log show.trace None paths ⊎ IsInStore files show.log show.store

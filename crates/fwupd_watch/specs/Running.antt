@@ -79,7 +79,7 @@ job_fault_of_observer watches.Unrecorded = faults.Record
 job_fault_of_observer watches.Unkept = faults.History
 job_fault_of_observer watches.Memory = faults.Memory
 
--- the observer's fault of a run's fault, if it is one
+-- the observer's fault of a run's fault, if only an observer can have it; lack of memory isn't one
 abbrev pub observer_fault_of : JobFault → Option ObserverFault
 observer_fault_of faults.Trace = Some watches.Unwritten
 observer_fault_of faults.Log = Some watches.Unlogged
@@ -196,8 +196,8 @@ MayRefuse refuses show faults.Record = IsSomeAnd show.record_path (λ path. refu
 MayRefuse refuses show faults.History = IsSomeAnd show.history (λ path. refuses path ≡ true)
 MayRefuse refuses show told = ⊥
 
--- The cause of a run's fault: a start is refused or the clock is at its last tick, or an output of
--- the observer can't be written. The observer has ended.
+-- The cause of a fault that stops a run: if it is `Step`, a start is refused or the clock is at its
+-- last tick; if it is that of an output, the observer has that fault. The observer has ended.
 pub record IsCaused (number : ℕ) (w v : WorldOf) (told : JobFault) (watched : ObserverOf) : Type 0 where
   pub broken : IsBrokenRun told
   pub stopped : told ≡ faults.Edge edges.Step → IsRefusedStart number w v ⊎ (v.now ≡ 2 ^ 32 - 1)

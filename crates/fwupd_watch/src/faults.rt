@@ -63,7 +63,7 @@ pub enum JobFault {
     /// failure, or its state.
     #[error("session {0}: {1}")]
     Session(u8, &'static str),
-    /// Standard output can't be written.
+    /// Standard output or a file that a job makes can't be written.
     #[error("output")]
     Output,
     /// Memory was refused.

@@ -59,8 +59,8 @@ pub trait Observer {
     /// Records the steps that were taken, if that is requested.
     ///
     /// # Errors
-    /// The observer's first fault: an earlier one, or that the steps can't be written, or that
-    /// memory is refused.
+    /// The observer's first fault: an earlier one, or that the steps can't be written or a schedule
+    /// can't encode one of them, or that memory is refused.
     fn note(&mut self, steps: &[Step]) -> Result<(), ObserverFault>
         ensures ok { OnOk result ((watched self.new).fault ≡ None) }
         ensures err { IfErr result (λ e. (watched self.new).fault ≡ Some e) }
@@ -190,7 +190,7 @@ fn see_turn<B: Bank + Drop, V: Observer>(
 }
 
 /// The fault of a run if a turn fails. The observer still records its steps, and observes the
-/// world; a fault of its own is dropped then.
+/// world; a fault of its own isn't returned then.
 fn broken_off<B: Bank + Drop, V: Observer>(
     world: &World<'_, B>,
     watch: &mut V,

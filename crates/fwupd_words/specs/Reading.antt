@@ -55,8 +55,8 @@ FindsSubcommand line words result = MatchResult result (IsFound line words) (Has
 abbrev pub IsNoByte : Given → (name : Text) → Type 0
 IsNoByte words name = (text : Text) → words.one name ≡ Some text → IsNumeral 10 (without_leading_plus text) → number_of text < 2 ^ 8 → ⊥
 
--- Why arguments give no endpoint: memory ran out, the identifier is missing, or the text isn't a
--- UUID.
+-- Why arguments give no endpoint: memory ran out, there is no identifier of 8 bits, or the text
+-- isn't a UUID.
 abbrev pub RefusesEndpoint : Given → Error → Type 0
 RefusesEndpoint words error =
     (kind_of error ≡ kinds.OutOfMemory)
