@@ -97,9 +97,9 @@ pub record TiedAccepts : Type 0 where
   pub when_recorded : is_tied (bank old_boot (Some (image new_boot))) (recorded_component 1 0 ∷ []) (take 2 worked_update)
   pub when_activated : is_tied (bank new_boot None) (recorded_component 1 0 ∷ []) worked_update
 
--- Banks and records that aren't tied: a running image that isn't the one activated last, or is
--- activated too soon; an applied image of before the last activation, or with other bytes than were
--- applied; a record that wasn't made, or a record that is missing.
+-- Banks and records that aren't tied: a running image that isn't the one activated last, or that
+-- runs before it is activated; an applied image of before the last activation, or with other bytes
+-- than were applied; a record that wasn't made, or a record that is missing.
 pub record TiedRefuses : Type 0 where
   pub old_runs : is_tied (bank old_boot None) (recorded_component 1 0 ∷ []) worked_update → ⊥
   pub runs_too_soon : is_tied (bank new_boot None) (recorded_component 1 0 ∷ []) (take 2 worked_update) → ⊥

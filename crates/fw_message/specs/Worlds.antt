@@ -136,8 +136,7 @@ abbrev pub named_step : ℕ → Bool → MessageStep → WorldStepOf
 named_step agent works s =
     if restarts_agent agent s then WorldStepOf.RestartAgent else WorldStepOf.OfPair (device_of s) (pair_step works s)
 
--- the reason why a step isn't taken: `Refused` for the operator's calls and verdicts, `NotNow` for
--- others
+-- the reason why a step isn't taken: `Refused` for Start, Activate and Verdict, `NotNow` for others
 abbrev pub refusal_of : MessageStep → MessageStepFault
 refusal_of (steps.Start device number) = faults.Refused
 refusal_of (steps.Activate device) = faults.Refused

@@ -15,10 +15,10 @@
 -- 4. `fw_message`, `Laws`: `IsSafeAndTied`, both; and `IsUnapplied`, a component without an applied
 --    image. `Pairs`: `PairOf`, a device and the agent's session for it, and `PairRun`, a pair with
 --    its history. `WorldLaws`: `history_of`, the history of one device, in order.
--- 5. `mctp_wire`, `Units`: `Unit`, the size of a packet, which all nodes share. `exch_lane`,
---    `Lanes`: `Sent`, a packet as it was sent, with its date; `lives_until`, 8 units later;
---    `item_numbered`, the element of a list with a number from 1; `IsEid`, 8 to 254. `Clocks`:
---    `may_beat`, a node misses a tick only after eight that it counted.
+-- 5. `mctp_wire`, `Units`: `Unit`, the most bytes of a packet's body, which all nodes share.
+--    `exch_lane`, `Lanes`: `Sent`, a packet as it was sent, with its date; `lives_until`, 8 units
+--    later; `item_numbered`, the element of a list with a number from 1; `IsEid`, 8 to 254.
+--    `Clocks`: `may_beat`, a node misses a tick only after eight that it counted.
 -- 6. `fd_core`, `States`: `DeviceOf`, a device, and `Phase`, its phase in an update. `Components`:
 --    `HasComponents`, its bank has its components. `Banks`: `CountsFailure`, a bank's count of
 --    failures rose, or is at its last value. `Steps`: `device_verdict`, a device after a `Verdict`
@@ -178,7 +178,8 @@ may_site_beat missed x = may_beat (counts missed x.node.endpoint.eid) x.since_mi
 abbrev pub may_all_beat : (missed : List ℕ) → WorldOf → Bool
 may_all_beat missed w = may_beat (counts missed w.agent.endpoint.eid) w.since_miss && list_all (may_site_beat missed) w.sites
 
--- the nodes that miss a tick are known, the clock isn't at its end, and each of them may miss it
+-- the fault of a tick; none if the nodes that miss it are known, the clock isn't at its end, and
+-- each of these nodes may miss it
 abbrev pub tick_fault : (known soon may : Bool) → Option StepFault
 tick_fault false soon may = Some faults.NoSuchNode
 tick_fault true false may = Some (faults.Refused refusals.ClockEnd)

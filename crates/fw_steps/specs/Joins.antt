@@ -61,8 +61,8 @@ cell_unless wish None cell = cell
 cell_unless wish (Some o) cell = cell_kept (still_wished wish o) cell
 
 -- A link and a pair: the same session, the same device, and for each way the lane's cell matches
--- the pair's. Both ends of a half are deaf for as long, each command that its asker waits for is
--- pending, and each command is one that the other half answers.
+-- the pair's. In each half both ends are deaf for the same number of ticks, each command that its
+-- asker waits for is pending, and each command is one that the other half answers.
 pub record LinkMatchesPair (packages : List PackageText) (l : LinkOf) (down_cell up_cell : Cell) (m : PairOf) : Type 0 where
   pub session : m.session ≡ l.agent.core.session
   pub device : m.device ≡ l.device.core.device

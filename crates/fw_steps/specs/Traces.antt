@@ -6,8 +6,10 @@
 --    steps of a play.
 -- 2. `TracesAreCut`: the acts up to a unit that all processes have reached are a trace by
 --    themselves.
--- 3. `TracesAreSafe`: the processes are safe at the end of each such unit. Read `specs/Alone`
---    first, for the calls of a node, and `specs/Plays` for the processes and `IsRun`.
+-- 3. `TracesAreSafe`: the processes are safe at the end of each such unit.
+--
+-- Read `specs/Alone` first, for the calls of a node, and `specs/Plays` for the processes and
+-- `IsRun`.
 use Rattle.std.specs.Prelude.{ℕ, ◌≡◌, ◌≤◌, ◌<◌, ◌+◌, ◌-◌, ◌^◌, ◌==◌, ◌++◌, ◌∷◌, [], Bool, true, if◌then◌else◌, nat_le, IfSome, IsSomeAnd, List, Option, Some, None}
 use Rattle.std.specs.List.{Contains}
 use Rattle.std.specs.Option.{option_map}

@@ -1,6 +1,6 @@
 -- The packet world: an agent, its devices, every packet that was ever sent between them, and the
--- history. In a step the step's node changes. A packet stays after it was delivered, so that it may
--- be delivered again, later, or never.
+-- history. A step changes the world only by the calls of its nodes. A packet stays after it was
+-- delivered, so that it may be delivered again, later, or never.
 use Rattle.std.specs.Prelude.{ℕ, ◌+◌, ◌==◌, ◌∷◌, ◌++◌, [], Bool, true, false, not, if◌then◌else◌, List, length, map, option_to_list, slice_get, slice_set, Option, Some, None, Result, Ok, Err}
 use Rattle.std.specs.List.{list_any}
 use Rattle.mctp_wire.specs.declared.fault.WireFault.{WireFault}

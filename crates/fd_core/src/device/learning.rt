@@ -17,8 +17,8 @@ use fwup_wire::{Answer, Malformed};
 impl<B: Bank> Device<B> {
     /// Takes the answer to the device's pending command. The bytes of an image are stored within
     /// its size, and the answer to a report moves the device to the next state. Any other answer
-    /// leaves the pending command as it is, except that a failure is reported once any answer
-    /// arrived.
+    /// leaves the pending command as it is, except that a failure counts as reported after any
+    /// answer to its report.
     pub fn learn(&mut self, answer: Result<&Answer<'_>, Malformed>)
         ensures after { self.new.device ≡ device_learn self.old.device (option_map (λ a. answer_of a.now) (result_ok answer.entry)) (not (has_failed self.new.device.phase)) }
         ensures idle { self.new.idle ≡ idle_learnt self.old.idle self.old.device (option_map (λ a. answer_of a.now) (result_ok answer.entry)) (not (has_failed self.new.device.phase)) }

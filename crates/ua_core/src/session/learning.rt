@@ -21,9 +21,10 @@ use fwup_wire::{Answer, Malformed};
 use pldm_base::completion::ERROR_NOT_READY;
 
 impl Session {
-    /// Takes the answer to the pending command. If the device isn't ready, the same command stays
-    /// pending. Any other unexpected answer fails the update. A session without a pending command
-    /// ignores the answer.
+    /// Takes the answer to the pending command. The same command stays pending in Request and
+    /// Update if the device isn't ready, and in Update and Activate if the device is still ending
+    /// the step before. In Cancelling any answer leads to Idle. Any other unexpected answer fails
+    /// the update. A session without a pending command ignores the answer.
     pub fn learn(&mut self, answer: Result<&Answer<'_>, Malformed>, lent: &Lent<'_>)
         ensures session { self.new.session ≡ agent_learn lent.now self.old.session (result_map_both (λ a. answer_of a.now) (λ e. e) answer.entry) }
         ensures idle { self.new.idle ≡ learn_idle lent.now self.old.session self.old.idle (result_map_both (λ a. answer_of a.now) (λ e. e) answer.entry) }
