@@ -97,7 +97,7 @@ module _ (ps : List PackageText) (ds : List DescriptorOf) where
     pub told_stands : (m : PairOf) (c : CommandOf) (a : AnswerOf) (l : Bool) → AreTold ds (Some a)
         → Together ps ds (since es) (with_down m (Some (cell c (Some a) l))) m.session.number m.session.stage
         → IsStanding ps ds first es (asking m c l)
-        → Stood ps ds first es (taken m c l (told m.device a))
+        → Stood ps ds first es (taken m c l (effect_of_answer m.device a))
     unfolding down_taken
     told_stands m c a l t h s =
         record {
@@ -116,7 +116,7 @@ module _ (ps : List PackageText) (ds : List DescriptorOf) where
 
     pub other_stands : (m : PairOf) (c : CommandOf) (a : AnswerOf) (l : Bool) → AreTold ds (Some a) → IsOther c
         → IsStanding ps ds first es (asking m c l)
-        → Stood ps ds first es (taken m c l (told m.device a))
+        → Stood ps ds first es (taken m c l (effect_of_answer m.device a))
     other_stands m c a l t o s =
         told_stands m c a l t (other_told (since es) m m.session.number c a l m.session.stage o s.command s.together) s
 
@@ -130,7 +130,7 @@ module _ (ps : List PackageText) (ds : List DescriptorOf) where
     -- QueryDeviceIdentifiers
     pub query_stands : (m : PairOf) (l : Bool)
         → IsStanding ps ds first es (asking m CommandOf.QueryDeviceIdentifiers l)
-        → Stood ps ds first es (taken m CommandOf.QueryDeviceIdentifiers l (told m.device (AnswerOf.QueryDeviceIdentifiers m.device.descriptors)))
+        → Stood ps ds first es (taken m CommandOf.QueryDeviceIdentifiers l (effect_of_answer m.device (AnswerOf.QueryDeviceIdentifiers m.device.descriptors)))
     query_stands m l s =
         other_stands m CommandOf.QueryDeviceIdentifiers (AnswerOf.QueryDeviceIdentifiers m.device.descriptors) l s.identified tt s
 
