@@ -58,8 +58,8 @@ others_than images (k ∷ ks) = if is_some (image_for images k.key) then others_
 abbrev pub stored_after : (images stored : List KeptOf) → List KeptOf
 stored_after images stored = images ++ others_than images stored
 
--- Over the images of any configuration, keeping some images replaces those of their components, and
--- no others.
+-- Over the images of any configuration, keeping some images in a folder replaces those of their
+-- components, and no others.
 abbrev pub WhatIsKeptIsFound : Type 0
 WhatIsKeptIsFound = (base images stored : List KeptOf) → kept_after base (stored_after images stored) ≡ kept_after (kept_after base stored) images
 

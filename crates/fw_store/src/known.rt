@@ -13,7 +13,7 @@ use std::marker::Model;
 pub enum Failing {
     /// No effect.
     Before,
-    /// A file has half of its bytes. A file to rename isn't renamed.
+    /// A file has half of its bytes. A file to rename isn't renamed. A file to remove is removed.
     Half,
     /// The whole effect.
     After,

@@ -13,8 +13,8 @@ pub fn nothing_else_reads()
     ensures { NothingElseIsRead }
 {}
 
-/// Over the images of any configuration, keeping some images replaces those of their components,
-/// and no others.
+/// Over the images of any configuration, keeping some images in a folder replaces those of their
+/// components, and no others.
 pub fn what_is_kept_is_found()
     ensures { WhatIsKeptIsFound }
 {}

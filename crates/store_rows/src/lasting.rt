@@ -102,8 +102,8 @@ fn keep<'a>(store: &mut FolderStore<KnownFolder>, first: &'a [u8], second: &'a [
     store.keep(&images).is_ok()
 }
 
-/// Whether one failing call leaves the images before or after it, and those after it if no failure
-/// is reported.
+/// Whether a failing call of the folder leaves the images from before or after `keep`, and those
+/// from after if `keep` reports no failure.
 fn lasts(alloc: Global, call: u32, failing: Failing) -> Result<bool, Fail> {
     let mut store = open(
         alloc,
@@ -135,8 +135,8 @@ fn a_call_that_fails_leaves_the_images_before_or_after(rt: HostRuntime) -> Resul
     Ok(())
 }
 
-/// Whether a crash after each call leaves the images before or after it, and never those before
-/// once it left those after.
+/// Whether a crash after each call of the folder leaves the images from before or after `keep`.
+/// Once one left those from after, no later one leaves those from before.
 fn stands(alloc: Global, call: u32, failing: Failing) -> Result<bool, Fail> {
     let mut store = open(
         alloc,

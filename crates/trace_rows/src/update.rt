@@ -2,7 +2,7 @@
 
 use crate::rows::Row;
 
-/// One update over perfect links.
+/// One complete update over perfect links.
 pub const UPDATE: [Row<'static>; 27] = [
     (
         1,

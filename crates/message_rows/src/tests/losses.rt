@@ -76,7 +76,8 @@ fn joined<'a>(alloc: Global, packages: &'a [Package<'a>]) -> Result<Small<'a>, M
     Ok(world)
 }
 
-/// Takes the worked steps until the device's bank fails, if it does. Returns whether each is taken.
+/// Takes the worked steps until the device's bank has failed and the session has received the
+/// device's answer, if it does. Returns whether each step is taken.
 fn takes_until_failed(world: &mut Small<'_>) -> bool {
     for (number, step) in worked().iter().enumerate() {
         if !takes_again(world, number, *step) {

@@ -65,7 +65,7 @@ fn put(out: &mut File, bytes: &[u8]) {
     let _ = out.try_extend_from_slice(bytes);
 }
 
-/// Appends the number of parts, and the parts.
+/// Appends the number of parts in one byte, the bytes `more`, and the parts.
 fn put_all(out: &mut File, parts: &[&[u8]], more: &[u8]) {
     put(out, &[u8::try_from(parts.len()).unwrap_or(0)]);
     put(out, more);

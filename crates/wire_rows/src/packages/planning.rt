@@ -111,7 +111,8 @@ pub static NINE: [&[u8]; 9] = [
     ],
 ];
 
-/// The package of the given components, with one record that uses the first `used`.
+/// The package of the given components, with one record that uses the first eight, and component
+/// 8 + i if bit i of `used` is set.
 fn with_components(components: &[&[u8]], used: u8) -> File {
     file(Draft {
         bitmap_bits: 16,

@@ -46,7 +46,7 @@ const NOT_BEGUN: &[u8] = &[0x14, 1];
 const DATA_REQUEST: usize = 20;
 
 /// Whether the device's bank failed once, in its `begin`: the device answers with the failure, and
-/// the session fails, since there is no data request in the seventh tick.
+/// the session fails, so there is no data request in the seventh tick.
 fn is_without_stage(world: &Small<'_>) -> bool {
     let (Some(node), Some(packets)) = (world.device(DEVICE), world.packets(DEVICE)) else {
         return false;

@@ -156,8 +156,8 @@ impl Seen {
         false
     }
 
-    /// Records a recorded component of a package, both counted from 1. It must have been applied
-    /// once more than it was recorded.
+    /// Records a recorded component, counted from 0, of a package, counted from 1. It must have
+    /// been applied more often than it was recorded before.
     fn records(&mut self, package: usize, component: usize) -> bool {
         let package = package.saturating_sub(1);
         let Some(recorded) = count(&mut self.recorded, package, component) else {
