@@ -18,8 +18,9 @@ use std::alloc::Global;
 
 /// A store over the files of a folder, with its images in memory too.
 ///
-/// The store is settled if the folder's `active` has its lines, the lines' images are there, and the
-/// number of each line is below the store's next one. A number is used once, even if the call fails.
+/// The store is settled if the folder's `active` has its lines, the lines' images are there, and
+/// the number of each line is below the store's next one. A number is used once, even if the call
+/// fails.
 /// The store is sure until the folder can't report whether a text replaced `active`. Then it keeps
 /// no more images, and the next opening of the folder finds the images that were kept or those that
 /// were to be kept.
