@@ -1,5 +1,5 @@
 -- Steps that are taken and observed one by one.
-use Rattle.std.proofs.Common.{◌≡◌, ◌<◌, ◌≤◌, ◌+◌, ◌-◌, ◌^◌, ◌∙◌, ℕ, zero, suc, List, [], ◌∷◌, Some, IfSome, drop, length, take, get_or, inl, inr, subst, sym, ap, refl, arith}
+use Rattle.std.proofs.Common.{◌≡◌, ◌<◌, ◌≤◌, ◌+◌, ◌-◌, ◌^◌, ◌∙◌, ℕ, suc, List, [], ◌∷◌, Some, IfSome, drop, length, take, get_or, inl, inr, subst, sym, ap, refl, arith}
 use Rattle.std.proofs.Math.Seq.{drop-cons}
 use Rattle.std.proofs.lemmas.List.{length-drop, take_all, take_more}
 use Rattle.std.proofs.lemmas.Option.{slice_get_read}
@@ -53,13 +53,3 @@ pub none_left : (all : List Step) (i : ℕ) → drop i all ≡ [] → i ≤ leng
 none_left all i h few =
     let none : length all - i ≡ 0 = sym (length-drop i all) ∙ ap length h in
     (take_all i all (omega (arith, none)), omega (arith, none, few))
-
--- a replay of one step takes this step
-pub run_one : (w v : WorldOf) (s : Step) → Run w (s ∷ []) v → StepsTo w s v
-run_one w v s h = subst (StepsTo w s) (sym h.2) h.1
-
--- or it is refused, and the world is the same
-pub refused_one : (w v : WorldOf) (s : Step) (i : ℕ) (fault : StepFault) → (i < length (s ∷ [])) × Run w (take i (s ∷ [])) v × IfSome (slice_get (s ∷ []) i) (λ x. RefusesStep v x fault)
-    → (v ≡ w) × RefusesStep w s fault
-refused_one w v s zero fault h = (h.1, subst (λ x. RefusesStep x s fault) h.1 h.2)
-refused_one w v s (suc i) fault h = absurd (let few : suc i < 1 = h.0 in omega arith)
