@@ -1,15 +1,18 @@
 -- The faults of a job on a world.
-use Rattle.std.proofs.Common.{◌++◌, ◌∷◌, take, true, ◌≡◌, ◌⊎◌, ◌<◌, ◌+◌, ℕ, Bool, List, Option, None, Some, inl, inr, length, refl, ap, subst}
+use Rattle.std.proofs.Common.{◌++◌, ◌∷◌, [], arith, sym, take, true, ◌≡◌, ◌⊎◌, ◌<◌, ◌+◌, ℕ, Bool, List, Option, None, Some, inl, inr, length, refl, ap, subst}
 use Rattle.std.specs.Prelude.{IfSome}
+use Rattle.std.proofs.lemmas.List.{take_all}
 use Rattle.fw_json.specs.Forms.{report_in}
 use Rattle.fwupd_base.specs.declared.forms.Form.{Form}
 use Rattle.fw_script.specs.Configs.{ConfigOf, config_of}
 use Rattle.fw_script.specs.Schedules.{script_of}
-use Rattle.fw_steps.specs.Headline.{IsOpeningWorld, IsSafeWorld, PacketsAreSafe}
+use Rattle.fw_edge.proofs.Going.{run_append}
+use Rattle.fw_steps.specs.Clocks.{RunsKeepTime}
+use Rattle.fw_steps.specs.Headline.{IsOpeningWorld, IsSafeWorld, PacketsAreSafe, Run, RunsGrow, RunsStayTied}
 use Rattle.fw_steps.specs.Worlds.{WorldOf}
 use Rattle.fw_steps.specs.declared.step.Step.{Step}
 use Rattle.fw_steps.specs.declared.step.StepFault.{StepFault}
-use Rattle.fwupd_jobs.specs.Replayed.{IsReplayed, IsReport, LeavesWorld, ReplayEnds, Reports, ReportsReplay}
+use Rattle.fwupd_jobs.specs.Replayed.{IsReplayed, IsReport, LeavesWorld, ReplayEnds, Reports, ReportsReplay, steps_taken}
 use Rattle.fwupd_watch.specs.Histories.{MayHaveHistoryLines}
 use Rattle.fwupd_watch.specs.Outputs.{FailsToWriteOutput, OutputOf, WritesOutput}
 use Rattle.fwupd_jobs.specs.Promises.{IsSafeSince}
@@ -28,19 +31,35 @@ use Rattle.fwupd_watch.specs.declared.faults.JobFault.TheVariants as faults
 pub safe_reached : (number : ℕ) (w v : WorldOf) → PacketsAreSafe → IsOpeningWorld w → RunsSteps number w v → IsSafeSince w v
 safe_reached number w v law opens h = record { begins = opens; safe = law w v (starts_of number (take h.started w.sites) ++ h.steps) opens h.run }
 
--- and so is the world after a replay
-safe_left : (w v : WorldOf) (steps : List Step) (fault : Option (ℕ × StepFault)) → PacketsAreSafe → IsOpeningWorld w → LeavesWorld w steps fault v → IsSafeWorld w v
-safe_left w v steps None law opens h = law w v steps opens h
-safe_left w v steps (Some f) law opens h = law w v (take f.0 steps) opens h.1
+-- a replay is a run of the steps that were taken
+run_left : (w v : WorldOf) (steps : List Step) (fault : Option (ℕ × StepFault)) → LeavesWorld w steps fault v → Run w (steps_taken steps fault) v
+run_left w v steps None h = subst (λ ss. Run w ss v) (sym (take_all (length steps) steps (omega arith))) h
+run_left w v steps (Some f) h = h.1
 
--- the world after a replay is safe
-pub replayed_by : (w x v : WorldOf) (steps : List Step) (fault : Option (ℕ × StepFault)) (form : Form) (text : List ℕ) → x ≡ w → IsOpeningWorld x → PacketsAreSafe
+-- The laws of runs from an opening world.
+pub record LawsOfRuns : Type 0 where
+  pub safe : PacketsAreSafe
+  pub grow : RunsGrow
+  pub tied : RunsStayTied
+  pub time : RunsKeepTime
+
+-- the world after a replay is safe, and tied with the first
+pub replayed_by : (w x v : WorldOf) (steps : List Step) (fault : Option (ℕ × StepFault)) (form : Form) (text : List ℕ) → x ≡ w → IsOpeningWorld x → LawsOfRuns
     → LeavesWorld x steps fault v → text ≡ report_in form v → IsReplayed w steps fault form text
-replayed_by w x v steps fault form text is opens law left report =
+replayed_by w x v steps fault form text is opens laws left report =
+    let run = run_left x v steps fault left in
     subst (λ z. IsReplayed z steps fault form text) is (record {
       world = v;
       left = left;
-      promised = record { begins = opens; safe = safe_left x v steps fault law opens left };
+      promised = record { begins = opens; safe = laws.safe x v (steps_taken steps fault) opens run };
+      grown = laws.grow x v (steps_taken steps fault) run;
+      tied = laws.tied x x v [] (steps_taken steps fault) opens refl run;
+      clocks = laws.time x x v [] (steps_taken steps fault) opens refl run;
+      moments = λ earlier later before between first second. (
+        laws.safe x later (before ++ between) opens (run_append x earlier later before between first second),
+        laws.tied x earlier later before between opens first second,
+      );
+      time = λ earlier later before between first second. laws.time x earlier later before between opens first second;
       report = report;
     })
 

@@ -4,7 +4,9 @@ use Rattle.fw_script.specs.Configs.{ConfigOf, config_of}
 use Rattle.fw_script.specs.Schedules.{script_of}
 use Rattle.fw_json.specs.Forms.{report_in}
 use Rattle.fwupd_base.specs.declared.forms.Form.{Form}
-use Rattle.fw_steps.specs.Headline.{Run}
+use Rattle.fw_steps.specs.Clocks.{KeepsTime}
+use Rattle.fw_steps.specs.Headline.{IsSafeWorld, Run, is_node}
+use Rattle.fw_steps.specs.Moments.{GrowsHistory, IsTiedBetween}
 use Rattle.fw_steps.specs.Replays.{RefusesStep}
 use Rattle.fw_steps.specs.Worlds.{WorldOf}
 use Rattle.fw_steps.specs.declared.step.Step.{Step}
@@ -29,11 +31,24 @@ abbrev pub taken_of : List Step → Option (ℕ × StepFault) → ℕ
 taken_of steps None = length steps
 taken_of steps (Some f) = f.0
 
--- the report is of the last world, which is safe
+-- The steps that were taken.
+abbrev pub steps_taken : List Step → Option (ℕ × StepFault) → List Step
+steps_taken steps fault = take (taken_of steps fault) steps
+
+-- The report is of the last world, which is safe. The history has only grown, the running images,
+-- the applied images and the records are those of the first world, changed by the entries since, and
+-- each node kept time. So it is between any two moments of a run from the first world.
 pub record IsReplayed (w : WorldOf) (steps : List Step) (fault : Option (ℕ × StepFault)) (form : Form) (text : List ℕ) : Type 0 where
   pub world : WorldOf
   pub left : LeavesWorld w steps fault world
   pub promised : IsSafeSince w world
+  pub grown : GrowsHistory w world
+  pub tied : IsTiedBetween w world
+  pub clocks : (eid : ℕ) → is_node w eid ≡ true → KeepsTime eid (steps_taken steps fault)
+  pub moments : (earlier later : WorldOf) (before between : List Step) → Run w before earlier → Run earlier between later
+      → IsSafeWorld w later × IsTiedBetween earlier later
+  pub time : (earlier later : WorldOf) (before between : List Step) → Run w before earlier → Run earlier between later
+      → (eid : ℕ) → is_node earlier eid ≡ true → KeepsTime eid between
   pub report : text ≡ report_in form world
 
 -- The report of the world after the steps in a schedule's file, from the world of a configuration's

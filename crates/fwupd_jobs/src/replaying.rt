@@ -22,7 +22,9 @@ use fw_package::Package;
 use fw_script::{Config, DeviceConfig, LineSteps, NextStep, ScheduleLine};
 use fw_setup::{Stores, opening_world};
 use fw_store::Folder;
-use fw_world::{Missed, Step, StepFault, World, packets_are_safe};
+use fw_world::{
+    Missed, Step, StepFault, World, clocks_keep_time, moments_are_tied, packets_are_safe, replay,
+};
 use fwupd_base::Form;
 use fwupd_watch::{
     Files, JobFault, Observer, ObserverFault, Output, begin_apart, is_one_path, observer_fault,
@@ -32,6 +34,7 @@ use mctp_ctl::Endpoint;
 use mctp_wire::Unit;
 use std::alloc::{AllocError, Global};
 use std::io::Write;
+use std::slice;
 
 /// The result of a replay: the report of the world; the number of the step that was refused, from
 /// 0, with the cause; and the observer's result.
@@ -74,9 +77,9 @@ fn take_observed<B: Bank + Drop, V: Observer>(
     ensures seen { OnOk result (is_traced ≡ true → CountsOne (V.watched watch.old).seen (V.watched watch.new).seen) }
     ensures unseen { OnErr result ((V.watched watch.new).seen ≡ (V.watched watch.old).seen) }
 {
-    match world.step(step) {
+    match replay(world, slice::from_ref(step)) {
         Ok(()) => {}
-        Err(fault) => return Err(fault),
+        Err((_, fault)) => return Err(fault),
     }
     if is_traced {
         let _ = watch.see(world);
@@ -140,6 +143,8 @@ pub fn replayed<'a, V: Observer>(
     ensures each { IfOk result (λ r. is_some show.entry.trace ≡ true → (V.watched watch.old).seen ≡ 0 → (V.watched watch.new).seen ≡ taken_of (all_steps lines.now) r.fault) }
 {
     packets_are_safe();
+    moments_are_tied();
+    clocks_keep_time();
     let mut world = opening_world(alloc, unit, agent, devices, packages)?;
     let fault = match replay_lines(&mut world, lines, show.trace.is_some(), watch) {
         Ok(()) => None,
