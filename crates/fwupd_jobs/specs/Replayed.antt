@@ -36,8 +36,8 @@ abbrev pub steps_taken : List Step → Option (ℕ × StepFault) → List Step
 steps_taken steps fault = take (taken_of steps fault) steps
 
 -- The report is of the last world, which is safe. The history has only grown, the running images,
--- the applied images and the records are those of the first world, changed by the entries since, and
--- each node kept time. So it is between any two moments of a run from the first world.
+-- the applied images and the records are those of the first world, changed by the entries since,
+-- and each node kept time. So it is between any two moments of a run from the first world.
 pub record IsReplayed (w : WorldOf) (steps : List Step) (fault : Option (ℕ × StepFault)) (form : Form) (text : List ℕ) : Type 0 where
   pub world : WorldOf
   pub left : LeavesWorld w steps fault world
