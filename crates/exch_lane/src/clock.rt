@@ -3,8 +3,8 @@
 ghost use Rattle.std.specs.Prelude.{◌≡◌};
 ghost use Rattle.exch_lane.specs.Clocks as clocks;
 
-/// The ticks that a node has counted since its last missed tick, if it missed none; also the most
-/// that are counted.
+/// The greatest count of ticks since the last missed one. It is also the count of a node that has
+/// missed none.
 pub const UNMISSED: u8 = 8;
 
 /// Returns whether a node may take this tick: it counts it, or it has counted 8 since the last one

@@ -53,7 +53,18 @@ impl Model for Lane {
 
     ghost Value = { LaneOf };
 
-    ghost view = { λ l. record { unit = l.asker.unit; asker_eid = l.asker.own; taker_eid = l.asker.peer; now = l.journal.time; asker_since_miss = l.asker_since_miss; taker_since_miss = l.taker_since_miss; asker = asker_of l.asker_deaf l.asker; taker = taker_of l.taker_deaf l.taker; packets = map sent_of l.journal.packets.items; entries = map lane_entry_of l.journal.entries.items } };
+    ghost view = { λ l. record {
+      unit = l.asker.unit;
+      asker_eid = l.asker.own;
+      taker_eid = l.asker.peer;
+      now = l.journal.time;
+      asker_since_miss = l.asker_since_miss;
+      taker_since_miss = l.taker_since_miss;
+      asker = asker_of l.asker_deaf l.asker;
+      taker = taker_of l.taker_deaf l.taker;
+      packets = map sent_of l.journal.packets.items;
+      entries = map lane_entry_of l.journal.entries.items;
+    } };
 
     ghost invariant = { λ l. (l.taker.unit ≡ l.asker.unit) × (l.taker.own ≡ l.asker.peer) × (l.taker.peer ≡ l.asker.own) };
 }
@@ -133,7 +144,8 @@ impl Lane {
 
     /// Takes one step, or leaves the lane as it is.
     pub(crate) fn step(&mut self, step: &LaneStep) -> Result<(), LaneFault>
-        ensures ok { OnOk result (MayTake self.old (lane_step_of step.now) × (self.new ≡ lane_after self.old (lane_step_of step.now))) }
+        ensures ok { OnOk result (MayTake self.old (lane_step_of step.now)
+            × (self.new ≡ lane_after self.old (lane_step_of step.now))) }
         ensures err { OnErr result (self.new ≡ self.old) }
         ensures cause { IfErr result (λ e. IsCause self.old (lane_step_of step.now) e) }
     {
@@ -152,7 +164,8 @@ impl Lane {
     /// The asker begins a request.
     #[tactic(auto, using(crate::proofs::LaneRows::rows))]
     fn begin(&mut self, command: u8, body: &[u8]) -> Result<(), LaneFault>
-        ensures ok { OnOk result ((may_step self.old (LaneStepOf.Begin command body.now) ≡ None) × (self.new ≡ lane_after_begin self.old command body.now)) }
+        ensures ok { OnOk result ((may_step self.old (LaneStepOf.Begin command body.now) ≡ None)
+            × (self.new ≡ lane_after_begin self.old command body.now)) }
         ensures err { OnErr result (self.new ≡ self.old) }
         ensures cause { IfErr result (λ e. IsCause self.old (LaneStepOf.Begin command body.now) e) }
     {
@@ -184,7 +197,9 @@ impl Lane {
 
     /// Delivers a packet to an end.
     fn deliver(&mut self, number: usize, end: End, reply: &[u8]) -> Result<(), LaneFault>
-        ensures ok { OnOk result ((may_step self.old (LaneStepOf.Deliver number end reply.now) ≡ None) × (self.new ≡ lane_after self.old (LaneStepOf.Deliver number end reply.now))) }
+        ensures ok { OnOk result ((may_step self.old (LaneStepOf.Deliver number end reply.now)
+            ≡ None)
+            × (self.new ≡ lane_after self.old (LaneStepOf.Deliver number end reply.now))) }
         ensures err { OnErr result (self.new ≡ self.old) }
         ensures cause { IfErr result (λ e. IsCause self.old (LaneStepOf.Deliver number end reply.now) e) }
     {
@@ -220,7 +235,8 @@ impl Lane {
     /// A unit of time passes, and each end counts it or misses it.
     #[tactic(auto, using(crate::proofs::LaneRows::rows))]
     fn tick(&mut self, asker: bool, taker: bool) -> Result<(), LaneFault>
-        ensures ok { OnOk result ((may_step self.old (LaneStepOf.Tick asker taker) ≡ None) × (self.new ≡ lane_after_tick self.old asker taker)) }
+        ensures ok { OnOk result ((may_step self.old (LaneStepOf.Tick asker taker) ≡ None)
+            × (self.new ≡ lane_after_tick self.old asker taker)) }
         ensures err { OnErr result (self.new ≡ self.old) }
         ensures cause { IfErr result (λ e. IsCause self.old (LaneStepOf.Tick asker taker) e) }
     {
@@ -269,10 +285,15 @@ impl Lane {
 /// Delivers the bytes of a packet to the asker, which drops them if it is deaf.
 fn asker_on_packet(deaf: u8, asker: &mut Asker, journal: &mut Journal, bytes: &[u8])
     requires room { HasJournalRoom journal.old }
-    ensures asker { asker_of deaf asker.new ≡ asker_after (asker_of deaf asker.old) (asker_row asker.old.unit asker.old.own asker.old.peer (asker_of deaf asker.old) bytes.now) }
+    ensures asker { asker_of deaf asker.new
+        ≡ asker_after (asker_of deaf asker.old) (asker_row asker.old.unit asker.old.own
+        asker.old.peer (asker_of deaf asker.old) bytes.now) }
     ensures between { (asker.new.unit ≡ asker.old.unit) × (asker.new.own ≡ asker.old.own) × (asker.new.peer ≡ asker.old.peer) }
     ensures packets { journal.new.packets ≡ journal.old.packets }
-    ensures entries { map lane_entry_of journal.new.entries.items ≡ with_learnt (map lane_entry_of journal.old.entries.items) (reply_in_row (asker_row asker.old.unit asker.old.own asker.old.peer (asker_of deaf asker.old) bytes.now)) }
+    ensures entries { map lane_entry_of journal.new.entries.items
+        ≡ with_learnt (map lane_entry_of journal.old.entries.items)
+        (reply_in_row (asker_row asker.old.unit asker.old.own asker.old.peer
+        (asker_of deaf asker.old) bytes.now)) }
     ensures time { journal.new.time ≡ journal.old.time }
 {
     if deaf > 0 {
@@ -292,7 +313,9 @@ fn asker_learns(asker: &mut Asker, journal: &mut Journal, packet: &Packet<'_>)
     ensures asker { asker_of 0 asker.new ≡ asker_after (asker_of 0 asker.old) (asking_row asker.old (spelling packet.now)) }
     ensures between { (asker.new.unit ≡ asker.old.unit) × (asker.new.own ≡ asker.old.own) × (asker.new.peer ≡ asker.old.peer) }
     ensures packets { journal.new.packets ≡ journal.old.packets }
-    ensures entries { map lane_entry_of journal.new.entries.items ≡ with_learnt (map lane_entry_of journal.old.entries.items) (reply_in_row (asking_row asker.old (spelling packet.now))) }
+    ensures entries { map lane_entry_of journal.new.entries.items
+        ≡ with_learnt (map lane_entry_of journal.old.entries.items)
+        (reply_in_row (asking_row asker.old (spelling packet.now))) }
     ensures time { journal.new.time ≡ journal.old.time }
 {
     let mut message = Message::blank();
@@ -306,10 +329,18 @@ fn asker_learns(asker: &mut Asker, journal: &mut Journal, packet: &Packet<'_>)
 fn taker_on_packet(deaf: u8, taker: &mut Taker, journal: &mut Journal, bytes: &[u8], reply: &[u8])
     requires room { HasJournalRoom journal.old }
     requires reply { length reply.now ≤ reply_limit taker.old.unit }
-    ensures taker { taker_of deaf taker.new ≡ taker_after (taker_of deaf taker.old) reply.now (taker_row taker.old.unit taker.old.own taker.old.peer (taker_of deaf taker.old) bytes.now) }
+    ensures taker { taker_of deaf taker.new
+        ≡ taker_after (taker_of deaf taker.old) reply.now (taker_row taker.old.unit taker.old.own
+        taker.old.peer (taker_of deaf taker.old) bytes.now) }
     ensures between { (taker.new.unit ≡ taker.old.unit) × (taker.new.own ≡ taker.old.own) × (taker.new.peer ≡ taker.old.peer) }
-    ensures packets { map sent_of journal.new.packets.items ≡ with_sent taker.old.unit journal.old.time (map sent_of journal.old.packets.items) (taker_action_in reply.now (taker_row taker.old.unit taker.old.own taker.old.peer (taker_of deaf taker.old) bytes.now)) }
-    ensures entries { map lane_entry_of journal.new.entries.items ≡ with_taken reply.now (map lane_entry_of journal.old.entries.items) (taker_action_in reply.now (taker_row taker.old.unit taker.old.own taker.old.peer (taker_of deaf taker.old) bytes.now)) }
+    ensures packets { map sent_of journal.new.packets.items
+        ≡ with_sent taker.old.unit journal.old.time (map sent_of journal.old.packets.items)
+        (taker_action_in reply.now (taker_row taker.old.unit taker.old.own taker.old.peer
+        (taker_of deaf taker.old) bytes.now)) }
+    ensures entries { map lane_entry_of journal.new.entries.items
+        ≡ with_taken reply.now (map lane_entry_of journal.old.entries.items)
+        (taker_action_in reply.now (taker_row taker.old.unit taker.old.own taker.old.peer
+        (taker_of deaf taker.old) bytes.now)) }
     ensures time { journal.new.time ≡ journal.old.time }
 {
     if deaf > 0 {
@@ -328,10 +359,16 @@ fn taker_answers(taker: &mut Taker, journal: &mut Journal, packet: &Packet<'_>, 
     requires read { IsRead packet.now }
     requires room { HasJournalRoom journal.old }
     requires reply { length reply.now ≤ reply_limit taker.old.unit }
-    ensures taker { taker_of 0 taker.new ≡ taker_after (taker_of 0 taker.old) reply.now (answering_row taker.old (spelling packet.now)) }
+    ensures taker { taker_of 0 taker.new
+        ≡ taker_after (taker_of 0 taker.old) reply.now (answering_row taker.old
+        (spelling packet.now)) }
     ensures between { (taker.new.unit ≡ taker.old.unit) × (taker.new.own ≡ taker.old.own) × (taker.new.peer ≡ taker.old.peer) }
-    ensures packets { map sent_of journal.new.packets.items ≡ with_sent taker.old.unit journal.old.time (map sent_of journal.old.packets.items) (taker_action_in reply.now (answering_row taker.old (spelling packet.now))) }
-    ensures entries { map lane_entry_of journal.new.entries.items ≡ with_taken reply.now (map lane_entry_of journal.old.entries.items) (taker_action_in reply.now (answering_row taker.old (spelling packet.now))) }
+    ensures packets { map sent_of journal.new.packets.items
+        ≡ with_sent taker.old.unit journal.old.time (map sent_of journal.old.packets.items)
+        (taker_action_in reply.now (answering_row taker.old (spelling packet.now))) }
+    ensures entries { map lane_entry_of journal.new.entries.items
+        ≡ with_taken reply.now (map lane_entry_of journal.old.entries.items)
+        (taker_action_in reply.now (answering_row taker.old (spelling packet.now))) }
     ensures time { journal.new.time ≡ journal.old.time }
 {
     let mut message = Message::blank();
@@ -354,8 +391,13 @@ fn taker_takes(
     requires head { IsPldmHead head }
     requires reply { length reply.now ≤ reply_limit taker.old.unit }
     ensures taker { taker.new ≡ record taker.old { kept = kept_with taker.old.kept (reply_message message.now head reply.now) } }
-    ensures packets { map sent_of journal.new.packets.items ≡ map sent_of journal.old.packets.items ++ packets_of_message taker.old.unit journal.old.time (reply_message message.now head reply.now) }
-    ensures entries { map lane_entry_of journal.new.entries.items ≡ map lane_entry_of journal.old.entries.items ++ LaneEntryOf.Taken head.command (body_in (pldm_of message.now.bytes)) reply.now ∷ [] }
+    ensures packets { map sent_of journal.new.packets.items
+        ≡ map sent_of journal.old.packets.items
+        ++ packets_of_message taker.old.unit journal.old.time
+        (reply_message message.now head reply.now) }
+    ensures entries { map lane_entry_of journal.new.entries.items
+        ≡ map lane_entry_of journal.old.entries.items
+        ++ LaneEntryOf.Taken head.command (body_in (pldm_of message.now.bytes)) reply.now ∷ [] }
     ensures time { journal.new.time ≡ journal.old.time }
 {
     let answer = taker.answer(&Request::new(message, head), reply);

@@ -17,7 +17,8 @@ use crate::step::{LaneFault, LaneStep};
 /// Returns the number of steps that were taken, and the fault of the next one. The lane is that
 /// after those steps.
 pub fn lane_replay(lane: &mut Lane, steps: &[LaneStep]) -> Result<(), (usize, LaneFault)>
-    ensures ok { OnOk result (MayRun lane.old (lane_steps_of steps.now) × (lane.new ≡ lane_run lane.old (lane_steps_of steps.now))) }
+    ensures ok { OnOk result (MayRun lane.old (lane_steps_of steps.now)
+        × (lane.new ≡ lane_run lane.old (lane_steps_of steps.now))) }
     ensures stopped { IfErr result (λ e. (e.0 < length steps.now) × MayRun lane.old (lane_steps_of (take e.0 steps.now))
         × (lane.new ≡ lane_run lane.old (lane_steps_of (take e.0 steps.now)))
         × IsSomeAnd (slice_get steps.now e.0) (λ s. IsCause lane.new (lane_step_of s) e.1)) }

@@ -36,12 +36,14 @@ pub trait Bank {
     /// Returns the active image, if the bank has the component.
     fn active(&self, key: Key) -> Option<(&Label, &[u8])>
         ensures found { is_some result ≡ is_some (active_of (row_of (rows self.now) key)) }
-        ensures image { option_map (λ r. record { label = r.0.now; bytes = r.1.now }) result ≡ active_of (row_of (rows self.now) key) };
+        ensures image { option_map (λ r. record { label = r.0.now; bytes = r.1.now }) result
+            ≡ active_of (row_of (rows self.now) key) };
 
     /// Returns the applied image, if there is one.
     fn applied(&self, key: Key) -> Option<(&Label, &[u8])>
         ensures found { is_some result ≡ is_some (applied_of (row_of (rows self.now) key)) }
-        ensures image { option_map (λ r. record { label = r.0.now; bytes = r.1.now }) result ≡ applied_of (row_of (rows self.now) key) };
+        ensures image { option_map (λ r. record { label = r.0.now; bytes = r.1.now }) result
+            ≡ applied_of (row_of (rows self.now) key) };
 
     /// Begins a new, empty stage for an image of `size` bytes, at most `MAX_IMAGE`.
     fn begin(&mut self, key: Key, size: u32, label: &Label) -> Result<(), BankFault>

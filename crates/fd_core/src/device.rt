@@ -177,11 +177,16 @@ impl<B: Bank> Device<B> {
     /// Code 1 answers UpdateComponent and ActivateFirmware exactly if the bank failed.
     #[tactic(auto, using(crate::proofs::Answering::answers_its_command))]
     pub fn take(&mut self, command: &Command<'_>, quiet: bool) -> Reply
-        ensures answer { result.items ≡ answer_bytes (device_answer self.old.device (command_of command.now) quiet (bytes_work result.items)) }
-        ensures reads { answer_in (command_code (command_of command.now)) result.items ≡ Some (device_answer self.old.device (command_of command.now) quiet (bytes_work result.items)) }
+        ensures answer { result.items ≡ answer_bytes (device_answer self.old.device
+            (command_of command.now) quiet (bytes_work result.items)) }
+        ensures reads { answer_in (command_code (command_of command.now)) result.items
+            ≡ Some (device_answer self.old.device (command_of command.now) quiet
+            (bytes_work result.items)) }
         ensures fits { length result.items ≤ reply_limit U64 }
         ensures after { self.new.device ≡ device_after self.old.device (command_of command.now) quiet (bytes_work result.items) }
-        ensures idle { self.new.idle ≡ idle_after self.old.idle self.old.device (command_of command.now) quiet (bytes_work result.items) }
+        ensures idle { self.new.idle
+            ≡ idle_after self.old.idle self.old.device (command_of command.now) quiet
+            (bytes_work result.items) }
         ensures worked { bytes_work result.items ≡ true → self.new.faults ≡ self.old.faults }
         ensures failed { bytes_work result.items ≡ false → CountsFailure self.old.faults self.new.faults }
     {
@@ -219,7 +224,9 @@ impl<B: Bank> Device<B> {
         ensures idle { self.new.idle ≡ idle_count_if self.old.idle (is_ok result) }
         ensures other { verdict ≢ ApplyOk → self.new.faults ≡ self.old.faults }
         ensures worked { has_failed self.new.device.phase ≡ false → self.new.faults ≡ self.old.faults }
-        ensures failed { OnOk result (verdict ≡ ApplyOk → has_failed self.new.device.phase ≡ true → CountsFailure self.old.faults self.new.faults) }
+        ensures failed { OnOk result (verdict ≡ ApplyOk
+            → has_failed self.new.device.phase ≡ true
+            → CountsFailure self.old.faults self.new.faults) }
         ensures kept { OnErr result (self.new ≡ self.old) }
     {
         match (self.course.state, self.course.progress, verdict) {

@@ -12,7 +12,8 @@ ghost use Rattle.fwup_wire.specs.declared.values.Key.{Key};
 #[tactic(auto, using(crate::proofs::Rows::keys_dropped, crate::proofs::Rows::keys_sealed, crate::proofs::Rows::keys_switched))]
 pub fn components_stay()
     ensures dropped { (rows : List RowOf) → map key_of (rows_after_drop rows) ≡ map key_of rows }
-    ensures sealed { (rows : List RowOf) (key : Key) (image : ImageOf) → map key_of (rows_after_seal rows key image) ≡ map key_of rows }
+    ensures sealed { (rows : List RowOf) (key : Key) (image : ImageOf)
+        → map key_of (rows_after_seal rows key image) ≡ map key_of rows }
     ensures switched { (rows : List RowOf) → map key_of (rows_after_switch rows) ≡ map key_of rows }
 {}
 

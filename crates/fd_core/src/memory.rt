@@ -66,7 +66,12 @@ impl MemBank {
     #[tactic(auto, using(crate::proofs::MemBanks::bank_more, crate::proofs::MemBanks::stage_more))]
     pub fn add(&mut self, key: Key, label: &Label, image: &[u8]) -> Result<(), BankFault>
         requires { has_key (map key_of self.old.rows) key ≡ false }
-        ensures rows { OnOk result (self.new.rows ≡ self.old.rows ++ record { key = key; active = record { label = label.now; bytes = image.now }; applied = None } ∷ []) }
+        ensures rows { OnOk result (self.new.rows ≡ self.old.rows
+            ++ record {
+              key = key;
+              active = record { label = label.now; bytes = image.now };
+              applied = None;
+            } ∷ []) }
         ensures areas { OnOk result (self.new.areas ≡ self.old.areas ++ record { key = key; active = 0; applied = None } ∷ []) }
         ensures stage { self.new.stage ≡ self.old.stage }
         ensures faults { self.new.faults ≡ self.old.faults }
@@ -123,7 +128,9 @@ impl Bank for MemBank {
     fn begin(&mut self, key: Key, size: u32, label: &Label) -> Result<(), BankFault>
         requires known { IsSome (row_of self.old.rows key) }
         requires size { size ≤ longest_image }
-        ensures ok { OnOk result (self.new ≡ record self.old { stage = Some (record { key = key; size = size; label = label.now; bytes = [] }) }) }
+        ensures ok { OnOk result (self.new ≡ record self.old {
+          stage = Some (record { key = key; size = size; label = label.now; bytes = [] });
+        }) }
         ensures kept { OnErr result (self.new ≡ record self.old { faults = self.new.faults }) }
         ensures failed { OnErr result (CountsFailure self.old.faults self.new.faults) }
         ensures cause { IfErr result (λ e. e ≡ BankFault.Memory) }
@@ -151,7 +158,11 @@ impl Bank for MemBank {
     fn seal(&mut self) -> Result<(), BankFault>
         requires { IsSomeAnd self.old.stage (λ s. length s.bytes ≡ s.size) }
         ensures ok { IsOk result }
-        ensures bank { self.new ≡ record self.old { rows = sealed_by self.old.rows self.old.stage; stage = None; areas = numbers_sealed self.old.areas self.old.stage } }
+        ensures bank { self.new ≡ record self.old {
+          rows = sealed_by self.old.rows self.old.stage;
+          stage = None;
+          areas = numbers_sealed self.old.areas self.old.stage;
+        } }
     {
         let Some(key) = self.staged else {
             return Ok(());
@@ -163,7 +174,11 @@ impl Bank for MemBank {
 
     fn switch(&mut self) -> Result<(), BankFault>
         ensures ok { IsOk result }
-        ensures bank { self.new ≡ record self.old { rows = rows_after_switch self.old.rows; stage = None; areas = numbers_switched self.old.areas } }
+        ensures bank { self.new ≡ record self.old {
+          rows = rows_after_switch self.old.rows;
+          stage = None;
+          areas = numbers_switched self.old.areas;
+        } }
     {
         activate_all(self.places.as_mut_slice());
         self.staged = None;
@@ -171,7 +186,11 @@ impl Bank for MemBank {
     }
 
     fn drop_pending(&mut self)
-        ensures bank { self.new ≡ record self.old { rows = rows_after_drop self.old.rows; stage = None; areas = numbers_dropped self.old.areas } }
+        ensures bank { self.new ≡ record self.old {
+          rows = rows_after_drop self.old.rows;
+          stage = None;
+          areas = numbers_dropped self.old.areas;
+        } }
     {
         forget_all(self.places.as_mut_slice());
         self.staged = None;
@@ -229,7 +248,8 @@ fn begin_at(places: &mut [Place], key: Key, size: u32, label: &Label) -> Result<
 #[tactic(auto, using(crate::proofs::Places::found_here))]
 fn append_at(places: &mut [Place], key: Key, piece: &[u8])
     requires shaped { AreShaped (map shape_of places.old) }
-    requires room { IsSomeAnd (place_for places.old key) (λ p. length (written_area p).bytes + length piece.now ≤ (written_area p).size) }
+    requires room { IsSomeAnd (place_for places.old key) (λ p. length (written_area p).bytes +
+        length piece.now ≤ (written_area p).size) }
     ensures { places.new ≡ places_with (place_after_put piece.now) key places.old }
 {
     let Some(i) = position(places, key) else {

@@ -88,7 +88,13 @@ pub struct Work {
 impl Work {
     /// Returns the work that an UpdateComponent begins.
     pub fn new(offer: &ComponentOffer<'_>, label: Label) -> Work
-        ensures { result ≡ record { key = offer.now.key; size = offer.now.size; label = label; force = offer.now.force; received = 0 } }
+        ensures { result ≡ record {
+          key = offer.now.key;
+          size = offer.now.size;
+          label = label;
+          force = offer.now.force;
+          received = 0;
+        } }
     {
         Work {
             key: offer.key,

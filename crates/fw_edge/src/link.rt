@@ -40,7 +40,8 @@ pub trait Link {
     /// Any fault, also for bytes that aren't a frame; it is counted as a failure.
     fn receive(&mut self, side: Side) -> Result<Option<RawPacket>, FrameFault>
         ensures ok { IfOk result (λ p. AsksForFrame (is_some p) (tally self.old) (tally self.new)) }
-        ensures gave { IfOk result (λ p. GrowsAt side (frames_of (option_to_list (option_map (λ q. q.items) p))) (gave self.old) (gave self.new)) }
+        ensures gave { IfOk result (λ p. GrowsAt side (frames_of
+            (option_to_list (option_map (λ q. q.items) p))) (gave self.old) (gave self.new)) }
         ensures taken { OnOk result (taken self.new ≡ taken self.old) }
         ensures err { OnErr result (FailsCall (tally self.old) (tally self.new)) };
 
@@ -52,7 +53,8 @@ pub trait Link {
     /// Those of `receive`.
     fn receive_into(&mut self, side: Side, packet: &mut RawPacket) -> Result<bool, FrameFault>
         ensures ok { IfOk result (λ came. AsksForFrame came (tally self.old) (tally self.new)) }
-        ensures gave { IfOk result (λ came. GrowsAt side (frames_of (packet_if came packet.new.items)) (gave self.old) (gave self.new)) }
+        ensures gave { IfOk result (λ came. GrowsAt side (frames_of
+            (packet_if came packet.new.items)) (gave self.old) (gave self.new)) }
         ensures none { IfOk result (λ came. came ≡ false → packet.new.items ≡ packet.old.items) }
         ensures taken { OnOk result (taken self.new ≡ taken self.old) }
         ensures err { OnErr result (FailsCall (tally self.old) (tally self.new)) }

@@ -63,7 +63,8 @@ impl MemLink {
         ensures tally { self.new.tally ≡ self.old.tally }
         ensures agent { side ≡ Side.Agent → self.old.up.items ≡ option_to_list result ++ self.new.up.items }
         ensures device { side ≡ Side.Device → self.old.down.items ≡ option_to_list result ++ self.new.down.items }
-        ensures none { IfNone result ((side ≡ Side.Agent → self.old.up.items ≡ []) × (side ≡ Side.Device → self.old.down.items ≡ [])) }
+        ensures none { IfNone result ((side ≡ Side.Agent → self.old.up.items ≡ [])
+            × (side ≡ Side.Device → self.old.down.items ≡ [])) }
         ensures not_down { side ≡ Side.Agent → self.new.down.items ≡ self.old.down.items }
         ensures not_up { side ≡ Side.Device → self.new.up.items ≡ self.old.up.items }
     {
@@ -80,8 +81,12 @@ impl Link for MemLink {
     fn send(&mut self, side: Side, packet: &RawPacket) -> Result<(), FrameFault>
         ensures ok { OnOk result (SendsPacket self.old.tally self.new.tally) }
         ensures err { OnErr result (FailsCall self.old.tally self.new.tally) }
-        ensures agent { side ≡ Side.Agent → OnOk result (map (λ p. p.items) self.new.down.items ≡ map (λ p. p.items) self.old.down.items ++ packet.now.items ∷ []) }
-        ensures device { side ≡ Side.Device → OnOk result (map (λ p. p.items) self.new.up.items ≡ map (λ p. p.items) self.old.up.items ++ packet.now.items ∷ []) }
+        ensures agent { side ≡ Side.Agent
+            → OnOk result (map (λ p. p.items) self.new.down.items
+            ≡ map (λ p. p.items) self.old.down.items ++ packet.now.items ∷ []) }
+        ensures device { side ≡ Side.Device
+            → OnOk result (map (λ p. p.items) self.new.up.items
+            ≡ map (λ p. p.items) self.old.up.items ++ packet.now.items ∷ []) }
         ensures not_up { side ≡ Side.Agent → self.new.up.items ≡ self.old.up.items }
         ensures not_down { side ≡ Side.Device → self.new.down.items ≡ self.old.down.items }
         ensures fault { IfErr result (λ e. e ≡ FrameFault.Io) }
@@ -104,7 +109,9 @@ impl Link for MemLink {
         ensures device { side ≡ Side.Device → IfOk result (λ p. self.old.down.items ≡ option_to_list p ++ self.new.down.items) }
         ensures not_down { side ≡ Side.Agent → self.new.down.items ≡ self.old.down.items }
         ensures not_up { side ≡ Side.Device → self.new.up.items ≡ self.old.up.items }
-        ensures none { result ≡ Ok None → (side ≡ Side.Agent → self.old.up.items ≡ []) × (side ≡ Side.Device → self.old.down.items ≡ []) }
+        ensures none { result ≡ Ok None
+            → (side ≡ Side.Agent → self.old.up.items ≡ [])
+            × (side ≡ Side.Device → self.old.down.items ≡ []) }
         ensures always { IsOk result }
     {
         let packet = self.take(side);

@@ -75,8 +75,10 @@ fn write_at<B: Bank + Drop, L: Link>(
     written: usize,
 ) -> Result<(), EdgeFault>
     ensures took { OnOk result (LinkTakesPair (slice_get world.now.sites place) written (L.taken link.old) (L.taken link.new)) }
-    ensures wrote { OnOk result (LinkWriteOk L.tally L.gave (length (packets_at (slice_get world.now.sites place)) - written) link.old link.new) }
-    ensures refused { IfErr result (λ e. LinkWriteErr L.tally e (length (packets_at (slice_get world.now.sites place)) - written) link.old link.new) }
+    ensures wrote { OnOk result (LinkWriteOk L.tally L.gave (length
+        (packets_at (slice_get world.now.sites place)) - written) link.old link.new) }
+    ensures refused { IfErr result (λ e. LinkWriteErr L.tally e
+        (length (packets_at (slice_get world.now.sites place)) - written) link.old link.new) }
 {
     let (Some(node), Some(packets)) = (world.device_at(place), world.packets_at(place)) else {
         return Ok(());
@@ -100,7 +102,9 @@ pub(crate) fn write_out<B: Bank + Drop, L: Link>(
 ) -> Result<(), EdgeFault>
     requires each { length written.old ≡ length links.old }
     requires within { NoCountFalls written.old (packet_counts world.now.sites) }
-    ensures out { OnOk result (WritesOut world.now (links_at written.old (map L.taken links.old) (map L.gave links.old)) (links_at written.new (map L.taken links.new) (map L.gave links.new))) }
+    ensures out { OnOk result (WritesOut world.now (links_at written.old (map L.taken links.old)
+        (map L.gave links.old)) (links_at written.new (map L.taken links.new)
+        (map L.gave links.new))) }
     ensures wrote { OnOk result (LinksWriteOk L.tally written.old written.new links.old links.new) }
     ensures refused { IfErr result (λ e. LinksWriteErr L.tally e links.old links.new) }
     ensures links { length links.new ≡ length links.old }

@@ -69,10 +69,14 @@ fn pass_copy<L: Link>(
     packet: &RawPacket,
     wait: u32,
 ) -> Result<(), FrameFault>
-    ensures passes { OnOk result (PassesOn turn (wait ∷ []) side packet.now.items (L.taken link.old) (L.taken link.new) (helds_of held.old.items) (helds_of held.new.items)) }
-    ensures counts { OnOk result (TakesPackets (length (at_once (wait ∷ []) packet.now.items)) (L.tally link.old) (L.tally link.new)) }
+    ensures passes { OnOk result (PassesOn turn (wait ∷ []) side packet.now.items (L.taken link.old)
+        (L.taken link.new) (helds_of held.old.items) (helds_of held.new.items)) }
+    ensures counts { OnOk result (TakesPackets (length (at_once (wait ∷ []) packet.now.items))
+        (L.tally link.old) (L.tally link.new)) }
     ensures gave { OnOk result (L.gave link.new ≡ L.gave link.old) }
-    ensures stops { OnErr result (PassesSome turn (wait ∷ []) side packet.now.items (L.tally link.old).failures (L.tally link.new).failures (vec_capacity held.old) (helds_of held.old.items) (helds_of held.new.items)) }
+    ensures stops { OnErr result (PassesSome turn (wait ∷ []) side packet.now.items
+        (L.tally link.old).failures (L.tally link.new).failures (vec_capacity held.old)
+        (helds_of held.old.items) (helds_of held.new.items)) }
     ensures room { vec_capacity held.old ≤ vec_capacity held.new }
 {
     if wait == 0 {
@@ -98,10 +102,14 @@ fn pass<L: Link>(
     packet: &RawPacket,
     fate: Fate,
 ) -> Result<(), FrameFault>
-    ensures passes { OnOk result (PassesOn turn (waits_of fate) side packet.now.items (L.taken link.old) (L.taken link.new) (helds_of held.old.items) (helds_of held.new.items)) }
-    ensures counts { OnOk result (TakesPackets (length (at_once (waits_of fate) packet.now.items)) (L.tally link.old) (L.tally link.new)) }
+    ensures passes { OnOk result (PassesOn turn (waits_of fate) side packet.now.items
+        (L.taken link.old) (L.taken link.new) (helds_of held.old.items) (helds_of held.new.items)) }
+    ensures counts { OnOk result (TakesPackets (length (at_once (waits_of fate) packet.now.items))
+        (L.tally link.old) (L.tally link.new)) }
     ensures gave { OnOk result (L.gave link.new ≡ L.gave link.old) }
-    ensures stops { OnErr result (PassesSome turn (waits_of fate) side packet.now.items (L.tally link.old).failures (L.tally link.new).failures (vec_capacity held.old) (helds_of held.old.items) (helds_of held.new.items)) }
+    ensures stops { OnErr result (PassesSome turn (waits_of fate) side packet.now.items
+        (L.tally link.old).failures (L.tally link.new).failures (vec_capacity held.old)
+        (helds_of held.old.items) (helds_of held.new.items)) }
 {
     match fate {
         Fate::Lost => Ok(()),
@@ -119,7 +127,8 @@ fn pass<L: Link>(
 /// Passes on the packets that are due after `turn`.
 fn send_due<L: Link>(link: &mut L, held: &[DelayedPacket], turn: u64) -> Result<(), FrameFault>
     ensures out { OnOk result (GoOut (filter (is_due turn) (helds_of held.now)) (L.taken link.old) (L.taken link.new)) }
-    ensures counts { OnOk result (TakesPackets (length (filter (is_due turn) (helds_of held.now))) (L.tally link.old) (L.tally link.new)) }
+    ensures counts { OnOk result (TakesPackets (length (filter (is_due turn) (helds_of held.now)))
+        (L.tally link.old) (L.tally link.new)) }
     ensures gave { OnOk result (L.gave link.new ≡ L.gave link.old) }
     ensures refused { OnErr result (CountsOne (L.tally link.old).failures (L.tally link.new).failures) }
 {
@@ -147,8 +156,10 @@ fn release<L: Link>(
     held: &mut Vec<DelayedPacket>,
     turn: u64,
 ) -> Result<(), FrameFault>
-    ensures released { OnOk result (Releases turn (L.taken link.old) (L.taken link.new) (helds_of held.old.items) (helds_of held.new.items)) }
-    ensures counts { OnOk result (TakesPackets (length (filter (is_due turn) (helds_of held.old.items))) (L.tally link.old) (L.tally link.new)) }
+    ensures released { OnOk result (Releases turn (L.taken link.old) (L.taken link.new)
+        (helds_of held.old.items) (helds_of held.new.items)) }
+    ensures counts { OnOk result (TakesPackets (length (filter (is_due turn)
+        (helds_of held.old.items))) (L.tally link.old) (L.tally link.new)) }
     ensures gave { OnOk result (L.gave link.new ≡ L.gave link.old) }
     ensures refused { OnErr result (CountsOne (L.tally link.old).failures (L.tally link.new).failures) }
     ensures kept { OnErr result (held.new ≡ held.old) }
@@ -222,12 +233,21 @@ impl<L: Link + Drop> Rough<L> {
     /// Records that an end was asked, and whether it gave a frame; after a turn, passes on what is
     /// due.
     fn pass_turn(&mut self, side: Side, gave: bool) -> Result<(), FrameFault>
-        ensures same { (self.new.tally ≡ self.old.tally) × (self.new.generator ≡ self.old.generator) × (self.new.roughness ≡ self.old.roughness) }
+        ensures same { (self.new.tally ≡ self.old.tally)
+            × (self.new.generator ≡ self.old.generator)
+            × (self.new.roughness ≡ self.old.roughness) }
         ensures idle { self.new.is_idle ≡ idle_after side gave }
-        ensures on { ends_turn side gave self.old.is_idle ≡ false → OnOk result ((self.new.link ≡ self.old.link) × (self.new.held ≡ self.old.held) × (self.new.turn ≡ self.old.turn)) }
+        ensures on { ends_turn side gave self.old.is_idle ≡ false
+            → OnOk result ((self.new.link ≡ self.old.link)
+            × (self.new.held ≡ self.old.held)
+            × (self.new.turn ≡ self.old.turn)) }
         ensures turn { ends_turn side gave self.old.is_idle ≡ true → self.new.turn ≡ min (self.old.turn + 1) (2 ^ 64 - 1) }
-        ensures released { ends_turn side gave self.old.is_idle ≡ true → OnOk result (Releases self.new.turn (L.taken self.old.link) (L.taken self.new.link) (helds_of self.old.held.items) (helds_of self.new.held.items)) }
-        ensures counts { ends_turn side gave self.old.is_idle ≡ true → OnOk result (TakesPackets (length (filter (is_due self.new.turn) (helds_of self.old.held.items))) (L.tally self.old.link) (L.tally self.new.link)) }
+        ensures released { ends_turn side gave self.old.is_idle ≡ true
+            → OnOk result (Releases self.new.turn (L.taken self.old.link) (L.taken self.new.link)
+            (helds_of self.old.held.items) (helds_of self.new.held.items)) }
+        ensures counts { ends_turn side gave self.old.is_idle ≡ true
+            → OnOk result (TakesPackets (length (filter (is_due self.new.turn)
+            (helds_of self.old.held.items))) (L.tally self.old.link) (L.tally self.new.link)) }
         ensures gave { OnOk result (L.gave self.new.link ≡ L.gave self.old.link) }
         ensures only { OnErr result (ends_turn side gave self.old.is_idle ≡ true) }
         ensures refused { OnErr result (CountsOne (L.tally self.old.link).failures (L.tally self.new.link).failures) }
@@ -252,13 +272,22 @@ impl<L: Link + Drop> Link for Rough<L> {
         ensures ok { OnOk result (SendsPacket self.old.tally self.new.tally) }
         ensures err { OnErr result (FailsCall self.old.tally self.new.tally) }
         ensures gave { OnOk result (L.gave self.new.link ≡ L.gave self.old.link) }
-        ensures passes { OnOk result (PassesOn self.old.turn (waits_of (fate_of self.old.roughness self.old.generator)) side packet.now.items
-            (L.taken self.old.link) (L.taken self.new.link) (helds_of self.old.held.items) (helds_of self.new.held.items)) }
-        ensures counts { OnOk result (TakesPackets (length (at_once (waits_of (fate_of self.old.roughness self.old.generator)) packet.now.items)) (L.tally self.old.link) (L.tally self.new.link)) }
-        ensures stops { OnErr result (PassesSome self.old.turn (waits_of (fate_of self.old.roughness self.old.generator)) side packet.now.items (L.tally self.old.link).failures (L.tally self.new.link).failures
-            (vec_capacity self.old.held) (helds_of self.old.held.items) (helds_of self.new.held.items)) }
+        ensures passes { OnOk result (PassesOn self.old.turn
+            (waits_of (fate_of self.old.roughness self.old.generator)) side packet.now.items
+            (L.taken self.old.link) (L.taken self.new.link) (helds_of self.old.held.items)
+            (helds_of self.new.held.items)) }
+        ensures counts { OnOk result (TakesPackets (length (at_once
+            (waits_of (fate_of self.old.roughness self.old.generator)) packet.now.items))
+            (L.tally self.old.link) (L.tally self.new.link)) }
+        ensures stops { OnErr result (PassesSome self.old.turn
+            (waits_of (fate_of self.old.roughness self.old.generator)) side packet.now.items
+            (L.tally self.old.link).failures (L.tally self.new.link).failures
+            (vec_capacity self.old.held) (helds_of self.old.held.items)
+            (helds_of self.new.held.items)) }
         ensures generator { self.new.generator ≡ generator_after self.old.generator }
-        ensures same { (self.new.roughness ≡ self.old.roughness) × (self.new.turn ≡ self.old.turn) × (self.new.is_idle ≡ self.old.is_idle) }
+        ensures same { (self.new.roughness ≡ self.old.roughness)
+            × (self.new.turn ≡ self.old.turn)
+            × (self.new.is_idle ≡ self.old.is_idle) }
     {
         let fate = next_fate(self.roughness, &mut self.generator);
         match pass(
@@ -283,17 +312,23 @@ impl<L: Link + Drop> Link for Rough<L> {
     fn receive(&mut self, side: Side) -> Result<Option<RawPacket>, FrameFault>
         ensures ok { IfOk result (λ p. AsksForFrame (is_some p) self.old.tally self.new.tally) }
         ensures err { OnErr result (FailsCall self.old.tally self.new.tally) }
-        ensures gave { IfOk result (λ p. GrowsAt side (frames_of (option_to_list (option_map (λ q. q.items) p))) (L.gave self.old.link) (L.gave self.new.link)) }
+        ensures gave { IfOk result (λ p. GrowsAt side (frames_of
+            (option_to_list (option_map (λ q. q.items) p))) (L.gave self.old.link)
+            (L.gave self.new.link)) }
         ensures on { IfOk result (λ p. ends_turn side (is_some p) self.old.is_idle ≡ false
             → (L.taken self.new.link ≡ L.taken self.old.link) × (self.new.held ≡ self.old.held) × (self.new.turn ≡ self.old.turn)) }
-        ensures turn { IfOk result (λ p. ends_turn side (is_some p) self.old.is_idle ≡ true → self.new.turn ≡ min (self.old.turn + 1) (2 ^ 64 - 1)) }
+        ensures turn { IfOk result (λ p. ends_turn side (is_some p) self.old.is_idle ≡ true
+            → self.new.turn ≡ min (self.old.turn + 1) (2 ^ 64 - 1)) }
         ensures released { IfOk result (λ p. ends_turn side (is_some p) self.old.is_idle ≡ true
-            → Releases self.new.turn (L.taken self.old.link) (L.taken self.new.link) (helds_of self.old.held.items) (helds_of self.new.held.items)) }
+            → Releases self.new.turn (L.taken self.old.link) (L.taken self.new.link)
+            (helds_of self.old.held.items) (helds_of self.new.held.items)) }
         ensures asked { IfOk result (λ p. CountsOne (L.tally self.old.link).asked (L.tally self.new.link).asked) }
         ensures given { IfOk result (λ p. CountsOneIf (is_some p) (L.tally self.old.link).given (L.tally self.new.link).given) }
         ensures refused { OnErr result (CountsOne (L.tally self.old.link).failures (L.tally self.new.link).failures) }
         ensures kept { OnErr result (self.new.held ≡ self.old.held) }
-        ensures turn_still { OnErr result ((self.new.turn ≡ self.old.turn) ⊎ ((ends_turn side false self.old.is_idle ≡ true) × (self.new.turn ≡ min (self.old.turn + 1) (2 ^ 64 - 1)))) }
+        ensures turn_still { OnErr result ((self.new.turn ≡ self.old.turn)
+            ⊎ ((ends_turn side false self.old.is_idle ≡ true)
+            × (self.new.turn ≡ min (self.old.turn + 1) (2 ^ 64 - 1)))) }
         ensures idle { IfOk result (λ p. self.new.is_idle ≡ idle_after side (is_some p)) }
         ensures idle_no_more { OnErr result (self.new.is_idle ≡ false) }
         ensures same { (self.new.generator ≡ self.old.generator) × (self.new.roughness ≡ self.old.roughness) }
@@ -310,17 +345,22 @@ impl<L: Link + Drop> Link for Rough<L> {
         ensures ok { IfOk result (λ came. AsksForFrame came self.old.tally self.new.tally) }
         ensures none { IfOk result (λ came. came ≡ false → packet.new.items ≡ packet.old.items) }
         ensures err { OnErr result (FailsCall self.old.tally self.new.tally) }
-        ensures gave { IfOk result (λ came. GrowsAt side (frames_of (packet_if came packet.new.items)) (L.gave self.old.link) (L.gave self.new.link)) }
+        ensures gave { IfOk result (λ came. GrowsAt side (frames_of
+            (packet_if came packet.new.items)) (L.gave self.old.link) (L.gave self.new.link)) }
         ensures on { IfOk result (λ came. ends_turn side came self.old.is_idle ≡ false
             → (L.taken self.new.link ≡ L.taken self.old.link) × (self.new.held ≡ self.old.held) × (self.new.turn ≡ self.old.turn)) }
-        ensures turn { IfOk result (λ came. ends_turn side came self.old.is_idle ≡ true → self.new.turn ≡ min (self.old.turn + 1) (2 ^ 64 - 1)) }
+        ensures turn { IfOk result (λ came. ends_turn side came self.old.is_idle ≡ true
+            → self.new.turn ≡ min (self.old.turn + 1) (2 ^ 64 - 1)) }
         ensures released { IfOk result (λ came. ends_turn side came self.old.is_idle ≡ true
-            → Releases self.new.turn (L.taken self.old.link) (L.taken self.new.link) (helds_of self.old.held.items) (helds_of self.new.held.items)) }
+            → Releases self.new.turn (L.taken self.old.link) (L.taken self.new.link)
+            (helds_of self.old.held.items) (helds_of self.new.held.items)) }
         ensures asked { IfOk result (λ came. CountsOne (L.tally self.old.link).asked (L.tally self.new.link).asked) }
         ensures given { IfOk result (λ came. CountsOneIf came (L.tally self.old.link).given (L.tally self.new.link).given) }
         ensures refused { OnErr result (CountsOne (L.tally self.old.link).failures (L.tally self.new.link).failures) }
         ensures kept { OnErr result (self.new.held ≡ self.old.held) }
-        ensures turn_still { OnErr result ((self.new.turn ≡ self.old.turn) ⊎ ((ends_turn side false self.old.is_idle ≡ true) × (self.new.turn ≡ min (self.old.turn + 1) (2 ^ 64 - 1)))) }
+        ensures turn_still { OnErr result ((self.new.turn ≡ self.old.turn)
+            ⊎ ((ends_turn side false self.old.is_idle ≡ true)
+            × (self.new.turn ≡ min (self.old.turn + 1) (2 ^ 64 - 1)))) }
         ensures idle { IfOk result (λ came. self.new.is_idle ≡ idle_after side came) }
         ensures idle_no_more { OnErr result (self.new.is_idle ≡ false) }
         ensures same { (self.new.generator ≡ self.old.generator) × (self.new.roughness ≡ self.old.roughness) }

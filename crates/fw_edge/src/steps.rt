@@ -30,7 +30,8 @@ pub(crate) fn take<B: Bank + Drop>(
     requires driven { is_driven step ≡ true }
     ensures leads { OnOk result (StepsTo world.old step world.new) }
     ensures listed { OnOk result (steps.new.items ≡ steps.old.items ++ step ∷ []) }
-    ensures goes { OnOk result (DrivesCounted world.old steps.old.items world.new steps.new.items (tick_in step) (deliver_in step)) }
+    ensures goes { OnOk result (DrivesCounted world.old steps.old.items world.new steps.new.items
+        (tick_in step) (deliver_in step)) }
     ensures same { OnErr result (world.new ≡ world.old) }
     ensures unlisted { OnErr result (steps.new.items ≡ steps.old.items) }
     ensures fault { IfErr result (λ e. e ≡ EdgeFault.Memory) }
@@ -108,11 +109,15 @@ fn judge<B: Bank + Drop>(
     place: usize,
     steps: &mut Vec<Step>,
 ) -> Result<(), EdgeFault>
-    ensures due { OnOk result (TakesIf world.old steps.old.items (due_at verdict_for world.old (slice_get world.old.sites place)) world.new steps.new.items) }
+    ensures due { OnOk result (TakesIf world.old steps.old.items
+        (due_at verdict_for world.old (slice_get world.old.sites place)) world.new
+        steps.new.items) }
     ensures quiet { OnOk result (SentNone world.old steps.old.items world.new steps.new.items) }
     ensures refused { IfErr result (λ e. StepErr e world.old steps.old.items world.new steps.new.items) }
     ensures one { OnErr result (is_some (due_at verdict_for world.old (slice_get world.old.sites place)) ≡ true) }
-    ensures lacked { OnErr result (IfSome (due_at verdict_for world.old (slice_get world.old.sites place)) (λ s. LacksMemory s (vec_len steps.old) (vec_capacity steps.old) (vec_capacity steps.new))) }
+    ensures lacked { OnErr result (IfSome (due_at verdict_for world.old
+        (slice_get world.old.sites place)) (λ s. LacksMemory s (vec_len steps.old)
+        (vec_capacity steps.old) (vec_capacity steps.new))) }
 {
     let Some(node) = world.device_at(place) else {
         return Ok(());
@@ -131,11 +136,15 @@ fn activate<B: Bank + Drop>(
     place: usize,
     steps: &mut Vec<Step>,
 ) -> Result<(), EdgeFault>
-    ensures due { OnOk result (TakesIf world.old steps.old.items (due_at activation_for world.old (slice_get world.old.sites place)) world.new steps.new.items) }
+    ensures due { OnOk result (TakesIf world.old steps.old.items
+        (due_at activation_for world.old (slice_get world.old.sites place)) world.new
+        steps.new.items) }
     ensures quiet { OnOk result (SentNone world.old steps.old.items world.new steps.new.items) }
     ensures refused { IfErr result (λ e. StepErr e world.old steps.old.items world.new steps.new.items) }
     ensures one { OnErr result (is_some (due_at activation_for world.old (slice_get world.old.sites place)) ≡ true) }
-    ensures lacked { OnErr result (IfSome (due_at activation_for world.old (slice_get world.old.sites place)) (λ s. LacksMemory s (vec_len steps.old) (vec_capacity steps.old) (vec_capacity steps.new))) }
+    ensures lacked { OnErr result (IfSome (due_at activation_for world.old
+        (slice_get world.old.sites place)) (λ s. LacksMemory s (vec_len steps.old)
+        (vec_capacity steps.old) (vec_capacity steps.new))) }
 {
     let Some(node) = world.device_at(place) else {
         return Ok(());
@@ -152,9 +161,11 @@ pub(crate) fn judge_all<B: Bank + Drop>(
     world: &mut World<'_, B>,
     steps: &mut Vec<Step>,
 ) -> Result<(), EdgeFault>
-    ensures due { OnOk result (TakesAll world.old steps.old.items (all_due verdict_for world.old (eids_of world.old.sites)) world.new steps.new.items) }
+    ensures due { OnOk result (TakesAll world.old steps.old.items
+        (all_due verdict_for world.old (eids_of world.old.sites)) world.new steps.new.items) }
     ensures quiet { OnOk result (SentNone world.old steps.old.items world.new steps.new.items) }
-    ensures stopped { IfErr result (λ e. StepsErr e (all_due verdict_for world.old (eids_of world.old.sites)) world.old steps.old.items world.new steps.new.items) }
+    ensures stopped { IfErr result (λ e. StepsErr e (all_due verdict_for world.old
+        (eids_of world.old.sites)) world.old steps.old.items world.new steps.new.items) }
 {
     world.is_promised();
     for place in 0..world.device_count() {
@@ -171,9 +182,11 @@ pub(crate) fn activate_all<B: Bank + Drop>(
     world: &mut World<'_, B>,
     steps: &mut Vec<Step>,
 ) -> Result<(), EdgeFault>
-    ensures due { OnOk result (TakesAll world.old steps.old.items (all_due activation_for world.old (eids_of world.old.sites)) world.new steps.new.items) }
+    ensures due { OnOk result (TakesAll world.old steps.old.items
+        (all_due activation_for world.old (eids_of world.old.sites)) world.new steps.new.items) }
     ensures quiet { OnOk result (SentNone world.old steps.old.items world.new steps.new.items) }
-    ensures stopped { IfErr result (λ e. StepsErr e (all_due activation_for world.old (eids_of world.old.sites)) world.old steps.old.items world.new steps.new.items) }
+    ensures stopped { IfErr result (λ e. StepsErr e (all_due activation_for world.old
+        (eids_of world.old.sites)) world.old steps.old.items world.new steps.new.items) }
 {
     world.is_promised();
     for place in 0..world.device_count() {

@@ -71,10 +71,20 @@ impl<S: Read + Write + Drop> StreamLink<S> {
     fn write(&mut self, side: Side, packet: &RawPacket) -> Result<(), FrameFault>
         ensures tally { self.new.tally ≡ self.old.tally }
         ensures unit { self.new.unit ≡ self.old.unit }
-        ensures agent { side ≡ Side.Agent → OnOk result (WritesFrameAt (S.contents self.old.agent) (S.contents self.new.agent) self.old.down self.new.down packet.now.items) }
-        ensures device { side ≡ Side.Device → OnOk result (WritesFrameAt (S.contents self.old.device) (S.contents self.new.device) self.old.up self.new.up packet.now.items) }
-        ensures agent_fault { side ≡ Side.Agent → IfErr result (λ e. (self.new.down ≡ self.old.down) × WriteStops self.old.unit e (S.contents self.old.agent) (S.contents self.new.agent) packet.now.items) }
-        ensures device_fault { side ≡ Side.Device → IfErr result (λ e. (self.new.up ≡ self.old.up) × WriteStops self.old.unit e (S.contents self.old.device) (S.contents self.new.device) packet.now.items) }
+        ensures agent { side ≡ Side.Agent
+            → OnOk result (WritesFrameAt (S.contents self.old.agent) (S.contents self.new.agent)
+            self.old.down self.new.down packet.now.items) }
+        ensures device { side ≡ Side.Device
+            → OnOk result (WritesFrameAt (S.contents self.old.device) (S.contents self.new.device)
+            self.old.up self.new.up packet.now.items) }
+        ensures agent_fault { side ≡ Side.Agent
+            → IfErr result (λ e. (self.new.down ≡ self.old.down)
+            × WriteStops self.old.unit e (S.contents self.old.agent) (S.contents self.new.agent)
+            packet.now.items) }
+        ensures device_fault { side ≡ Side.Device
+            → IfErr result (λ e. (self.new.up ≡ self.old.up)
+            × WriteStops self.old.unit e (S.contents self.old.device) (S.contents self.new.device)
+            packet.now.items) }
         ensures not_device { side ≡ Side.Agent → (self.new.device ≡ self.old.device) × (self.new.up ≡ self.old.up) }
         ensures not_agent { side ≡ Side.Device → (self.new.agent ≡ self.old.agent) × (self.new.down ≡ self.old.down) }
     {
@@ -101,15 +111,30 @@ impl<S: Read + Write + Drop> StreamLink<S> {
         ensures unit { self.new.unit ≡ self.old.unit }
         ensures no_up { side ≡ Side.Agent → self.old.up ≡ 0 → (result ≡ Ok false) × (self.new ≡ self.old) }
         ensures no_down { side ≡ Side.Device → self.old.down ≡ 0 → (result ≡ Ok false) × (self.new ≡ self.old) }
-        ensures agent { side ≡ Side.Agent → IfOk result (λ came. came ≡ true → ReadsFrameAt (S.remaining self.old.agent) (S.remaining self.new.agent) self.old.up self.new.up packet.new.items) }
-        ensures device { side ≡ Side.Device → IfOk result (λ came. came ≡ true → ReadsFrameAt (S.remaining self.old.device) (S.remaining self.new.device) self.old.down self.new.down packet.new.items) }
+        ensures agent { side ≡ Side.Agent
+            → IfOk result (λ came. came ≡ true
+            → ReadsFrameAt (S.remaining self.old.agent) (S.remaining self.new.agent) self.old.up
+            self.new.up packet.new.items) }
+        ensures device { side ≡ Side.Device
+            → IfOk result (λ came. came ≡ true
+            → ReadsFrameAt (S.remaining self.old.device) (S.remaining self.new.device) self.old.down
+            self.new.down packet.new.items) }
         ensures none { IfOk result (λ came. came ≡ false → packet.new.items ≡ packet.old.items) }
         ensures some_up { side ≡ Side.Agent → self.old.up ≢ 0 → result ≢ Ok false }
         ensures some_down { side ≡ Side.Device → self.old.down ≢ 0 → result ≢ Ok false }
-        ensures agent_fault { side ≡ Side.Agent → IfErr result (λ e. (self.old.up ≡ self.new.up + 1) × ReadStops self.old.unit e (S.remaining self.old.agent) (S.remaining self.new.agent)) }
-        ensures device_fault { side ≡ Side.Device → IfErr result (λ e. (self.old.down ≡ self.new.down + 1) × ReadStops self.old.unit e (S.remaining self.old.device) (S.remaining self.new.device)) }
-        ensures not_device { side ≡ Side.Agent → Keeps (S.contents self.old.device) (S.contents self.new.device) × (self.new.down ≡ self.old.down) }
-        ensures not_agent { side ≡ Side.Device → Keeps (S.contents self.old.agent) (S.contents self.new.agent) × (self.new.up ≡ self.old.up) }
+        ensures agent_fault { side ≡ Side.Agent
+            → IfErr result (λ e. (self.old.up ≡ self.new.up + 1)
+            × ReadStops self.old.unit e (S.remaining self.old.agent) (S.remaining self.new.agent)) }
+        ensures device_fault { side ≡ Side.Device
+            → IfErr result (λ e. (self.old.down ≡ self.new.down + 1)
+            × ReadStops self.old.unit e (S.remaining self.old.device)
+            (S.remaining self.new.device)) }
+        ensures not_device { side ≡ Side.Agent
+            → Keeps (S.contents self.old.device) (S.contents self.new.device)
+            × (self.new.down ≡ self.old.down) }
+        ensures not_agent { side ≡ Side.Device
+            → Keeps (S.contents self.old.agent) (S.contents self.new.agent)
+            × (self.new.up ≡ self.old.up) }
     {
         match side {
             Side::Agent => {
@@ -140,10 +165,20 @@ impl<S: Read + Write + Drop> Link for StreamLink<S> {
         ensures ok { OnOk result (SendsPacket self.old.tally self.new.tally) }
         ensures err { OnErr result (FailsCall self.old.tally self.new.tally) }
         ensures unit { self.new.unit ≡ self.old.unit }
-        ensures agent { side ≡ Side.Agent → OnOk result (WritesFrameAt (S.contents self.old.agent) (S.contents self.new.agent) self.old.down self.new.down packet.now.items) }
-        ensures device { side ≡ Side.Device → OnOk result (WritesFrameAt (S.contents self.old.device) (S.contents self.new.device) self.old.up self.new.up packet.now.items) }
-        ensures agent_fault { side ≡ Side.Agent → IfErr result (λ e. (self.new.down ≡ self.old.down) × WriteStops self.old.unit e (S.contents self.old.agent) (S.contents self.new.agent) packet.now.items) }
-        ensures device_fault { side ≡ Side.Device → IfErr result (λ e. (self.new.up ≡ self.old.up) × WriteStops self.old.unit e (S.contents self.old.device) (S.contents self.new.device) packet.now.items) }
+        ensures agent { side ≡ Side.Agent
+            → OnOk result (WritesFrameAt (S.contents self.old.agent) (S.contents self.new.agent)
+            self.old.down self.new.down packet.now.items) }
+        ensures device { side ≡ Side.Device
+            → OnOk result (WritesFrameAt (S.contents self.old.device) (S.contents self.new.device)
+            self.old.up self.new.up packet.now.items) }
+        ensures agent_fault { side ≡ Side.Agent
+            → IfErr result (λ e. (self.new.down ≡ self.old.down)
+            × WriteStops self.old.unit e (S.contents self.old.agent) (S.contents self.new.agent)
+            packet.now.items) }
+        ensures device_fault { side ≡ Side.Device
+            → IfErr result (λ e. (self.new.up ≡ self.old.up)
+            × WriteStops self.old.unit e (S.contents self.old.device) (S.contents self.new.device)
+            packet.now.items) }
         ensures not_device { side ≡ Side.Agent → (self.new.device ≡ self.old.device) × (self.new.up ≡ self.old.up) }
         ensures not_agent { side ≡ Side.Device → (self.new.agent ≡ self.old.agent) × (self.new.down ≡ self.old.down) }
     {
@@ -163,18 +198,41 @@ impl<S: Read + Write + Drop> Link for StreamLink<S> {
         ensures ok { IfOk result (λ p. AsksForFrame (is_some p) self.old.tally self.new.tally) }
         ensures err { OnErr result (FailsCall self.old.tally self.new.tally) }
         ensures unit { self.new.unit ≡ self.old.unit }
-        ensures no_up { side ≡ Side.Agent → self.old.up ≡ 0
-            → (result ≡ Ok None) × (self.new.agent ≡ self.old.agent) × (self.new.device ≡ self.old.device) × (self.new.up ≡ self.old.up) × (self.new.down ≡ self.old.down) }
-        ensures no_down { side ≡ Side.Device → self.old.down ≡ 0
-            → (result ≡ Ok None) × (self.new.agent ≡ self.old.agent) × (self.new.device ≡ self.old.device) × (self.new.up ≡ self.old.up) × (self.new.down ≡ self.old.down) }
-        ensures agent { side ≡ Side.Agent → IfOk result (λ p. IfSome p (λ q. ReadsFrameAt (S.remaining self.old.agent) (S.remaining self.new.agent) self.old.up self.new.up q.items)) }
-        ensures device { side ≡ Side.Device → IfOk result (λ p. IfSome p (λ q. ReadsFrameAt (S.remaining self.old.device) (S.remaining self.new.device) self.old.down self.new.down q.items)) }
+        ensures no_up { side ≡ Side.Agent
+            → self.old.up ≡ 0
+            → (result ≡ Ok None)
+            × (self.new.agent ≡ self.old.agent)
+            × (self.new.device ≡ self.old.device)
+            × (self.new.up ≡ self.old.up)
+            × (self.new.down ≡ self.old.down) }
+        ensures no_down { side ≡ Side.Device
+            → self.old.down ≡ 0
+            → (result ≡ Ok None)
+            × (self.new.agent ≡ self.old.agent)
+            × (self.new.device ≡ self.old.device)
+            × (self.new.up ≡ self.old.up)
+            × (self.new.down ≡ self.old.down) }
+        ensures agent { side ≡ Side.Agent
+            → IfOk result (λ p. IfSome p (λ q. ReadsFrameAt (S.remaining self.old.agent)
+            (S.remaining self.new.agent) self.old.up self.new.up q.items)) }
+        ensures device { side ≡ Side.Device
+            → IfOk result (λ p. IfSome p (λ q. ReadsFrameAt (S.remaining self.old.device)
+            (S.remaining self.new.device) self.old.down self.new.down q.items)) }
         ensures some_up { side ≡ Side.Agent → self.old.up ≢ 0 → result ≢ Ok None }
         ensures some_down { side ≡ Side.Device → self.old.down ≢ 0 → result ≢ Ok None }
-        ensures agent_fault { side ≡ Side.Agent → IfErr result (λ e. (self.old.up ≡ self.new.up + 1) × ReadStops self.old.unit e (S.remaining self.old.agent) (S.remaining self.new.agent)) }
-        ensures device_fault { side ≡ Side.Device → IfErr result (λ e. (self.old.down ≡ self.new.down + 1) × ReadStops self.old.unit e (S.remaining self.old.device) (S.remaining self.new.device)) }
-        ensures not_device { side ≡ Side.Agent → Keeps (S.contents self.old.device) (S.contents self.new.device) × (self.new.down ≡ self.old.down) }
-        ensures not_agent { side ≡ Side.Device → Keeps (S.contents self.old.agent) (S.contents self.new.agent) × (self.new.up ≡ self.old.up) }
+        ensures agent_fault { side ≡ Side.Agent
+            → IfErr result (λ e. (self.old.up ≡ self.new.up + 1)
+            × ReadStops self.old.unit e (S.remaining self.old.agent) (S.remaining self.new.agent)) }
+        ensures device_fault { side ≡ Side.Device
+            → IfErr result (λ e. (self.old.down ≡ self.new.down + 1)
+            × ReadStops self.old.unit e (S.remaining self.old.device)
+            (S.remaining self.new.device)) }
+        ensures not_device { side ≡ Side.Agent
+            → Keeps (S.contents self.old.device) (S.contents self.new.device)
+            × (self.new.down ≡ self.old.down) }
+        ensures not_agent { side ≡ Side.Device
+            → Keeps (S.contents self.old.agent) (S.contents self.new.agent)
+            × (self.new.up ≡ self.old.up) }
     {
         let mut packet = RawPacket::new();
         match self.receive_into(side, &mut packet) {
@@ -189,18 +247,43 @@ impl<S: Read + Write + Drop> Link for StreamLink<S> {
         ensures none { IfOk result (λ came. came ≡ false → packet.new.items ≡ packet.old.items) }
         ensures err { OnErr result (FailsCall self.old.tally self.new.tally) }
         ensures unit { self.new.unit ≡ self.old.unit }
-        ensures no_up { side ≡ Side.Agent → self.old.up ≡ 0
-            → (result ≡ Ok false) × (self.new.agent ≡ self.old.agent) × (self.new.device ≡ self.old.device) × (self.new.up ≡ self.old.up) × (self.new.down ≡ self.old.down) }
-        ensures no_down { side ≡ Side.Device → self.old.down ≡ 0
-            → (result ≡ Ok false) × (self.new.agent ≡ self.old.agent) × (self.new.device ≡ self.old.device) × (self.new.up ≡ self.old.up) × (self.new.down ≡ self.old.down) }
-        ensures agent { side ≡ Side.Agent → IfOk result (λ came. came ≡ true → ReadsFrameAt (S.remaining self.old.agent) (S.remaining self.new.agent) self.old.up self.new.up packet.new.items) }
-        ensures device { side ≡ Side.Device → IfOk result (λ came. came ≡ true → ReadsFrameAt (S.remaining self.old.device) (S.remaining self.new.device) self.old.down self.new.down packet.new.items) }
+        ensures no_up { side ≡ Side.Agent
+            → self.old.up ≡ 0
+            → (result ≡ Ok false)
+            × (self.new.agent ≡ self.old.agent)
+            × (self.new.device ≡ self.old.device)
+            × (self.new.up ≡ self.old.up)
+            × (self.new.down ≡ self.old.down) }
+        ensures no_down { side ≡ Side.Device
+            → self.old.down ≡ 0
+            → (result ≡ Ok false)
+            × (self.new.agent ≡ self.old.agent)
+            × (self.new.device ≡ self.old.device)
+            × (self.new.up ≡ self.old.up)
+            × (self.new.down ≡ self.old.down) }
+        ensures agent { side ≡ Side.Agent
+            → IfOk result (λ came. came ≡ true
+            → ReadsFrameAt (S.remaining self.old.agent) (S.remaining self.new.agent) self.old.up
+            self.new.up packet.new.items) }
+        ensures device { side ≡ Side.Device
+            → IfOk result (λ came. came ≡ true
+            → ReadsFrameAt (S.remaining self.old.device) (S.remaining self.new.device) self.old.down
+            self.new.down packet.new.items) }
         ensures some_up { side ≡ Side.Agent → self.old.up ≢ 0 → result ≢ Ok false }
         ensures some_down { side ≡ Side.Device → self.old.down ≢ 0 → result ≢ Ok false }
-        ensures agent_fault { side ≡ Side.Agent → IfErr result (λ e. (self.old.up ≡ self.new.up + 1) × ReadStops self.old.unit e (S.remaining self.old.agent) (S.remaining self.new.agent)) }
-        ensures device_fault { side ≡ Side.Device → IfErr result (λ e. (self.old.down ≡ self.new.down + 1) × ReadStops self.old.unit e (S.remaining self.old.device) (S.remaining self.new.device)) }
-        ensures not_device { side ≡ Side.Agent → Keeps (S.contents self.old.device) (S.contents self.new.device) × (self.new.down ≡ self.old.down) }
-        ensures not_agent { side ≡ Side.Device → Keeps (S.contents self.old.agent) (S.contents self.new.agent) × (self.new.up ≡ self.old.up) }
+        ensures agent_fault { side ≡ Side.Agent
+            → IfErr result (λ e. (self.old.up ≡ self.new.up + 1)
+            × ReadStops self.old.unit e (S.remaining self.old.agent) (S.remaining self.new.agent)) }
+        ensures device_fault { side ≡ Side.Device
+            → IfErr result (λ e. (self.old.down ≡ self.new.down + 1)
+            × ReadStops self.old.unit e (S.remaining self.old.device)
+            (S.remaining self.new.device)) }
+        ensures not_device { side ≡ Side.Agent
+            → Keeps (S.contents self.old.device) (S.contents self.new.device)
+            × (self.new.down ≡ self.old.down) }
+        ensures not_agent { side ≡ Side.Device
+            → Keeps (S.contents self.old.agent) (S.contents self.new.agent)
+            × (self.new.up ≡ self.old.up) }
     {
         match self.read(side, packet) {
             Ok(came) => {

@@ -120,7 +120,9 @@ pub(crate) fn push_optional_word_field(
     name: &str,
     words: Option<&str>,
 ) -> Result<(), AllocError>
-    ensures { OnOk result (AppendsTokens writer.old writer.new (key name.now ∷ json_tokens (optional_value Json.string (option_map (λ w. w.now) words.entry)))) }
+    ensures { OnOk result (AppendsTokens writer.old writer.new
+        (key name.now
+        ∷ json_tokens (optional_value Json.string (option_map (λ w. w.now) words.entry)))) }
 {
     writer.key(name)?;
     match words {
@@ -150,7 +152,9 @@ pub(crate) fn push_optional_digits_field(
     name: &str,
     bytes: Option<&[u8]>,
 ) -> Result<(), AllocError>
-    ensures { OnOk result (AppendsTokens writer.old writer.new (key name.now ∷ json_tokens (optional_value in_digits (option_map (λ b. b.now) bytes.entry)))) }
+    ensures { OnOk result (AppendsTokens writer.old writer.new
+        (key name.now
+        ∷ json_tokens (optional_value in_digits (option_map (λ b. b.now) bytes.entry)))) }
 {
     match bytes {
         Some(bytes) => push_digits_field(alloc, writer, name, bytes),

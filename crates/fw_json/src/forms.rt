@@ -25,7 +25,8 @@ use std::alloc::{AllocError, Global};
 /// refused.
 pub fn inspect_in(alloc: Global, bytes: &[u8], form: Form) -> Result<Vec<u8>, InspectFault>
     ensures text { IfOk result (λ text. result_map_both (inspection_in form) (λ e. e) (package_of bytes.now) ≡ Ok text.items) }
-    ensures fault { IfErr result (λ e. e ≢ InspectFault.Memory → result_map_both (λ p. p) InspectFault.Package (package_of bytes.now) ≡ Err e) }
+    ensures fault { IfErr result (λ e. e ≢ InspectFault.Memory
+        → result_map_both (λ p. p) InspectFault.Package (package_of bytes.now) ≡ Err e) }
     ensures memory { IfErr result (λ e. e ≡ InspectFault.Memory → IsOk (package_of bytes.now)) }
 {
     match form {
@@ -46,9 +47,17 @@ pub fn inspect_beginning_in(
     file_length: usize,
     form: Form,
 ) -> Result<Vec<u8>, InspectFault>
-    ensures text { (file : List ℕ) → IsBeginning file beginning.now file_length → IfOk result (λ text. result_map_both (inspection_in form) (λ e. e) (package_of file) ≡ Ok text.items) }
-    ensures fault { (file : List ℕ) → IsBeginning file beginning.now file_length → IfErr result (λ e. e ≢ InspectFault.Memory → result_map_both (λ p. p) InspectFault.Package (package_of file) ≡ Err e) }
-    ensures memory { (file : List ℕ) → IsBeginning file beginning.now file_length → IfErr result (λ e. e ≡ InspectFault.Memory → IsOk (package_of file)) }
+    ensures text { (file : List ℕ)
+        → IsBeginning file beginning.now file_length
+        → IfOk result (λ text. result_map_both (inspection_in form) (λ e. e) (package_of file)
+        ≡ Ok text.items) }
+    ensures fault { (file : List ℕ)
+        → IsBeginning file beginning.now file_length
+        → IfErr result (λ e. e ≢ InspectFault.Memory
+        → result_map_both (λ p. p) InspectFault.Package (package_of file) ≡ Err e) }
+    ensures memory { (file : List ℕ)
+        → IsBeginning file beginning.now file_length
+        → IfErr result (λ e. e ≡ InspectFault.Memory → IsOk (package_of file)) }
 {
     match form {
         Form::Text => inspect_beginning(alloc, beginning, file_length),

@@ -185,9 +185,11 @@ fn inspection(alloc: Global, contents: &Outline<'_>) -> Result<Vec<u8>, AllocErr
 /// `Package`, with the first fault, if the bytes aren't a package; `Memory` only if memory is
 /// refused.
 pub fn inspect_json(alloc: Global, bytes: &[u8]) -> Result<Vec<u8>, InspectFault>
-    ensures line { IfOk result (λ text. result_map_both (λ p. line_of (inspection_value p)) (λ e. e) (package_of bytes.now) ≡ Ok text.items) }
+    ensures line { IfOk result (λ text. result_map_both (λ p. line_of (inspection_value p)) (λ e. e)
+        (package_of bytes.now) ≡ Ok text.items) }
     ensures reads_back { OnOk result (IfOk (package_of bytes.now) (λ p. ReadsBack (inspection_value p))) }
-    ensures fault { IfErr result (λ e. e ≢ InspectFault.Memory → result_map_both (λ p. p) InspectFault.Package (package_of bytes.now) ≡ Err e) }
+    ensures fault { IfErr result (λ e. e ≢ InspectFault.Memory
+        → result_map_both (λ p. p) InspectFault.Package (package_of bytes.now) ≡ Err e) }
     ensures memory { IfErr result (λ e. e ≡ InspectFault.Memory → IsOk (package_of bytes.now)) }
 {
     inspect_json_beginning(alloc, beginning_of(bytes), bytes.len())
@@ -204,10 +206,20 @@ pub fn inspect_json_beginning(
     beginning: &[u8],
     file_length: usize,
 ) -> Result<Vec<u8>, InspectFault>
-    ensures line { (file : List ℕ) → IsBeginning file beginning.now file_length → IfOk result (λ text. result_map_both (λ p. line_of (inspection_value p)) (λ e. e) (package_of file) ≡ Ok text.items) }
-    ensures reads_back { (file : List ℕ) → IsBeginning file beginning.now file_length → OnOk result (IfOk (package_of file) (λ p. ReadsBack (inspection_value p))) }
-    ensures fault { (file : List ℕ) → IsBeginning file beginning.now file_length → IfErr result (λ e. e ≢ InspectFault.Memory → result_map_both (λ p. p) InspectFault.Package (package_of file) ≡ Err e) }
-    ensures memory { (file : List ℕ) → IsBeginning file beginning.now file_length → IfErr result (λ e. e ≡ InspectFault.Memory → IsOk (package_of file)) }
+    ensures line { (file : List ℕ)
+        → IsBeginning file beginning.now file_length
+        → IfOk result (λ text. result_map_both (λ p. line_of (inspection_value p)) (λ e. e)
+        (package_of file) ≡ Ok text.items) }
+    ensures reads_back { (file : List ℕ)
+        → IsBeginning file beginning.now file_length
+        → OnOk result (IfOk (package_of file) (λ p. ReadsBack (inspection_value p))) }
+    ensures fault { (file : List ℕ)
+        → IsBeginning file beginning.now file_length
+        → IfErr result (λ e. e ≢ InspectFault.Memory
+        → result_map_both (λ p. p) InspectFault.Package (package_of file) ≡ Err e) }
+    ensures memory { (file : List ℕ)
+        → IsBeginning file beginning.now file_length
+        → IfErr result (λ e. e ≡ InspectFault.Memory → IsOk (package_of file)) }
 {
     let contents = match Outline::read(beginning, file_length) {
         Ok(contents) => contents,

@@ -31,7 +31,8 @@ fn push_lacked(
     writer: &mut Writer,
     lacked: Option<Descriptor<'_>>,
 ) -> Result<(), AllocError>
-    ensures { OnOk result (AppendsTokens writer.old writer.new (json_tokens (optional_value descriptor_value (option_map descriptor_of lacked.entry)))) }
+    ensures { OnOk result (AppendsTokens writer.old writer.new
+        (json_tokens (optional_value descriptor_value (option_map descriptor_of lacked.entry)))) }
 {
     match lacked {
         Some(descriptor) => push_descriptor(alloc, writer, descriptor),
@@ -48,7 +49,9 @@ fn push_lack(
     number: usize,
     contents: Record<'_>,
 ) -> Result<(), AllocError>
-    ensures { OnOk result (AppendsTokens writer.old writer.new (json_tokens (lack_value (map descriptor_of device.now) number (record_seen contents.entry)))) }
+    ensures { OnOk result (AppendsTokens writer.old writer.new
+        (json_tokens (lack_value (map descriptor_of device.now) number
+        (record_seen contents.entry)))) }
 {
     open_object(writer)?;
     push_number_field(writer, "record", number)?;
@@ -66,7 +69,9 @@ fn push_lacks(
     device: &[Descriptor<'_>],
     mut records: Records<'_>,
 ) -> Result<(), AllocError>
-    ensures { OnOk result (AppendsTokens writer.old writer.new (items_tokens (numbered_items (lack_value (map descriptor_of device.now)) 1 records.entry))) }
+    ensures { OnOk result (AppendsTokens writer.old writer.new
+        (items_tokens (numbered_items (lack_value (map descriptor_of device.now)) 1
+        records.entry))) }
 {
     for number in 0..records.len() {
         let Some(contents) = records.next() else {
@@ -99,7 +104,9 @@ fn push_active(
     writer: &mut Writer,
     active: Option<&ComponentConfig>,
 ) -> Result<(), AllocError>
-    ensures { OnOk result (AppendsTokens writer.old writer.new (json_tokens (optional_value running_value (option_map (λ c. row_made (component_of c.now)) active.entry)))) }
+    ensures { OnOk result (AppendsTokens writer.old writer.new
+        (json_tokens (optional_value running_value (option_map (λ c. row_made (component_of c.now))
+        active.entry)))) }
 {
     match active {
         Some(config) => push_running(alloc, writer, config),
@@ -114,7 +121,9 @@ fn push_offer(
     components: &[ComponentConfig],
     component: Component<'_>,
 ) -> Result<(), AllocError>
-    ensures { OnOk result (AppendsTokens writer.old writer.new (json_tokens (offer_value (map row_made (map component_of components.now)) (component_seen component.entry)))) }
+    ensures { OnOk result (AppendsTokens writer.old writer.new
+        (json_tokens (offer_value (map row_made (map component_of components.now))
+        (component_seen component.entry)))) }
 {
     open_object(writer)?;
     push_number_field(
@@ -147,7 +156,9 @@ fn push_offers(
     numbers: &[usize],
 ) -> Result<(), AllocError>
     requires { All (λ n. n < length contents.now.components) numbers.now }
-    ensures { OnOk result (AppendsTokens writer.old writer.new (items_tokens (offer_items contents.now (map row_made (map component_of components.now)) numbers.now))) }
+    ensures { OnOk result (AppendsTokens writer.old writer.new
+        (items_tokens (offer_items contents.now (map row_made (map component_of components.now))
+        numbers.now))) }
 {
     for number in numbers {
         push_offer(alloc, writer, components, contents.component_at(*number))?;
@@ -164,7 +175,8 @@ fn push_unmet(
     contents: &Package<'_>,
     device: &[Descriptor<'_>],
 ) -> Result<(), AllocError>
-    ensures { OnOk result (AppendsTokens writer.old writer.new (json_tokens (unmet_value eid contents.now (map descriptor_of device.now)))) }
+    ensures { OnOk result (AppendsTokens writer.old writer.new
+        (json_tokens (unmet_value eid contents.now (map descriptor_of device.now)))) }
 {
     open_object(writer)?;
     push_number_field(writer, "eid", usize::from(eid))?;
@@ -194,7 +206,9 @@ fn push_chosen(
 ) -> Result<(), AllocError>
     requires chosen { chosen < length contents.now.records }
     requires there { All (λ n. n < length contents.now.components) numbers.now }
-    ensures { OnOk result (AppendsTokens writer.old writer.new (json_tokens (chosen_value eid chosen (record_at contents.now chosen) word.now (offer_items contents.now (map row_made (map component_of components.now)) numbers.now)))) }
+    ensures { OnOk result (AppendsTokens writer.old writer.new
+        (json_tokens (chosen_value eid chosen (record_at contents.now chosen) word.now
+        (offer_items contents.now (map row_made (map component_of components.now)) numbers.now)))) }
 {
     open_object(writer)?;
     push_number_field(writer, "eid", usize::from(eid))?;
@@ -220,7 +234,9 @@ fn push_planned(
     components: &[ComponentConfig],
 ) -> Result<(), AllocError>
     requires { chosen < length contents.now.records }
-    ensures { OnOk result (AppendsTokens writer.old writer.new (json_tokens (planned_value eid chosen contents.now (map row_made (map component_of components.now)) (plan_of contents.now chosen)))) }
+    ensures { OnOk result (AppendsTokens writer.old writer.new
+        (json_tokens (planned_value eid chosen contents.now (map row_made
+        (map component_of components.now)) (plan_of contents.now chosen)))) }
 {
     let plan = match contents.plan(chosen) {
         Ok(plan) => plan,
@@ -243,7 +259,8 @@ fn push_device(
     contents: &Package<'_>,
     device: &DeviceConfig,
 ) -> Result<(), AllocError>
-    ensures { OnOk result (AppendsTokens writer.old writer.new (json_tokens (configured_value contents.now (device_of device.now)))) }
+    ensures { OnOk result (AppendsTokens writer.old writer.new
+        (json_tokens (configured_value contents.now (device_of device.now)))) }
 {
     let eid = device.endpoint.eid;
     let known = known(alloc, device.descriptors.lent())?;
@@ -264,7 +281,8 @@ fn push_devices(
     contents: &Package<'_>,
     devices: &[DeviceConfig],
 ) -> Result<(), AllocError>
-    ensures { OnOk result (AppendsTokens writer.old writer.new (items_tokens (items (configured_value contents.now) (map device_of devices.now)))) }
+    ensures { OnOk result (AppendsTokens writer.old writer.new
+        (items_tokens (items (configured_value contents.now) (map device_of devices.now)))) }
 {
     for device in devices {
         push_device(alloc, writer, contents, device)?;
@@ -281,7 +299,8 @@ fn push_plan(
     contents: &Package<'_>,
     devices: &[DeviceConfig],
 ) -> Result<(), AllocError>
-    ensures { OnOk result (AppendsTokens writer.old writer.new (json_tokens (plan_value number contents.now (map device_of devices.now)))) }
+    ensures { OnOk result (AppendsTokens writer.old writer.new
+        (json_tokens (plan_value number contents.now (map device_of devices.now)))) }
 {
     open_object(writer)?;
     push_word_field(writer, "format", "fwupd-plan/1")?;

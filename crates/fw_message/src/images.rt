@@ -34,7 +34,8 @@ pub fn applied_images<'a, B: Bank>(
 /// Inserts an image among others, by rising key.
 #[tactic(auto, using(crate::proofs::Rising::put_in_place))]
 fn put_in<'a>(images: &mut Vec<Image<'a>>, image: Image<'a>) -> Result<(), AllocError>
-    ensures { OnOk result (map keyed_image_of images.new.items ≡ images_with (keyed_image_of image.entry) (map keyed_image_of images.old.items)) }
+    ensures { OnOk result (map keyed_image_of images.new.items
+        ≡ images_with (keyed_image_of image.entry) (map keyed_image_of images.old.items)) }
 {
     let place = place_for(images, image.key);
     let Ok(()) = images.insert(place, image) else {

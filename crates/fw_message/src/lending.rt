@@ -36,7 +36,9 @@ pub(crate) fn image_in<'a>(
     room: Vec<u8>,
 ) -> Option<Image<'a>>
     requires { room.items ≡ [] }
-    ensures { length bytes.now ≤ vec_capacity room → map keyed_image_of (option_to_list result) ≡ record { key = key; bytes = bytes.now } ∷ [] }
+    ensures { length bytes.now ≤ vec_capacity room
+        → map keyed_image_of (option_to_list result)
+        ≡ record { key = key; bytes = bytes.now } ∷ [] }
 {
     if let Some(lent) = lent(packages, key, bytes) {
         return Some(lent);

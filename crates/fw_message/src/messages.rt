@@ -83,7 +83,9 @@ impl<'a, B: Bank + Drop> MessageWorld<'a, B> {
         requires device { HasComponents device.device }
         requires apart { eid ≢ self.old.world.agent }
         requires fresh { node_at self.old.world.nodes eid ≡ None }
-        ensures nodes { OnOk result (self.new.world ≡ record self.old.world { nodes = self.old.world.nodes ++ new_node eid device.device ∷ [] }) }
+        ensures nodes { OnOk result (self.new.world ≡ record self.old.world {
+          nodes = self.old.world.nodes ++ new_node eid device.device ∷ [];
+        }) }
         ensures faults { OnOk result (self.new.faults ≡ self.old.faults ++ device.faults ∷ []) }
         ensures opens { OnOk result (IsOpeningMessageWorld self.old.world → IsOpeningMessageWorld self.new.world) }
         ensures same { OnErr result (self.new ≡ self.old) }
@@ -142,7 +144,8 @@ impl<'a, B: Bank + Drop> MessageWorld<'a, B> {
     /// # Errors
     /// As for `message_replay`. The world is unchanged on an error.
     pub(crate) fn step(&mut self, step: MessageStep) -> Result<bool, MessageStepFault>
-        ensures step { IfOk result (λ works. message_world_after self.old.world (named_step self.old.world.agent works step) ≡ Some self.new.world) }
+        ensures step { IfOk result (λ works. message_world_after self.old.world
+            (named_step self.old.world.agent works step) ≡ Some self.new.world) }
         ensures worked { result ≡ Ok true → self.new.faults ≡ self.old.faults }
         ensures failed { result ≡ Ok false → BankFailed self.old self.new (device_of step) }
         ensures called { result ≡ Ok false → message_step_calls_bank self.old.world step ≡ true }

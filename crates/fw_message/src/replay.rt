@@ -26,10 +26,18 @@ pub fn message_replay<B: Bank + Drop>(
     steps: &[MessageStep],
 ) -> Result<(), (usize, MessageStepFault)>
     ensures ok { OnOk result (MessageRun world.old steps.now world.new) }
-    ensures stopped { IfErr result (λ e. (e.0 < length steps.now) × MessageRun world.old (take e.0 steps.now) world.new × IfSome (slice_get steps.now e.0) (λ s. RefusesMessageStep world.new.world s e.1)) }
+    ensures stopped { IfErr result (λ e. (e.0 < length steps.now)
+        × MessageRun world.old (take e.0 steps.now) world.new
+        × IfSome (slice_get steps.now e.0) (λ s. RefusesMessageStep world.new.world s e.1)) }
     ensures grown { GrowsMessageHistory world.old.world world.new.world }
-    ensures tied { (opening : CountedWorldOf) (before : List MessageStep) → IsOpeningMessageWorld opening.world → MessageRun opening before world.old → IsMessageWorldTiedBetween world.old.world world.new.world }
-    ensures safe { (opening : CountedWorldOf) (before : List MessageStep) → IsOpeningMessageWorld opening.world → MessageRun opening before world.old → IsSafeMessageWorld opening.world world.new.world }
+    ensures tied { (opening : CountedWorldOf) (before : List MessageStep)
+        → IsOpeningMessageWorld opening.world
+        → MessageRun opening before world.old
+        → IsMessageWorldTiedBetween world.old.world world.new.world }
+    ensures safe { (opening : CountedWorldOf) (before : List MessageStep)
+        → IsOpeningMessageWorld opening.world
+        → MessageRun opening before world.old
+        → IsSafeMessageWorld opening.world world.new.world }
 {
     worlds_are_safe();
     runs_stay_tied();

@@ -263,7 +263,8 @@ impl AgentNode {
         eid: u8,
         now: u32,
     ) -> Result<(), NotReady>
-        ensures ready { OnOk result (option_map (λ s. agent_becomes self.old now eid (λ h. half_after_activate packages.now h s)) (ready_for self.old eid) ≡ Some self.new) }
+        ensures ready { OnOk result (option_map (λ s. agent_becomes self.old now eid
+            (λ h. half_after_activate packages.now h s)) (ready_for self.old eid) ≡ Some self.new) }
         ensures not { OnErr result (ready_for self.old eid ≡ None) }
         ensures kept { OnErr result (self.new ≡ self.old) }
     {
@@ -336,7 +337,9 @@ fn place_of(halves: &[Half<Session>], eid: u8) -> Option<usize>
 /// The session with a device.
 #[tactic(auto, using(crate::proofs::Places::places))]
 fn session_in(halves: &[Half<Session>], eid: u8) -> Option<&Session>
-    ensures { option_map (λ s. s.now) result ≡ option_map (λ h. h.core) (half_at (map (half_in 0) halves.now) (place_of (map (half_in 0) halves.now) eid)) }
+    ensures { option_map (λ s. s.now) result
+        ≡ option_map (λ h. h.core) (half_at (map (half_in 0) halves.now)
+        (place_of (map (half_in 0) halves.now) eid)) }
 {
     let Some(place) = place_of(halves, eid) else {
         return None;
@@ -369,8 +372,13 @@ fn accept_at<'p>(
     requires read { IsRead packet.now }
     requires place { place < length halves.old }
     requires outbox { outbox.old ≡ [] }
-    ensures after { agent_of 0 identity.new log.new halves.new ≡ (agent_on_packet_at packages.now (agent_of 0 identity.old log.old halves.old) (spelling packet.now) now (Some place) (slice_get (map (half_in 0) halves.old) place)).agent }
-    ensures sent { outbox.new ≡ (agent_on_packet_at packages.now (agent_of 0 identity.old log.old halves.old) (spelling packet.now) now (Some place) (slice_get (map (half_in 0) halves.old) place)).sent }
+    ensures after { agent_of 0 identity.new log.new halves.new
+        ≡ (agent_on_packet_at packages.now (agent_of 0 identity.old log.old halves.old)
+        (spelling packet.now) now (Some place) (slice_get (map (half_in 0) halves.old)
+        place)).agent }
+    ensures sent { outbox.new ≡ (agent_on_packet_at packages.now
+        (agent_of 0 identity.old log.old halves.old) (spelling packet.now) now (Some place)
+        (slice_get (map (half_in 0) halves.old) place)).sent }
     ensures count { length halves.new ≡ length halves.old }
 {
     handle_and_note(
@@ -434,8 +442,11 @@ fn activate_at<'p>(
     now: u32,
 ) -> Result<(), NotReady>
     requires { place < length halves.old }
-    ensures halves { OnOk result (option_map (λ s. halves_called halves.old place (half_activated packages.now s)) (half_ready (slice_get halves.old place)) ≡ Some halves.new) }
-    ensures log { OnOk result (option_map (λ s. halves_noted log.old now halves.old place (half_activated packages.now s)) (half_ready (slice_get halves.old place)) ≡ Some log.new) }
+    ensures halves { OnOk result (option_map (λ s. halves_called halves.old place
+        (half_activated packages.now s)) (half_ready (slice_get halves.old place))
+        ≡ Some halves.new) }
+    ensures log { OnOk result (option_map (λ s. halves_noted log.old now halves.old place
+        (half_activated packages.now s)) (half_ready (slice_get halves.old place)) ≡ Some log.new) }
     ensures not { OnErr result (half_ready (slice_get halves.old place) ≡ None) }
     ensures kept { OnErr result (halves.new ≡ halves.old) }
     ensures unnoted { OnErr result (log.new ≡ log.old) }
@@ -459,7 +470,9 @@ fn grow_all<'p>(
     requires { length outbox.old + 4 * length halves.old ≤ 64 }
     ensures halves { map (half_in 0) halves.new ≡ map (session_half_aged packages.now) (map (half_in 0) halves.old) }
     ensures sent { outbox.new ≡ outbox.old ++ flat_map again_packets (map (half_in 0) halves.old) }
-    ensures few { length outbox.new + 4 * length (flat_map (begin_messages packages.now) (map (session_half_aged packages.now) (map (half_in 0) halves.old))) ≤ length outbox.old + 4 * length halves.old }
+    ensures few { length outbox.new + 4 * length (flat_map (begin_messages packages.now)
+        (map (session_half_aged packages.now) (map (half_in 0) halves.old)))
+        ≤ length outbox.old + 4 * length halves.old }
     ensures log { log.new ≡ log_after_part (session_half_aged packages.now) now log.old (map (half_in 0) halves.old) }
     ensures addressed { AllByRecursion (IsAddressed packages.now) (map (half_in 0) halves.old) }
     ensures count { length halves.new ≡ length halves.old }

@@ -54,14 +54,18 @@ pub(crate) trait Core<'p> {
     /// request of its own in progress.
     fn take(&mut self, given: Self::Given, command: &Command<'_>, quiet: bool) -> (Reply, bool)
         ensures core { seen self.new ≡ ((does given).take (seen self.old) (command_of command.now) quiet result.1).core }
-        ensures reply { result.0.items ≡ answer_bytes ((does given).take (seen self.old) (command_of command.now) quiet result.1).answer }
+        ensures reply { result.0.items
+            ≡ answer_bytes ((does given).take (seen self.old) (command_of command.now) quiet
+            result.1).answer }
         ensures worked { result.1 ≡ true → faults self.new ≡ faults self.old }
         ensures failed { result.1 ≡ false → CountsFailure (faults self.old) (faults self.new) }
         ensures called { result.1 ≡ false → (does given).take_calls_bank (seen self.old) (command_of command.now) quiet ≡ true };
 
     /// Handles the answer to the pending command. Returns whether its bank worked.
     fn learn(&mut self, given: Self::Given, answer: Result<&Answer<'_>, Malformed>) -> bool
-        ensures core { seen self.new ≡ (does given).learn (seen self.old) (result_map_both (λ a. answer_of a.now) (λ e. e) answer.entry) result }
+        ensures core { seen self.new
+            ≡ (does given).learn (seen self.old) (result_map_both (λ a. answer_of a.now) (λ e. e)
+            answer.entry) result }
         ensures worked { result ≡ true → faults self.new ≡ faults self.old }
         ensures failed { result ≡ false → CountsFailure (faults self.old) (faults self.new) }
         ensures called { result ≡ false

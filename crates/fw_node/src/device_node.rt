@@ -159,7 +159,14 @@ impl<B: Bank> DeviceNode<B> {
     #[tactic(auto, using(crate::proofs::Working::judging, fd_core::proofs::BankCalls::bank_calls))]
     fn judge(&mut self, verdict: Verdict) -> Option<bool>
         ensures counts { IfSome result (λ works. is_some (device_verdict self.old.half.core.device verdict works) ≡ true) }
-        ensures half { IfSome result (λ works. self.new ≡ record self.new { half = record self.old.half { core = record { device = verdict_after self.old.half.core.device verdict works; idle = 0 } } }) }
+        ensures half { IfSome result (λ works. self.new ≡ record self.new {
+          half = record self.old.half {
+            core = record {
+              device = verdict_after self.old.half.core.device verdict works;
+              idle = 0;
+            };
+          };
+        }) }
         ensures worked { IfSome result (λ works. works ≡ true → self.new.faults ≡ self.old.faults) }
         ensures failed { IfSome result (λ works. works ≡ false → CountsFailure self.old.faults self.new.faults) }
         ensures called { IfSome result (λ works. works ≡ false → verdict_calls_bank self.old.half.core.device verdict ≡ true) }
@@ -208,7 +215,8 @@ impl<B: Bank> DeviceNode<B> {
         requires outbox { outbox.old ≡ [] }
         ensures half { self.new.half ≡ (device_on_packet result self.old (spelling packet.now)).half }
         ensures tid { self.new.tid ≡ (device_on_packet result self.old (spelling packet.now)).tid }
-        ensures packets { outbox.new ≡ all_packets self.old.half.unit (device_on_packet result self.old (spelling packet.now)).sent }
+        ensures packets { outbox.new ≡ all_packets self.old.half.unit
+            (device_on_packet result self.old (spelling packet.now)).sent }
         ensures worked { result ≡ true → self.new.faults ≡ self.old.faults }
         ensures failed { result ≡ false → CountsFailure self.old.faults self.new.faults }
         ensures called { result ≡ false → packet_calls_bank device_core self.old.half (spelling packet.now) ≡ true }

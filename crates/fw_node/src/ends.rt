@@ -34,7 +34,10 @@ impl Model for Ends {
 
     ghost view = { λ e. record { asking = e.asker; answering = e.taker } };
 
-    ghost invariant = { λ e. (e.taker.unit ≡ e.asker.unit) × (e.taker.own ≡ e.asker.own) × (e.taker.peer ≡ e.asker.peer) × IsAsking e.asker.peer e.asker.caller };
+    ghost invariant = { λ e. (e.taker.unit ≡ e.asker.unit)
+        × (e.taker.own ≡ e.asker.own)
+        × (e.taker.peer ≡ e.asker.peer)
+        × IsAsking e.asker.peer e.asker.caller };
 }
 
 impl Ends {
@@ -81,7 +84,11 @@ impl Ends {
     /// Gives up the open request, if there is one.
     #[tactic(auto, using(crate::proofs::OneATick::callers_stay))]
     pub(crate) fn abandon(&mut self)
-        ensures { self.new ≡ record self.old { asking = record self.old.asking { caller = unwished_abandoned None self.old.asking.caller } } }
+        ensures { self.new ≡ record self.old {
+          asking = record self.old.asking {
+            caller = unwished_abandoned None self.old.asking.caller;
+          };
+        } }
     {
         if self.asker.is_open() {
             self.asker.abandon();
@@ -91,7 +98,11 @@ impl Ends {
     /// Gives up the open request, unless it is of this command.
     #[tactic(auto, using(crate::proofs::OneATick::callers_stay))]
     pub(crate) fn abandon_unless(&mut self, wish: &Option<Command<'_>>)
-        ensures { self.new ≡ record self.old { asking = record self.old.asking { caller = unwished_abandoned (option_map command_of wish.now) self.old.asking.caller } } }
+        ensures { self.new ≡ record self.old {
+          asking = record self.old.asking {
+            caller = unwished_abandoned (option_map command_of wish.now) self.old.asking.caller;
+          };
+        } }
     {
         if !self.is_wished(wish) {
             self.asker.abandon();
@@ -123,8 +134,14 @@ impl Ends {
     pub(crate) fn begin(&mut self, command: &Command<'_>) -> Message
         requires may { may_begin self.old.asking.caller ≡ true }
         requires fits { IsWritable (command_of command.now) }
-        ensures request { result ≡ (begin_outcome self.old.asking.caller 5 (command_code (command_of command.now)) (command_bytes (command_of command.now))).1 }
-        ensures after { self.new ≡ record self.old { asking = record self.old.asking { caller = (begin_outcome self.old.asking.caller 5 (command_code (command_of command.now)) (command_bytes (command_of command.now))).0 } } }
+        ensures request { result ≡ (begin_outcome self.old.asking.caller 5
+            (command_code (command_of command.now)) (command_bytes (command_of command.now))).1 }
+        ensures after { self.new ≡ record self.old {
+          asking = record self.old.asking {
+            caller = (begin_outcome self.old.asking.caller 5 (command_code (command_of command.now))
+                (command_bytes (command_of command.now))).0;
+          };
+        } }
     {
         let body = fwup_wire::write(command);
         self.asker.begin(command.code(), body.as_slice())
@@ -142,11 +159,19 @@ impl Ends {
     pub(crate) fn receive(&mut self, packet: &Packet<'_>, message: &mut Message) -> Incoming
         requires read { IsRead packet.now }
         ensures head { HasHead result }
-        ensures incoming { incoming_of result message.new ≡ incoming (asking_row self.old.asking (spelling packet.now)) (answering_row self.old.answering (spelling packet.now)) }
+        ensures incoming { incoming_of result message.new
+            ≡ incoming (asking_row self.old.asking (spelling packet.now))
+            (answering_row self.old.answering (spelling packet.now)) }
         ensures asking { self.new.asking ≡ asking_after self.old.asking (asking_row self.old.asking (spelling packet.now)) }
-        ensures stays { (self.new.asking.unit ≡ self.old.asking.unit) × (self.new.asking.own ≡ self.old.asking.own) × (self.new.asking.peer ≡ self.old.asking.peer) }
-        ensures lawful { (self.old.answering.unit ≡ self.old.asking.unit) × (self.old.answering.own ≡ self.old.asking.own) × (self.old.answering.peer ≡ self.old.asking.peer) }
-        ensures answering { self.new.answering ≡ answering_after (asking_row self.old.asking (spelling packet.now)) self.old.answering (answering_row self.old.answering (spelling packet.now)) }
+        ensures stays { (self.new.asking.unit ≡ self.old.asking.unit)
+            × (self.new.asking.own ≡ self.old.asking.own)
+            × (self.new.asking.peer ≡ self.old.asking.peer) }
+        ensures lawful { (self.old.answering.unit ≡ self.old.asking.unit)
+            × (self.old.answering.own ≡ self.old.asking.own)
+            × (self.old.answering.peer ≡ self.old.asking.peer) }
+        ensures answering { self.new.answering
+            ≡ answering_after (asking_row self.old.asking (spelling packet.now)) self.old.answering
+            (answering_row self.old.answering (spelling packet.now)) }
     {
         if let Some(command) = self.asker.on_reply(packet, message) {
             return Incoming::Learnt(command);

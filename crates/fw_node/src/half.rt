@@ -63,7 +63,14 @@ impl<'p, C: Core<'p>> Half<C> {
 
     /// Gives up the open request if it is no longer the pending command.
     pub(crate) fn settle(&mut self, given: C::Given)
-        ensures settled { self.new ≡ record self.old { ends = record self.old.ends { asking = record self.old.ends.asking { caller = unwished_abandoned ((C.does given).wish (C.seen self.old.core)) self.old.ends.asking.caller } } } }
+        ensures settled { self.new ≡ record self.old {
+          ends = record self.old.ends {
+            asking = record self.old.ends.asking {
+              caller = unwished_abandoned ((C.does given).wish (C.seen self.old.core))
+                  self.old.ends.asking.caller;
+            };
+          };
+        } }
     {
         if self.core.may_wish(given) {
             self.abandon_unwished(given);
@@ -74,7 +81,14 @@ impl<'p, C: Core<'p>> Half<C> {
 
     /// Gives up the open request, unless it is the core's pending command.
     fn abandon_unwished(&mut self, given: C::Given)
-        ensures abandoned { self.new ≡ record self.old { ends = record self.old.ends { asking = record self.old.ends.asking { caller = unwished_abandoned ((C.does given).wish (C.seen self.old.core)) self.old.ends.asking.caller } } } }
+        ensures abandoned { self.new ≡ record self.old {
+          ends = record self.old.ends {
+            asking = record self.old.ends.asking {
+              caller = unwished_abandoned ((C.does given).wish (C.seen self.old.core))
+                  self.old.ends.asking.caller;
+            };
+          };
+        } }
     {
         let wish = self.core.wish(given);
         self.ends.abandon_unless(&wish);
@@ -91,9 +105,18 @@ impl<'p, C: Core<'p>> Half<C> {
     ) -> bool
         requires read { IsRead packet.now }
         requires outbox { outbox.old ≡ [] }
-        ensures half { half_of 0 (C.seen self.new.core) self.new.ends ≡ (node_outcome_of role identity.old.endpoint identity.old.tid (half_on_packet (C.does given) result (half_of 0 (C.seen self.old.core) self.old.ends) (spelling packet.now))).half }
-        ensures tid { identity.new.tid ≡ (node_outcome_of role identity.old.endpoint identity.old.tid (half_on_packet (C.does given) result (half_of 0 (C.seen self.old.core) self.old.ends) (spelling packet.now))).tid }
-        ensures packets { outbox.new ≡ all_packets self.old.ends.asking.unit (node_outcome_of role identity.old.endpoint identity.old.tid (half_on_packet (C.does given) result (half_of 0 (C.seen self.old.core) self.old.ends) (spelling packet.now))).sent }
+        ensures half { half_of 0 (C.seen self.new.core) self.new.ends
+            ≡ (node_outcome_of role identity.old.endpoint identity.old.tid
+            (half_on_packet (C.does given) result (half_of 0 (C.seen self.old.core) self.old.ends)
+            (spelling packet.now))).half }
+        ensures tid { identity.new.tid
+            ≡ (node_outcome_of role identity.old.endpoint identity.old.tid
+            (half_on_packet (C.does given) result (half_of 0 (C.seen self.old.core) self.old.ends)
+            (spelling packet.now))).tid }
+        ensures packets { outbox.new ≡ all_packets self.old.ends.asking.unit
+            (node_outcome_of role identity.old.endpoint identity.old.tid
+            (half_on_packet (C.does given) result (half_of 0 (C.seen self.old.core) self.old.ends)
+            (spelling packet.now))).sent }
         ensures worked { result ≡ true → C.faults self.new.core ≡ C.faults self.old.core }
         ensures failed { result ≡ false → CountsFailure (C.faults self.old.core) (C.faults self.new.core) }
         ensures called { result ≡ false
@@ -124,9 +147,16 @@ impl<'p, C: Core<'p>> Half<C> {
     /// Reads a packet. The message that the result refers to is written into `message`.
     fn incoming(&mut self, packet: &Packet<'_>, message: &mut Message) -> Incoming
         requires read { IsRead packet.now }
-        ensures brings { (given : C.Given) (works : Bool) → half_on_packet (C.does given) works (half_of 0 (C.seen self.old.core) self.old.ends) (spelling packet.now) ≡ half_on_incoming (C.does given) works (half_of 0 (C.seen self.new.core) self.new.ends) (incoming_of result message.new) }
-        ensures calls { (given : C.Given) → packet_calls_bank (C.does given) (half_of 0 (C.seen self.old.core) self.old.ends) (spelling packet.now)
-            ≡ incoming_calls_bank (C.does given) (half_of 0 (C.seen self.new.core) self.new.ends) (incoming_of result message.new) }
+        ensures brings { (given : C.Given) (works : Bool)
+            → half_on_packet (C.does given) works (half_of 0 (C.seen self.old.core) self.old.ends)
+            (spelling packet.now)
+            ≡ half_on_incoming (C.does given) works (half_of 0 (C.seen self.new.core) self.new.ends)
+            (incoming_of result message.new) }
+        ensures calls { (given : C.Given)
+            → packet_calls_bank (C.does given) (half_of 0 (C.seen self.old.core) self.old.ends)
+            (spelling packet.now)
+            ≡ incoming_calls_bank (C.does given) (half_of 0 (C.seen self.new.core) self.new.ends)
+            (incoming_of result message.new) }
         ensures head { HasHead result }
         ensures core { self.new.core ≡ self.old.core }
         ensures own { self.new.ends.asking.own ≡ self.old.ends.asking.own }
@@ -137,7 +167,9 @@ impl<'p, C: Core<'p>> Half<C> {
 
     /// The core handles the answer to its request. Returns whether its bank worked.
     fn learn(&mut self, given: C::Given, command: u8, reply: &[u8]) -> bool
-        ensures half { half_of 0 (C.seen self.new.core) self.new.ends ≡ half_with_core (C.does given) (half_of 0 (C.seen self.old.core) self.old.ends) ((C.does given).learn (C.seen self.old.core) (answer_read command reply.now) result) }
+        ensures half { half_of 0 (C.seen self.new.core) self.new.ends
+            ≡ half_with_core (C.does given) (half_of 0 (C.seen self.old.core) self.old.ends)
+            ((C.does given).learn (C.seen self.old.core) (answer_read command reply.now) result) }
         ensures worked { result ≡ true → C.faults self.new.core ≡ C.faults self.old.core }
         ensures failed { result ≡ false → CountsFailure (C.faults self.old.core) (C.faults self.new.core) }
         ensures called { result ≡ false
@@ -176,13 +208,23 @@ impl<'p, C: Core<'p>> Half<C> {
         outbox: &mut Outbox,
     ) -> bool
         requires { outbox.old ≡ [] }
-        ensures half { half_of 0 (C.seen self.new.core) self.new.ends ≡ (node_outcome_of role identity.old.endpoint identity.old.tid (half_on_incoming (C.does given) result (half_of 0 (C.seen self.old.core) self.old.ends) (IncomingOf.New request.now))).half }
-        ensures tid { identity.new.tid ≡ (node_outcome_of role identity.old.endpoint identity.old.tid (half_on_incoming (C.does given) result (half_of 0 (C.seen self.old.core) self.old.ends) (IncomingOf.New request.now))).tid }
-        ensures packets { outbox.new ≡ all_packets self.old.ends.asking.unit (node_outcome_of role identity.old.endpoint identity.old.tid (half_on_incoming (C.does given) result (half_of 0 (C.seen self.old.core) self.old.ends) (IncomingOf.New request.now))).sent }
+        ensures half { half_of 0 (C.seen self.new.core) self.new.ends
+            ≡ (node_outcome_of role identity.old.endpoint identity.old.tid
+            (half_on_incoming (C.does given) result (half_of 0 (C.seen self.old.core) self.old.ends)
+            (IncomingOf.New request.now))).half }
+        ensures tid { identity.new.tid
+            ≡ (node_outcome_of role identity.old.endpoint identity.old.tid
+            (half_on_incoming (C.does given) result (half_of 0 (C.seen self.old.core) self.old.ends)
+            (IncomingOf.New request.now))).tid }
+        ensures packets { outbox.new ≡ all_packets self.old.ends.asking.unit
+            (node_outcome_of role identity.old.endpoint identity.old.tid
+            (half_on_incoming (C.does given) result (half_of 0 (C.seen self.old.core) self.old.ends)
+            (IncomingOf.New request.now))).sent }
         ensures worked { result ≡ true → C.faults self.new.core ≡ C.faults self.old.core }
         ensures failed { result ≡ false → CountsFailure (C.faults self.old.core) (C.faults self.new.core) }
         ensures called { result ≡ false
-            → incoming_calls_bank (C.does given) (half_of 0 (C.seen self.old.core) self.old.ends) (IncomingOf.New request.now) ≡ true }
+            → incoming_calls_bank (C.does given) (half_of 0 (C.seen self.old.core) self.old.ends)
+            (IncomingOf.New request.now) ≡ true }
         ensures endpoint { identity.new.endpoint ≡ identity.old.endpoint }
         ensures own { self.new.ends.asking.own ≡ self.old.ends.asking.own }
         ensures unit { self.new.ends.asking.unit ≡ self.old.ends.asking.unit }
@@ -199,8 +241,13 @@ impl<'p, C: Core<'p>> Half<C> {
     fn answer(&mut self, request: &Request<'_>, reply: &[u8], outbox: &mut Outbox)
         requires reply { length reply.now ≤ MAX_REPLY }
         requires outbox { outbox.old ≡ [] }
-        ensures after { self.new ≡ record self.old { ends = record self.old.ends { answering = answered_with self.old.ends.answering request.now reply.now } } }
-        ensures packets { outbox.new ≡ all_packets self.old.ends.asking.unit (reply_message request.now.message request.now.head reply.now ∷ []) }
+        ensures after { self.new ≡ record self.old {
+          ends = record self.old.ends {
+            answering = answered_with self.old.ends.answering request.now reply.now;
+          };
+        } }
+        ensures packets { outbox.new ≡ all_packets self.old.ends.asking.unit
+            (reply_message request.now.message request.now.head reply.now ∷ []) }
     {
         let answer = self.ends.answer(request, reply);
         outbox.send(self.ends.unit(), &answer);
@@ -209,12 +256,25 @@ impl<'p, C: Core<'p>> Half<C> {
     /// Takes a firmware update command, and answers it. Returns whether the core's bank worked.
     fn take(&mut self, given: C::Given, request: &Request<'_>, outbox: &mut Outbox) -> bool
         requires { outbox.old ≡ [] }
-        ensures half { half_of 0 (C.seen self.new.core) self.new.ends ≡ half_after_settle (C.does given) (half_after_reply (half_of 0 (reply_read (C.does given) (is_quiet self.old.ends.asking.caller) result (C.seen self.old.core) (read_by (C.does given) request.now.head.command request.now.body)).core self.old.ends) (reply_message request.now.message request.now.head (reply_read (C.does given) (is_quiet self.old.ends.asking.caller) result (C.seen self.old.core) (read_by (C.does given) request.now.head.command request.now.body)).reply)) }
-        ensures packets { outbox.new ≡ all_packets self.old.ends.asking.unit (reply_message request.now.message request.now.head (reply_read (C.does given) (is_quiet self.old.ends.asking.caller) result (C.seen self.old.core) (read_by (C.does given) request.now.head.command request.now.body)).reply ∷ []) }
+        ensures half { half_of 0 (C.seen self.new.core) self.new.ends
+            ≡ half_after_settle (C.does given) (half_after_reply
+            (half_of 0 (reply_read (C.does given) (is_quiet self.old.ends.asking.caller) result
+            (C.seen self.old.core) (read_by (C.does given) request.now.head.command
+            request.now.body)).core self.old.ends) (reply_message request.now.message
+            request.now.head (reply_read (C.does given) (is_quiet self.old.ends.asking.caller)
+            result (C.seen self.old.core) (read_by (C.does given) request.now.head.command
+            request.now.body)).reply)) }
+        ensures packets { outbox.new ≡ all_packets self.old.ends.asking.unit
+            (reply_message request.now.message request.now.head
+            (reply_read (C.does given) (is_quiet self.old.ends.asking.caller) result
+            (C.seen self.old.core) (read_by (C.does given) request.now.head.command
+            request.now.body)).reply ∷ []) }
         ensures worked { result ≡ true → C.faults self.new.core ≡ C.faults self.old.core }
         ensures failed { result ≡ false → CountsFailure (C.faults self.old.core) (C.faults self.new.core) }
-        ensures called { result ≡ false → read_calls_bank (C.does given) (is_quiet self.old.ends.asking.caller) (C.seen self.old.core)
-            (read_by (C.does given) request.now.head.command request.now.body) ≡ true }
+        ensures called { result ≡ false
+            → read_calls_bank (C.does given) (is_quiet self.old.ends.asking.caller)
+            (C.seen self.old.core) (read_by (C.does given) request.now.head.command
+            request.now.body) ≡ true }
         ensures own { self.new.ends.asking.own ≡ self.old.ends.asking.own }
         ensures unit { self.new.ends.asking.unit ≡ self.old.ends.asking.unit }
     {
@@ -227,13 +287,21 @@ impl<'p, C: Core<'p>> Half<C> {
     /// Returns the core's reply to a firmware update command, and whether its bank worked.
     #[tactic(auto, using(crate::proofs::NodeServes::node_serves))]
     fn reply_to(&mut self, given: C::Given, request: &Request<'_>) -> (Reply, bool)
-        ensures core { C.seen self.new.core ≡ (reply_read (C.does given) (is_quiet self.old.ends.asking.caller) result.1 (C.seen self.old.core) (read_by (C.does given) request.now.head.command request.now.body)).core }
+        ensures core { C.seen self.new.core
+            ≡ (reply_read (C.does given) (is_quiet self.old.ends.asking.caller) result.1
+            (C.seen self.old.core) (read_by (C.does given) request.now.head.command
+            request.now.body)).core }
         ensures ends { self.new.ends ≡ self.old.ends }
-        ensures reply { result.0.items ≡ (reply_read (C.does given) (is_quiet self.old.ends.asking.caller) result.1 (C.seen self.old.core) (read_by (C.does given) request.now.head.command request.now.body)).reply }
+        ensures reply { result.0.items
+            ≡ (reply_read (C.does given) (is_quiet self.old.ends.asking.caller) result.1
+            (C.seen self.old.core) (read_by (C.does given) request.now.head.command
+            request.now.body)).reply }
         ensures worked { result.1 ≡ true → C.faults self.new.core ≡ C.faults self.old.core }
         ensures failed { result.1 ≡ false → CountsFailure (C.faults self.old.core) (C.faults self.new.core) }
-        ensures called { result.1 ≡ false → read_calls_bank (C.does given) (is_quiet self.old.ends.asking.caller) (C.seen self.old.core)
-            (read_by (C.does given) request.now.head.command request.now.body) ≡ true }
+        ensures called { result.1 ≡ false
+            → read_calls_bank (C.does given) (is_quiet self.old.ends.asking.caller)
+            (C.seen self.old.core) (read_by (C.does given) request.now.head.command
+            request.now.body) ≡ true }
     {
         let command = request.head().command;
         if !self.core.serves(given, command) {
@@ -250,8 +318,11 @@ impl<'p, C: Core<'p>> Half<C> {
     /// the request is sent again or given up.
     pub(crate) fn grow(&mut self, given: C::Given, outbox: &mut Outbox)
         requires { length outbox.old ≤ 60 }
-        ensures half { half_of 0 (C.seen self.new.core) self.new.ends ≡ half_grows (C.does given) (half_of 0 (C.seen self.old.core) self.old.ends) }
-        ensures packets { outbox.new ≡ outbox.old ++ all_packets self.old.ends.asking.unit (sent_by (caller_tick self.old.ends.asking.caller).1) }
+        ensures half { half_of 0 (C.seen self.new.core) self.new.ends
+            ≡ half_grows (C.does given) (half_of 0 (C.seen self.old.core) self.old.ends) }
+        ensures packets { outbox.new ≡ outbox.old
+            ++ all_packets self.old.ends.asking.unit (sent_by
+            (caller_tick self.old.ends.asking.caller).1) }
         ensures few { length outbox.new ≤ length outbox.old + 4 * length (sent_by (caller_tick self.old.ends.asking.caller).1) }
         ensures lawful { IsAsking self.old.ends.asking.peer self.old.ends.asking.caller }
         ensures faults { C.faults self.new.core ≡ C.faults self.old.core }
@@ -268,10 +339,16 @@ impl<'p, C: Core<'p>> Half<C> {
     /// The rest of a tick: the core's own; then an open request that is no longer the pending
     /// command is given up, and a pending command begins.
     pub(crate) fn wait(&mut self, given: C::Given, outbox: &mut Outbox)
-        requires { length outbox.old + 4 * length (half_waits (C.does given) (half_of 0 (C.seen self.old.core) self.old.ends)).sent ≤ 64 }
-        ensures half { half_of 0 (C.seen self.new.core) self.new.ends ≡ (half_waits (C.does given) (half_of 0 (C.seen self.old.core) self.old.ends)).half }
-        ensures packets { outbox.new ≡ outbox.old ++ all_packets self.old.ends.asking.unit (half_waits (C.does given) (half_of 0 (C.seen self.old.core) self.old.ends)).sent }
-        ensures few { length outbox.new ≤ length outbox.old + 4 * length (half_waits (C.does given) (half_of 0 (C.seen self.old.core) self.old.ends)).sent }
+        requires { length outbox.old + 4 * length (half_waits (C.does given)
+            (half_of 0 (C.seen self.old.core) self.old.ends)).sent ≤ 64 }
+        ensures half { half_of 0 (C.seen self.new.core) self.new.ends
+            ≡ (half_waits (C.does given) (half_of 0 (C.seen self.old.core) self.old.ends)).half }
+        ensures packets { outbox.new ≡ outbox.old
+            ++ all_packets self.old.ends.asking.unit (half_waits (C.does given)
+            (half_of 0 (C.seen self.old.core) self.old.ends)).sent }
+        ensures few { length outbox.new
+            ≤ length outbox.old + 4 * length (half_waits (C.does given)
+            (half_of 0 (C.seen self.old.core) self.old.ends)).sent }
         ensures core { C.seen self.new.core ≡ (C.does given).ticked (C.seen self.old.core) }
         ensures faults { C.faults self.new.core ≡ C.faults self.old.core }
         ensures own { self.new.ends.asking.own ≡ self.old.ends.asking.own }
@@ -288,10 +365,16 @@ impl<'p, C: Core<'p>> Half<C> {
     /// Gives up an open request that is no longer the pending command, and begins a pending
     /// command.
     fn ask(&mut self, given: C::Given, outbox: &mut Outbox)
-        requires { length outbox.old + 4 * length (last_part (C.does given) (half_of 0 (C.seen self.old.core) self.old.ends) []).sent ≤ 64 }
-        ensures half { half_of 0 (C.seen self.new.core) self.new.ends ≡ (last_part (C.does given) (half_of 0 (C.seen self.old.core) self.old.ends) []).half }
-        ensures packets { outbox.new ≡ outbox.old ++ all_packets self.old.ends.asking.unit (last_part (C.does given) (half_of 0 (C.seen self.old.core) self.old.ends) []).sent }
-        ensures few { length outbox.new ≤ length outbox.old + 4 * length (last_part (C.does given) (half_of 0 (C.seen self.old.core) self.old.ends) []).sent }
+        requires { length outbox.old + 4 * length (last_part (C.does given)
+            (half_of 0 (C.seen self.old.core) self.old.ends) []).sent ≤ 64 }
+        ensures half { half_of 0 (C.seen self.new.core) self.new.ends
+            ≡ (last_part (C.does given) (half_of 0 (C.seen self.old.core) self.old.ends) []).half }
+        ensures packets { outbox.new ≡ outbox.old
+            ++ all_packets self.old.ends.asking.unit (last_part (C.does given)
+            (half_of 0 (C.seen self.old.core) self.old.ends) []).sent }
+        ensures few { length outbox.new
+            ≤ length outbox.old + 4 * length (last_part (C.does given)
+            (half_of 0 (C.seen self.old.core) self.old.ends) []).sent }
         ensures core { self.new.core ≡ self.old.core }
         ensures own { self.new.ends.asking.own ≡ self.old.ends.asking.own }
         ensures unit { self.new.ends.asking.unit ≡ self.old.ends.asking.unit }

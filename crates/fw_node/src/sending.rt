@@ -31,7 +31,8 @@ pub(crate) fn reply_to_other(tid: &mut Tid, role: Role, request: &Request<'_>) -
 #[tactic(auto, using(crate::proofs::Again::again))]
 pub(crate) fn send_again(ends: &Ends, outbox: &mut Outbox, call: CallTick)
     requires { length outbox.old ≤ 60 }
-    ensures sent { outbox.new ≡ outbox.old ++ all_packets ends.now.asking.unit (sent_by (tick_of call ends.now.asking.caller.asked)) }
+    ensures sent { outbox.new ≡ outbox.old
+        ++ all_packets ends.now.asking.unit (sent_by (tick_of call ends.now.asking.caller.asked)) }
     ensures few { length outbox.new ≤ length outbox.old + 4 * length (sent_by (tick_of call ends.now.asking.caller.asked)) }
 {
     let CallTick::Send = call else {

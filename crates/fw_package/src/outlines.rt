@@ -43,7 +43,9 @@ impl<'a> Outline<'a> {
     /// A file that is no package is refused with the first fault that holds.
     pub fn read(beginning: &'a [u8], file_length: usize) -> Result<Outline<'a>, PackageFault>
         ensures value { result ≡ outline_of beginning.now file_length }
-        ensures whole { (file : List ℕ) → IsBeginning file beginning.now file_length → result ≡ result_map_both outline_of_package (λ e. e) (package_of file) }
+        ensures whole { (file : List ℕ)
+            → IsBeginning file beginning.now file_length
+            → result ≡ result_map_both outline_of_package (λ e. e) (package_of file) }
     {
         are_bytes(beginning);
         Outline::read_parts(beginning, file_length)

@@ -206,7 +206,8 @@ impl<'a> Package<'a> {
     fn has_long_text(&self, record: &Record<'a>) -> bool
         requires rising { IsStrictlyIncreasing «record».now.uses }
         requires there { All (λ n. n < length self.now.components) «record».now.uses }
-        ensures { result ≡ (nat_lt TEXT_LIMIT (length «record».now.set_text.bytes.now) || has_long_text self.now «record».now.uses) }
+        ensures { result ≡ (nat_lt TEXT_LIMIT (length «record».now.set_text.bytes.now)
+            || has_long_text self.now «record».now.uses) }
     {
         record.set_text.bytes.len() > TEXT_LIMIT
             || self.used(&record.uses).has_text_over(TEXT_LIMIT)

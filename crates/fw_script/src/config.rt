@@ -147,7 +147,11 @@ impl DeviceConfig {
 
     /// Adds a descriptor.
     fn tell(&mut self, kind: u16, bytes: &[u8]) -> Result<(), ScriptCause>
-        ensures { result_map_both (λ _. device_of self.new) (λ e. e) result ≡ device_with_descriptor (device_of self.old) (record { kind = kind; bytes = bytes.now }) }
+        ensures { result_map_both (λ _. device_of self.new) (λ e. e) result
+            ≡ device_with_descriptor (device_of self.old) (record {
+              kind = kind;
+              bytes = bytes.now;
+            }) }
     {
         if bytes.len() + 4 > self.descriptors.room() {
             return Err(ScriptCause::Limit);
@@ -158,7 +162,8 @@ impl DeviceConfig {
 
     /// Adds a component.
     fn add(&mut self, component: ComponentConfig) -> Result<(), ScriptCause>
-        ensures { AnswersUnlessMemory (λ _. device_of self.new) result (device_with_component (device_of self.old) (component_of component)) }
+        ensures { AnswersUnlessMemory (λ _. device_of self.new) result
+            (device_with_component (device_of self.old) (component_of component)) }
     {
         if has_key(self.components.as_slice(), component.component.key) {
             return Err(ScriptCause::Duplicate);
@@ -180,7 +185,8 @@ impl DeviceConfig {
         word: &[u8],
         digits: &[u8],
     ) -> Result<(), ScriptCause>
-        ensures { AnswersUnlessMemory (λ _. device_of self.new) result (device_with_descriptor_words word.now digits.now (device_of self.old)) }
+        ensures { AnswersUnlessMemory (λ _. device_of self.new) result
+            (device_with_descriptor_words word.now digits.now (device_of self.old)) }
     {
         match with_bytes(alloc, kind(word), digits) {
             Ok((kind, bytes)) => self.tell(kind, &bytes),
@@ -197,7 +203,8 @@ impl DeviceConfig {
         label: &[u8],
         image: &[u8],
     ) -> Result<(), ScriptCause>
-        ensures { AnswersUnlessMemory (λ _. device_of self.new) result (device_with_component_words numbers label.now image.now (device_of self.old)) }
+        ensures { AnswersUnlessMemory (λ _. device_of self.new) result
+            (device_with_component_words numbers label.now image.now (device_of self.old)) }
     {
         match with_bytes(alloc, numbers, image) {
             Ok((numbers, image)) => self.add(ComponentConfig {

@@ -287,7 +287,8 @@ impl Draft {
         label: &[u8],
         image: &[u8],
     ) -> Result<(), ScriptCause>
-        ensures { AnswersUnlessMemory (λ _. self.new) result (in_device self.old (device_with_component_words numbers label.now image.now)) }
+        ensures { AnswersUnlessMemory (λ _. self.new) result
+            (in_device self.old (device_with_component_words numbers label.now image.now)) }
     {
         if !self.packages.is_empty() {
             return Err(ScriptCause::Order);
@@ -336,7 +337,8 @@ impl Draft {
         directive: Directive,
         fields: &[&[u8]],
     ) -> Result<(), ScriptCause>
-        ensures { AnswersUnlessMemory (λ _. self.new) result (draft_after_directive self.old directive (map (λ f. f.now) fields.now)) }
+        ensures { AnswersUnlessMemory (λ _. self.new) result
+            (draft_after_directive self.old directive (map (λ f. f.now) fields.now)) }
     {
         match directive {
             Directive::Agent => self.set_agent(fields),

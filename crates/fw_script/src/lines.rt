@@ -65,7 +65,8 @@ pub fn first_word(line: &[u8]) -> (&[u8], Option<&[u8]>)
 /// Returns the fields after the first word, if none is empty and there are at most `N`.
 #[tactic(auto, using(crate::proofs::Cuts::left_out, crate::proofs::Cuts::too_many))]
 pub fn fields_after<const N: usize>(rest: Option<&[u8]>) -> Option<ArrayVec<&[u8], N>>
-    ensures { option_map (λ fields. map (λ f. f.now) fields.items) result ≡ fields_in N (words_from (option_map (λ r. r.now) rest.entry)) }
+    ensures { option_map (λ fields. map (λ f. f.now) fields.items) result
+        ≡ fields_in N (words_from (option_map (λ r. r.now) rest.entry)) }
 {
     let mut fields = ArrayVec::new();
     let mut left = rest;

@@ -286,7 +286,8 @@ fn said(alloc: Global, directive: Directive, fields: &[&[u8]]) -> Result<Schedul
 
 /// The tick that the nodes listed after the first word miss.
 fn missed(rest: Option<&[u8]>) -> Result<ScheduleLine, ScriptCause>
-    ensures { AnswersUnlessMemory line_steps result (steps_named (Some Directive.Miss) (fields_in 17 (words_from (option_map (λ r. r.now) rest.entry)))) }
+    ensures { AnswersUnlessMemory line_steps result (steps_named (Some Directive.Miss)
+        (fields_in 17 (words_from (option_map (λ r. r.now) rest.entry)))) }
 {
     let Some(fields) = fields_after::<MAX_MISSED>(rest) else {
         return Err(ScriptCause::Fields);
@@ -343,7 +344,8 @@ fn push_line(lines: &mut Vec<ScheduleLine>, line: Option<ScheduleLine>) -> Resul
 
 /// Reads a line and appends its content.
 fn read_line(alloc: Global, text: &[u8], lines: &mut Vec<ScheduleLine>) -> Result<(), ScriptCause>
-    ensures { AnswersUnlessMemory (λ _. all_steps lines.new.items) result (with_line (all_steps lines.old.items) (steps_of text.now)) }
+    ensures { AnswersUnlessMemory (λ _. all_steps lines.new.items) result
+        (with_line (all_steps lines.old.items) (steps_of text.now)) }
 {
     match line_of(alloc, text) {
         Ok(line) => push_line(lines, line),

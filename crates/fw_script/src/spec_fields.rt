@@ -22,7 +22,8 @@ pub(crate) fn all_fields<'a>(
     alloc: Global,
     rest: Option<&'a [u8]>,
 ) -> Result<Vec<&'a [u8]>, ScriptCause>
-    ensures { AnswersUnlessMemory (λ fields. map (λ f. f.now) fields.items) result (whole_fields (words_from (option_map (λ r. r.now) rest.entry))) }
+    ensures { AnswersUnlessMemory (λ fields. map (λ f. f.now) fields.items) result
+        (whole_fields (words_from (option_map (λ r. r.now) rest.entry))) }
 {
     let mut fields = Vec::new(alloc);
     let mut left = rest;
@@ -66,7 +67,8 @@ fn escaped_byte(x: u8, high: u8, low: u8) -> Option<u8>
 
 /// The first byte that a word encodes, if it isn't empty, and the rest of the word.
 fn first_byte(word: &[u8]) -> Result<Option<(u8, &[u8])>, ScriptCause>
-    ensures byte { IfOk result (λ first. MatchOption first (word.now ≡ []) (λ p. unescaped_word word.now ≡ with_byte (Some p.0) (unescaped_word p.1.now))) }
+    ensures byte { IfOk result (λ first. MatchOption first (word.now ≡ [])
+        (λ p. unescaped_word word.now ≡ with_byte (Some p.0) (unescaped_word p.1.now))) }
     ensures shorter { IfOk result (λ first. IfSome first (λ p. length p.1.now < length word.now)) }
     ensures bad { IfErr result (λ e. unescaped_word word.now ≡ None) }
     ensures fault { IfErr result (λ e. e ≡ ScriptCause.Hex) }
@@ -197,7 +199,8 @@ pub(crate) fn text_and_uses(
     text: &[u8],
     words: &[&[u8]],
 ) -> Result<(Vec<u8>, Vec<u16>), ScriptCause>
-    ensures { AnswersUnlessMemory (λ r. (r.0.items, r.1.items)) result (both_of (package_text_of text.now) (uses_of (map (λ w. w.now) words.now))) }
+    ensures { AnswersUnlessMemory (λ r. (r.0.items, r.1.items)) result
+        (both_of (package_text_of text.now) (uses_of (map (λ w. w.now) words.now))) }
 {
     match (package_text(alloc, text), read_uses(alloc, words)) {
         (Ok(text), Ok(uses)) => Ok((text, uses)),
@@ -214,7 +217,8 @@ pub(crate) fn text_and_path(
     text: &[u8],
     path: &[u8],
 ) -> Result<(Vec<u8>, Option<String>), ScriptCause>
-    ensures { AnswersUnlessMemory (λ r. (r.0.items, option_map (λ p. string_bytes p) r.1)) result (both_of (package_text_of text.now) (image_path_of path.now)) }
+    ensures { AnswersUnlessMemory (λ r. (r.0.items, option_map (λ p. string_bytes p) r.1)) result
+        (both_of (package_text_of text.now) (image_path_of path.now)) }
 {
     match (package_text(alloc, text), image_path(alloc, path)) {
         (Ok(text), Ok(path)) => Ok((text, path)),

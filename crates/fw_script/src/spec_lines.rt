@@ -123,7 +123,8 @@ impl SpecRecord {
     /// Adds the descriptor of a line.
     #[tactic(auto, unfolding(crate::specs::PackageSpecs::record_with_descriptor))]
     fn tell(&mut self, alloc: Global, word: &[u8], digits: &[u8]) -> Result<(), ScriptCause>
-        ensures { AnswersUnlessMemory (λ _. spec_record_of self.new) result (record_with_descriptor word.now digits.now (spec_record_of self.old)) }
+        ensures { AnswersUnlessMemory (λ _. spec_record_of self.new) result
+            (record_with_descriptor word.now digits.now (spec_record_of self.old)) }
     {
         let (kind, bytes) = match with_bytes(alloc, kind(word), digits) {
             Ok(read) => read,
@@ -341,7 +342,8 @@ impl SpecDraft {
         directive: Directive,
         fields: &[&[u8]],
     ) -> Result<(), ScriptCause>
-        ensures { AnswersUnlessMemory (λ _. self.new) result (spec_draft_after_directive line self.old directive (map (λ f. f.now) fields.now)) }
+        ensures { AnswersUnlessMemory (λ _. self.new) result
+            (spec_draft_after_directive line self.old directive (map (λ f. f.now) fields.now)) }
     {
         match directive {
             Directive::Version => self.set_version(alloc, fields),

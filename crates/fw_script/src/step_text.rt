@@ -57,7 +57,8 @@ fn push_delivery(
     number: usize,
     node: u8,
 ) -> Result<(), AllocError>
-    ensures { OnOk result (AppendsText text.old.items text.new.items (words_with_spaces (words_for (Step.Deliver pair number node)))) }
+    ensures { OnOk result (AppendsText text.old.items text.new.items
+        (words_with_spaces (words_for (Step.Deliver pair number node)))) }
 {
     push_words(text, "deliver")?;
     push_eid(alloc, text, pair)?;
@@ -88,7 +89,8 @@ fn push_verdict(
     device: u8,
     verdict: Verdict,
 ) -> Result<(), AllocError>
-    ensures { OnOk result (AppendsText text.old.items text.new.items (words_with_spaces (words_for (Step.Verdict device verdict)))) }
+    ensures { OnOk result (AppendsText text.old.items text.new.items
+        (words_with_spaces (words_for (Step.Verdict device verdict)))) }
 {
     push_words(text, "verdict")?;
     push_eid(alloc, text, device)?;

@@ -14,7 +14,10 @@ use uuid::Uuid;
 
 /// The number in decimal digits, if the word is digits only and the number fits 64 bits.
 fn digits(word: &[u8]) -> Option<u64>
-    ensures { result ≡ (if list_all is_ascii_digit word.now && nat_lt (digits_value 10 word.now) (2 ^ 64) then Some (digits_value 10 word.now) else None) }
+    ensures { result ≡ (if list_all is_ascii_digit word.now
+        && nat_lt (digits_value 10 word.now) (2 ^ 64)
+        then Some (digits_value 10 word.now)
+        else None) }
 {
     let mut value: u64 = 0;
     for byte in word {

@@ -55,7 +55,8 @@ fn push_chosen(
     contents: &Record<'_>,
     word: &str,
 ) -> Result<(), AllocError>
-    ensures { OnOk result (AppendsText text.old.items text.new.items (chosen_line meant.number meant.eid chosen (record_seen contents.now) word.now)) }
+    ensures { OnOk result (AppendsText text.old.items text.new.items
+        (chosen_line meant.number meant.eid chosen (record_seen contents.now) word.now)) }
 {
     push_head(alloc, text, meant)?;
     push_next(alloc, text, " record ", chosen)?;
@@ -118,7 +119,8 @@ fn push_active(
     text: &mut Vec<u8>,
     active: Option<&ComponentConfig>,
 ) -> Result<(), AllocError>
-    ensures { OnOk result (AppendsText text.old.items text.new.items (active_text (option_map (λ c. row_made (component_of c.now)) active.entry))) }
+    ensures { OnOk result (AppendsText text.old.items text.new.items
+        (active_text (option_map (λ c. row_made (component_of c.now)) active.entry))) }
 {
     let Some(config) = active else {
         push_words(text, " active - -")?;
@@ -136,7 +138,9 @@ fn push_offer(
     components: &[ComponentConfig],
     component: Component<'_>,
 ) -> Result<(), AllocError>
-    ensures { OnOk result (AppendsText text.old.items text.new.items (offer_line (map row_made (map component_of components.now)) (component_seen component.entry))) }
+    ensures { OnOk result (AppendsText text.old.items text.new.items
+        (offer_line (map row_made (map component_of components.now))
+        (component_seen component.entry))) }
 {
     push_number(
         alloc,
@@ -167,7 +171,8 @@ fn push_offers(
     numbers: &[usize],
 ) -> Result<(), AllocError>
     requires { All (λ n. n < length contents.now.components) numbers.now }
-    ensures { OnOk result (AppendsText text.old.items text.new.items (offer_lines contents.now (map row_made (map component_of components.now)) numbers.now)) }
+    ensures { OnOk result (AppendsText text.old.items text.new.items
+        (offer_lines contents.now (map row_made (map component_of components.now)) numbers.now)) }
 {
     for number in numbers {
         push_offer(alloc, text, components, contents.component_at(*number))?;
@@ -185,7 +190,9 @@ fn push_planned(
     chosen: usize,
 ) -> Result<(), AllocError>
     requires { chosen < length contents.now.records }
-    ensures { OnOk result (AppendsText text.old.items text.new.items (planned_text meant.number meant.eid chosen contents.now (map row_made (map component_of components.now)) (plan_of contents.now chosen))) }
+    ensures { OnOk result (AppendsText text.old.items text.new.items
+        (planned_text meant.number meant.eid chosen contents.now
+        (map row_made (map component_of components.now)) (plan_of contents.now chosen))) }
 {
     let record = contents.record_at(chosen);
     let plan = match contents.plan(chosen) {

@@ -92,7 +92,8 @@ fn stock_all(
     components: &mut [ComponentConfig],
     images: &[Stored],
 ) -> Result<(), AllocError>
-    ensures { OnOk result (map component_of components.new ≡ map (component_with_kept images.now) (map component_of components.old)) }
+    ensures { OnOk result (map component_of components.new
+        ≡ map (component_with_kept images.now) (map component_of components.old)) }
 {
     for config in components.iter_mut() {
         stock_component(alloc, config, images)?;

@@ -82,7 +82,8 @@ fn kept_bank<F: Folder + Drop>(
 /// doesn't say which files it has.
 fn swept<F: Folder + Drop>(store: FolderStore<F>) -> Result<FolderStore<F>, AllocError>
     ensures kept { IfOk result (λ s. s.memory.images.items ≡ store.memory.images.items) }
-    ensures untouched { IfOk result (λ s. F.is_known store.folder ≡ true → IsUntouched store.entries.items (F.files store.folder) (F.files s.folder)) }
+    ensures untouched { IfOk result (λ s. F.is_known store.folder ≡ true
+        → IsUntouched store.entries.items (F.files store.folder) (F.files s.folder)) }
 {
     let mut store = store;
     match store.sweep() {
@@ -123,10 +124,16 @@ impl<F: Folder + Drop> Banks<KeptBank<FolderStore<F>>> for StoreBanks<F> {
         ensures rows { IfOk result (λ b. b.rows ≡ map row_made (map component_of components.now)) }
         ensures apart { IfOk result (λ b. HaveKeysOnce (map key_of b.rows)) }
         ensures faults { IfOk result (λ b. b.faults ≡ 0) }
-        ensures taken { IfOk result (λ b. IsSomeAnd (slice_get self.old.stores.items 0) (λ s. (s.device ≡ device) × (s.store.memory.images.items ≡ b.kept))) }
-        ensures left { OnOk result (IsSomeAnd (slice_get self.old.stores.items 0) (λ s. self.old.stores.items ≡ s ∷ self.new.stores.items)) }
+        ensures taken { IfOk result (λ b. IsSomeAnd (slice_get self.old.stores.items 0)
+            (λ s. (s.device ≡ device) × (s.store.memory.images.items ≡ b.kept))) }
+        ensures left { OnOk result (IsSomeAnd (slice_get self.old.stores.items 0)
+            (λ s. self.old.stores.items ≡ s ∷ self.new.stores.items)) }
         ensures fault { IfErr result (λ e. (e ≡ BanksFault.Memory) ⊎ (e ≡ BanksFault.Device device)) }
-        ensures device { IfErr result (λ e. e ≡ BanksFault.Device device → ¬ IsSomeAnd (slice_get self.old.stores.items 0) (λ s. (s.device ≡ device) × (s.store.memory.images.items ≡ images_configured (map component_of components.now)))) }
+        ensures device { IfErr result (λ e. e ≡ BanksFault.Device device
+            → ¬ IsSomeAnd (slice_get self.old.stores.items 0)
+            (λ s. (s.device ≡ device)
+            × (s.store.memory.images.items
+            ≡ images_configured (map component_of components.now)))) }
     {
         let Some(taken) = self.stores.pop_front() else {
             return Err(BanksFault::Device(device));

@@ -99,10 +99,18 @@ fn open_over<F: Folder + Drop>(
     folder: F,
     components: &[ComponentConfig],
 ) -> Result<FolderStore<F>, OpenFault>
-    ensures found { IfOk result (λ s. F.is_known folder ≡ true → found_in (images_configured (map component_of components.now)) (F.files folder) ≡ Ok s.memory.images.items) }
+    ensures found { IfOk result (λ s. F.is_known folder ≡ true
+        → found_in (images_configured (map component_of components.now)) (F.files folder)
+        ≡ Ok s.memory.images.items) }
     ensures untouched { IfOk result (λ s. s.folder ≡ folder) }
-    ensures damaged { IfErr result (λ e. e ≡ OpenFault.Damaged → F.is_known folder ≡ true → found_in (images_configured (map component_of components.now)) (F.files folder) ≡ Err OpenFault.Damaged) }
-    ensures foreign { IfErr result (λ e. e ≡ OpenFault.Foreign → F.is_known folder ≡ true → found_in (images_configured (map component_of components.now)) (F.files folder) ≡ Err OpenFault.Foreign) }
+    ensures damaged { IfErr result (λ e. e ≡ OpenFault.Damaged
+        → F.is_known folder ≡ true
+        → found_in (images_configured (map component_of components.now)) (F.files folder)
+        ≡ Err OpenFault.Damaged) }
+    ensures foreign { IfErr result (λ e. e ≡ OpenFault.Foreign
+        → F.is_known folder ≡ true
+        → found_in (images_configured (map component_of components.now)) (F.files folder)
+        ≡ Err OpenFault.Foreign) }
 {
     match configured_images(alloc, components) {
         Ok(images) => open_store(alloc, folder, images.as_slice()),
@@ -117,9 +125,17 @@ fn read_over<F: Folder + Drop>(
     folder: &F,
     components: &[ComponentConfig],
 ) -> Result<MemStore, OpenFault>
-    ensures found { IfOk result (λ s. F.is_known folder.now ≡ true → found_in (images_configured (map component_of components.now)) (F.files folder.now) ≡ Ok s.images.items) }
-    ensures damaged { IfErr result (λ e. e ≡ OpenFault.Damaged → F.is_known folder.now ≡ true → found_in (images_configured (map component_of components.now)) (F.files folder.now) ≡ Err OpenFault.Damaged) }
-    ensures foreign { IfErr result (λ e. e ≡ OpenFault.Foreign → F.is_known folder.now ≡ true → found_in (images_configured (map component_of components.now)) (F.files folder.now) ≡ Err OpenFault.Foreign) }
+    ensures found { IfOk result (λ s. F.is_known folder.now ≡ true
+        → found_in (images_configured (map component_of components.now)) (F.files folder.now)
+        ≡ Ok s.images.items) }
+    ensures damaged { IfErr result (λ e. e ≡ OpenFault.Damaged
+        → F.is_known folder.now ≡ true
+        → found_in (images_configured (map component_of components.now)) (F.files folder.now)
+        ≡ Err OpenFault.Damaged) }
+    ensures foreign { IfErr result (λ e. e ≡ OpenFault.Foreign
+        → F.is_known folder.now ≡ true
+        → found_in (images_configured (map component_of components.now)) (F.files folder.now)
+        ≡ Err OpenFault.Foreign) }
 {
     match configured_images(alloc, components) {
         Ok(images) => read_store(alloc, folder, images.as_slice()),
@@ -135,9 +151,12 @@ fn open_device<F: Folder + Drop, S: Stores<F>>(
     root: &str,
     device: &mut DeviceConfig,
 ) -> Result<FolderStore<F>, OpenFault>
-    ensures stocked { OnOk result (HasStoredImages (stores_in (S.is_known stores.now) (S.files stores.now) root.now) (device_of device.old) (device_of device.new)) }
-    ensures untouched { IfOk result (λ s. S.is_known stores.now ≡ true → F.files s.folder ≡ S.files stores.now root.now device.old.endpoint.eid) }
-    ensures fault { IfErr result (IsFaulty (stores_in (S.is_known stores.now) (S.files stores.now) root.now) (device_of device.old)) }
+    ensures stocked { OnOk result (HasStoredImages (stores_in (S.is_known stores.now)
+        (S.files stores.now) root.now) (device_of device.old) (device_of device.new)) }
+    ensures untouched { IfOk result (λ s. S.is_known stores.now ≡ true
+        → F.files s.folder ≡ S.files stores.now root.now device.old.endpoint.eid) }
+    ensures fault { IfErr result (IsFaulty (stores_in (S.is_known stores.now) (S.files stores.now)
+        root.now) (device_of device.old)) }
 {
     let folder = match stores.at(alloc, root, device.endpoint.eid) {
         Ok(folder) => folder,
@@ -160,8 +179,10 @@ fn read_device<F: Folder + Drop, S: Stores<F>>(
     root: &str,
     device: &mut DeviceConfig,
 ) -> Result<(), OpenFault>
-    ensures stocked { OnOk result (HasStoredImages (stores_in (S.is_known stores.now) (S.files stores.now) root.now) (device_of device.old) (device_of device.new)) }
-    ensures fault { IfErr result (IsFaulty (stores_in (S.is_known stores.now) (S.files stores.now) root.now) (device_of device.old)) }
+    ensures stocked { OnOk result (HasStoredImages (stores_in (S.is_known stores.now)
+        (S.files stores.now) root.now) (device_of device.old) (device_of device.new)) }
+    ensures fault { IfErr result (IsFaulty (stores_in (S.is_known stores.now) (S.files stores.now)
+        root.now) (device_of device.old)) }
 {
     let Ok(folder) = stores.at(alloc, root, device.endpoint.eid) else {
         return Err(OpenFault::Memory);
@@ -212,10 +233,14 @@ pub fn open_stores<F: Folder + Drop, S: Stores<F>>(
     root: &str,
     devices: &mut [DeviceConfig],
 ) -> Result<StoreBanks<F>, Unopened>
-    ensures stocked { OnOk result (HaveStoredImages (stores_in (S.is_known stores.now) (S.files stores.now) root.now) (map device_of devices.old) (map device_of devices.new)) }
-    ensures whole { OnOk result ((agent : ℕ) → AreWhole agent (map device_of devices.old) → AreWhole agent (map device_of devices.new)) }
+    ensures stocked { OnOk result (HaveStoredImages (stores_in (S.is_known stores.now)
+        (S.files stores.now) root.now) (map device_of devices.old) (map device_of devices.new)) }
+    ensures whole { OnOk result ((agent : ℕ)
+        → AreWhole agent (map device_of devices.old)
+        → AreWhole agent (map device_of devices.new)) }
     ensures order { IfOk result (λ b. map (λ s. s.device) b.stores.items ≡ eids_of (map device_of devices.old)) }
-    ensures fault { IfErr result (IsUnopened (stores_in (S.is_known stores.now) (S.files stores.now) root.now) (map device_of devices.old)) }
+    ensures fault { IfErr result (IsUnopened (stores_in (S.is_known stores.now) (S.files stores.now)
+        root.now) (map device_of devices.old)) }
 {
     let mut banks = StoreBanks::new(alloc);
     for device in devices.iter_mut() {
@@ -249,9 +274,13 @@ pub fn read_stores<F: Folder + Drop, S: Stores<F>>(
     root: &str,
     devices: &mut [DeviceConfig],
 ) -> Result<(), Unopened>
-    ensures stocked { OnOk result (HaveStoredImages (stores_in (S.is_known stores.now) (S.files stores.now) root.now) (map device_of devices.old) (map device_of devices.new)) }
-    ensures whole { OnOk result ((agent : ℕ) → AreWhole agent (map device_of devices.old) → AreWhole agent (map device_of devices.new)) }
-    ensures fault { IfErr result (IsUnopened (stores_in (S.is_known stores.now) (S.files stores.now) root.now) (map device_of devices.old)) }
+    ensures stocked { OnOk result (HaveStoredImages (stores_in (S.is_known stores.now)
+        (S.files stores.now) root.now) (map device_of devices.old) (map device_of devices.new)) }
+    ensures whole { OnOk result ((agent : ℕ)
+        → AreWhole agent (map device_of devices.old)
+        → AreWhole agent (map device_of devices.new)) }
+    ensures fault { IfErr result (IsUnopened (stores_in (S.is_known stores.now) (S.files stores.now)
+        root.now) (map device_of devices.old)) }
 {
     for device in devices.iter_mut() {
         let eid = device.endpoint.eid;

@@ -53,7 +53,8 @@ fn is_named_for(
     device: u8,
     image: &Image<'_>,
 ) -> Result<bool, AllocError>
-    ensures { IfOk result (λ named. named ≡ is_named_for packages.now (keyed_image_of image.now) (device_for (map device_of devices.now) device)) }
+    ensures { IfOk result (λ named. named ≡ is_named_for packages.now (keyed_image_of image.now)
+        (device_for (map device_of devices.now) device)) }
 {
     let Some(config) = device_for(devices, device) else {
         return Ok(false);
@@ -91,7 +92,9 @@ fn recorded_image<'a>(packages: &[Package<'a>], recorded: Recorded) -> Lent<'a>
 
 /// Whether an entry of the history is that `device` applied `image`.
 fn applies(entry: &Entry<'_>, device: u8, image: Lent<'_>) -> bool
-    ensures { result ≡ ((entry.now.device == device) && applies (record { key = image.entry.key; bytes = image.entry.bytes.now }) (event_of entry.now.event)) }
+    ensures { result ≡ ((entry.now.device == device)
+        && applies (record { key = image.entry.key; bytes = image.entry.bytes.now })
+        (event_of entry.now.event)) }
 {
     if entry.device != device {
         return false;
@@ -105,7 +108,8 @@ fn applies(entry: &Entry<'_>, device: u8, image: Lent<'_>) -> bool
 
 /// Whether a device applied an image.
 fn has_applied(history: &[Entry<'_>], device: u8, image: Lent<'_>) -> bool
-    ensures { result ≡ has_applied (map entry_of history.now) device (record { key = image.entry.key; bytes = image.entry.bytes.now }) }
+    ensures { result ≡ has_applied (map entry_of history.now) device
+        (record { key = image.entry.key; bytes = image.entry.bytes.now }) }
 {
     for entry in history {
         if applies(entry, device, image) {
@@ -123,7 +127,8 @@ fn is_right(
     before: &[Entry<'_>],
     entry: &Entry<'_>,
 ) -> Result<bool, AllocError>
-    ensures { IfOk result (λ right. right ≡ is_right packages.now (map device_of devices.now) (map entry_of before.now) entry.now.device (event_of entry.now.event)) }
+    ensures { IfOk result (λ right. right ≡ is_right packages.now (map device_of devices.now)
+        (map entry_of before.now) entry.now.device (event_of entry.now.event)) }
 {
     match &entry.event {
         HistoryEvent::Applied(_) => Ok(true),
@@ -172,8 +177,11 @@ pub fn is_right_history(
     devices: &[DeviceConfig],
     history: &[Entry<'_>],
 ) -> Result<bool, AllocError>
-    ensures sound { IfOk result (λ right. right ≡ true → AreLawfulEntries packages.now (map device_of devices.now) [] (map entry_of history.now)) }
-    ensures complete { IfOk result (λ right. AreLawfulEntries packages.now (map device_of devices.now) [] (map entry_of history.now) → right ≡ true) }
+    ensures sound { IfOk result (λ right. right ≡ true
+        → AreLawfulEntries packages.now (map device_of devices.now) [] (map entry_of history.now)) }
+    ensures complete { IfOk result (λ right. AreLawfulEntries packages.now
+        (map device_of devices.now) [] (map entry_of history.now)
+        → right ≡ true) }
 {
     match are_right(alloc, packages, devices, history) {
         Ok(right) => Ok(right),
@@ -223,7 +231,8 @@ fn runs_them<B: Bank>(
     eid: u8,
     components: &[ComponentConfig],
 ) -> bool
-    ensures { result ≡ list_all (runs_it (map entry_of history.now) eid node.now.half.core.device.rows) (map component_of components.now) }
+    ensures { result ≡ list_all (runs_it (map entry_of history.now) eid
+        node.now.half.core.device.rows) (map component_of components.now) }
 {
     for component in components {
         if !runs_it(history, node, eid, component) {

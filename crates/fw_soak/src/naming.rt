@@ -20,7 +20,9 @@ fn is_of(component: Component<'_>, key: Key) -> bool
 /// component or more than one.
 fn sole_image<'a>(package: &Package<'a>, uses: Uses<'_>, key: Key) -> Option<&'a [u8]>
     requires { All (λ n. n < length «package».now.components) uses }
-    ensures { option_map (λ i. i.now) result ≡ sole_image (filter (has_key key.classification key.identifier) (map (component_at «package».now) uses.entry)) }
+    ensures { option_map (λ i. i.now) result
+        ≡ sole_image (filter (has_key key.classification key.identifier)
+        (map (component_at «package».now) uses.entry)) }
 {
     let mut found = None;
     for number in uses {
@@ -41,7 +43,9 @@ fn image_for<'a>(
     descriptors: &[Descriptor<'_>],
     key: Key,
 ) -> Option<&'a [u8]>
-    ensures { option_map (λ i. i.now) result ≡ image_for «package».now (map descriptor_of descriptors.now) key.classification key.identifier }
+    ensures { option_map (λ i. i.now) result
+        ≡ image_for «package».now (map descriptor_of descriptors.now) key.classification
+        key.identifier }
 {
     let number = package.record_for(descriptors)?;
     let record = package.record_at(number);

@@ -87,7 +87,8 @@ impl Soaked {
     /// Adds a run.
     fn add(&mut self, alloc: Global, course: SoakCourse<'_>, clean: bool) -> Result<(), AllocError>
         ensures summary { OnOk result (self.new.summary ≡ with_run clean self.old.summary course.entry) }
-        ensures kept { OnOk result (option_map (λ k. k.items) self.new.kept ≡ first_kept_with clean (option_map (λ k. k.items) self.old.kept) course.entry) }
+        ensures kept { OnOk result (option_map (λ k. k.items) self.new.kept
+            ≡ first_kept_with clean (option_map (λ k. k.items) self.old.kept) course.entry) }
     {
         self.summary = with_run(alloc, self.summary, &course, clean)?;
         if !clean && self.kept.is_none() {

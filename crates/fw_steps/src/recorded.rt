@@ -29,7 +29,9 @@ pub(crate) fn deliver_and_record<'p>(
     requires room { vec_len history.old + 1 ≤ vec_capacity history.old }
     ensures after { agent.new ≡ (agent_on_packet packages.now agent.old bytes.now now).agent }
     ensures sent { outbox.new ≡ (agent_on_packet packages.now agent.old bytes.now now).sent }
-    ensures history { map entry_of history.new.items ≡ map entry_of history.old.items ++ recorded_from agent.old agent.new (sender_of (any_packet bytes.now)) }
+    ensures history { map entry_of history.new.items
+        ≡ map entry_of history.old.items
+        ++ recorded_from agent.old agent.new (sender_of (any_packet bytes.now)) }
 {
     let sender = sender_of(bytes);
     let made = records_with(agent, sender);
@@ -73,7 +75,9 @@ fn recorded(agent: &AgentNode, device: Option<u8>, made: usize) -> Option<Record
 /// entry.
 fn note_recorded(history: &mut Vec<Entry<'_>>, device: Option<u8>, recorded: Option<Recorded>)
     requires { vec_len history.old + 1 ≤ vec_capacity history.old }
-    ensures some { IfSome device (λ d. map entry_of history.new.items ≡ map entry_of history.old.items ++ map (λ r. noted_of d (EntryOf.Recording r)) (option_to_list recorded)) }
+    ensures some { IfSome device (λ d. map entry_of history.new.items
+        ≡ map entry_of history.old.items
+        ++ map (λ r. noted_of d (EntryOf.Recording r)) (option_to_list recorded)) }
     ensures none { device ≡ None → map entry_of history.new.items ≡ map entry_of history.old.items }
 {
     let (Some(device), Some(recorded)) = (device, recorded) else {

@@ -68,7 +68,10 @@ impl<'a, B: Bank> Model for Site<'a, B> {
       room = s.packets.room;
     } };
 
-    ghost invariant = { λ s. HasComponents s.node.half.core.device × AreReadyImages s.node.half.core.device (option_map (λ images. map keyed_image_of images.items) s.ready) × AreDead s.dead.since s.dead.count s.packets.packets };
+    ghost invariant = { λ s. HasComponents s.node.half.core.device
+        × AreReadyImages s.node.half.core.device (option_map
+        (λ images. map keyed_image_of images.items) s.ready)
+        × AreDead s.dead.since s.dead.count s.packets.packets };
 }
 
 impl<'a, B: Bank> Site<'a, B> {
@@ -170,7 +173,8 @@ impl<'a, B: Bank> Site<'a, B> {
         history: &mut Vec<Entry<'a>>,
     ) -> Result<(), AllocError>
         requires { outbox.old ≡ [] }
-        ensures heard { OnOk result (NotesPacketAtSite now self.old.site bytes.now self.new.site (map entry_of history.old.items) (map entry_of history.new.items)) }
+        ensures heard { OnOk result (NotesPacketAtSite now self.old.site bytes.now self.new.site
+            (map entry_of history.old.items) (map entry_of history.new.items)) }
         ensures same { OnErr result (self.new.site ≡ self.old.site) }
         ensures unnoted { OnErr result (map entry_of history.new.items ≡ map entry_of history.old.items) }
         ensures outbox { outbox.new ≡ [] }
@@ -212,7 +216,8 @@ impl<'a, B: Bank> Site<'a, B> {
         requires ready { is_ready self.old.site.node.half.core.device.phase ≡ true }
         requires images { map keyed_image_of images.items ≡ applied_keyed_images self.old.site.node.half.core.device.rows }
         requires history { vec_len history.old + vec_len images ≤ vec_capacity history.old }
-        ensures heard { NotesPacketAtSite now self.old.site bytes.now self.new.site (map entry_of history.old.items) (map entry_of history.new.items) }
+        ensures heard { NotesPacketAtSite now self.old.site bytes.now self.new.site
+            (map entry_of history.old.items) (map entry_of history.new.items) }
         ensures outbox { outbox.new ≡ [] }
     {
         self.go_on(now, bytes, outbox);
@@ -271,7 +276,10 @@ impl<'a, B: Bank> Site<'a, B> {
         alloc: Global,
         packages: &'a [Package<'a>],
     ) -> Result<Vec<Image<'a>>, AllocError>
-        ensures images { IfOk result (λ images. is_ready self.old.site.node.half.core.device.phase ≡ true → map keyed_image_of images.items ≡ applied_keyed_images self.old.site.node.half.core.device.rows) }
+        ensures images { IfOk result (λ images. is_ready self.old.site.node.half.core.device.phase
+            ≡ true
+            → map keyed_image_of images.items
+            ≡ applied_keyed_images self.old.site.node.half.core.device.rows) }
         ensures site { self.new ≡ self.old }
     {
         if let Some(images) = self.ready.take() {
@@ -296,9 +304,13 @@ impl<'a, B: Bank> Site<'a, B> {
         verdict: Verdict,
         history: &mut Vec<Entry<'a>>,
     ) -> Result<(), StepFault>
-        ensures judged { OnOk result (NotesVerdictAtSite self.old.site verdict self.new.site (map entry_of history.old.items) (map entry_of history.new.items)) }
+        ensures judged { OnOk result (NotesVerdictAtSite self.old.site verdict self.new.site
+            (map entry_of history.old.items) (map entry_of history.new.items)) }
         ensures may { OnOk result (verdict_fault verdict (Some self.old.site) ≡ None) }
-        ensures refused { IfErr result (λ e. (verdict_fault verdict (Some self.old.site) ≡ Some e) ⊎ ((e ≡ StepFault.Memory) × (adds_entry verdict ≡ true) × (verdict_fault verdict (Some self.old.site) ≡ None))) }
+        ensures refused { IfErr result (λ e. (verdict_fault verdict (Some self.old.site) ≡ Some e)
+            ⊎ ((e ≡ StepFault.Memory)
+            × (adds_entry verdict ≡ true)
+            × (verdict_fault verdict (Some self.old.site) ≡ None))) }
         ensures same { OnErr result (self.new.site ≡ self.old.site) }
         ensures unnoted { OnErr result (map entry_of history.new.items ≡ map entry_of history.old.items) }
     {
@@ -321,7 +333,9 @@ impl<'a, B: Bank> Site<'a, B> {
         history: &mut Vec<Entry<'a>>,
     ) -> Result<Vec<u8>, AllocError>
         ensures empty { IfOk result (λ room. room.items ≡ []) }
-        ensures image { IfOk result (λ room. verdict ≡ Verdict.ApplyOk → IfSome (staged_of self.now.site.node.half.core.device.phase) (λ s. s.1 ≤ vec_capacity room)) }
+        ensures image { IfOk result (λ room. verdict ≡ Verdict.ApplyOk
+            → IfSome (staged_of self.now.site.node.half.core.device.phase)
+            (λ s. s.1 ≤ vec_capacity room)) }
         ensures entry { OnOk result (verdict ≡ Verdict.ApplyOk → vec_len history.new + 1 ≤ vec_capacity history.new) }
         ensures unneeded { OnErr result (adds_entry verdict ≡ true) }
         ensures unnoted { history.new.items ≡ history.old.items }
@@ -356,9 +370,12 @@ impl<'a, B: Bank> Site<'a, B> {
     )
         requires awaited { (works : Bool) → is_some (device_verdict self.old.site.node.half.core.device verdict works) ≡ true }
         requires empty { room.items ≡ [] }
-        requires room { verdict ≡ Verdict.ApplyOk → IfSome (staged_of self.old.site.node.half.core.device.phase) (λ s. s.1 ≤ vec_capacity room) }
+        requires room { verdict ≡ Verdict.ApplyOk
+            → IfSome (staged_of self.old.site.node.half.core.device.phase)
+            (λ s. s.1 ≤ vec_capacity room) }
         requires history { verdict ≡ Verdict.ApplyOk → vec_len history.old + 1 ≤ vec_capacity history.old }
-        ensures { NotesVerdictAtSite self.old.site verdict self.new.site (map entry_of history.old.items) (map entry_of history.new.items) }
+        ensures { NotesVerdictAtSite self.old.site verdict self.new.site
+            (map entry_of history.old.items) (map entry_of history.new.items) }
     {
         let staged = self.node.device().staged();
         self.judge_now(verdict);
@@ -402,7 +419,8 @@ impl<'a, B: Bank> Site<'a, B> {
         room: Vec<u8>,
     ) -> Option<Image<'a>>
         requires { room.items ≡ [] }
-        ensures { IsCopyOf self.now.site.node.half.core.device.rows (vec_capacity room) (map keyed_image_of (option_to_list result)) staged }
+        ensures { IsCopyOf self.now.site.node.half.core.device.rows (vec_capacity room)
+            (map keyed_image_of (option_to_list result)) staged }
     {
         let (key, _) = staged?;
         copied(packages, self.node.device().bank(), key, room)
@@ -477,7 +495,10 @@ fn is_ready<B: Bank>(device: &Device<B>) -> bool
 /// Notes that a device activates these images. There must be room for them.
 fn note_activated<'a>(history: &mut Vec<Entry<'a>>, device: u8, images: Vec<Image<'a>>)
     requires { vec_len history.old + vec_len images ≤ vec_capacity history.old }
-    ensures { map entry_of history.new.items ≡ map entry_of history.old.items ++ map (λ p. noted_of device (EntryOf.Activated p)) (map keyed_image_of images.entry.items) }
+    ensures { map entry_of history.new.items
+        ≡ map entry_of history.old.items
+        ++ map (λ p. noted_of device (EntryOf.Activated p)) (map keyed_image_of
+        images.entry.items) }
 {
     for image in images {
         let _ = history.push(Entry {
@@ -490,7 +511,10 @@ fn note_activated<'a>(history: &mut Vec<Entry<'a>>, device: u8, images: Vec<Imag
 /// Notes that a device applied an image, if it did. There must be room for the entry.
 fn note_applied<'a>(history: &mut Vec<Entry<'a>>, device: u8, image: Option<Image<'a>>)
     requires { vec_len history.old + 1 ≤ vec_capacity history.old }
-    ensures { map entry_of history.new.items ≡ map entry_of history.old.items ++ map (λ p. noted_of device (EntryOf.Applied p)) (map keyed_image_of (option_to_list image.entry)) }
+    ensures { map entry_of history.new.items
+        ≡ map entry_of history.old.items
+        ++ map (λ p. noted_of device (EntryOf.Applied p)) (map keyed_image_of
+        (option_to_list image.entry)) }
 {
     let Some(image) = image else {
         return;

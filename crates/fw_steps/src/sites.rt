@@ -190,7 +190,8 @@ pub(crate) fn deliver_at<'a, B: Bank>(
 ) -> Result<(), AllocError>
     requires place { place < length sites.old }
     requires outbox { outbox.old ≡ [] }
-    ensures heard { OnOk result (NotesPacketAtPlace now (sites_of sites.old) place bytes.now (sites_of sites.new) (map entry_of history.old.items) (map entry_of history.new.items)) }
+    ensures heard { OnOk result (NotesPacketAtPlace now (sites_of sites.old) place bytes.now
+        (sites_of sites.new) (map entry_of history.old.items) (map entry_of history.new.items)) }
     ensures same { OnErr result (sites_of sites.new ≡ sites_of sites.old) }
     ensures unnoted { OnErr result (map entry_of history.new.items ≡ map entry_of history.old.items) }
     ensures outbox { outbox.new ≡ [] }
@@ -213,9 +214,14 @@ pub(crate) fn judge_at<'a, B: Bank>(
     history: &mut Vec<Entry<'a>>,
 ) -> Result<(), StepFault>
     requires place { place < length sites.old }
-    ensures judged { OnOk result (NotesVerdictAtPlace (sites_of sites.old) place verdict (sites_of sites.new) (map entry_of history.old.items) (map entry_of history.new.items)) }
+    ensures judged { OnOk result (NotesVerdictAtPlace (sites_of sites.old) place verdict
+        (sites_of sites.new) (map entry_of history.old.items) (map entry_of history.new.items)) }
     ensures may { OnOk result (verdict_fault verdict (slice_get (sites_of sites.old) place) ≡ None) }
-    ensures refused { IfErr result (λ e. (verdict_fault verdict (slice_get (sites_of sites.old) place) ≡ Some e) ⊎ ((e ≡ StepFault.Memory) × (adds_entry verdict ≡ true) × (verdict_fault verdict (slice_get (sites_of sites.old) place) ≡ None))) }
+    ensures refused { IfErr result (λ e. (verdict_fault verdict
+        (slice_get (sites_of sites.old) place) ≡ Some e)
+        ⊎ ((e ≡ StepFault.Memory)
+        × (adds_entry verdict ≡ true)
+        × (verdict_fault verdict (slice_get (sites_of sites.old) place) ≡ None))) }
     ensures same { OnErr result (sites_of sites.new ≡ sites_of sites.old) }
     ensures unnoted { OnErr result (map entry_of history.new.items ≡ map entry_of history.old.items) }
     ensures count { length sites.new ≡ length sites.old }

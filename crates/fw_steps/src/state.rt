@@ -260,7 +260,8 @@ impl<'a, B: Bank + Drop> State<'a, B> {
 
     /// Returns the bytes of a packet that may be delivered to a node now.
     fn living(&self, device: u8, number: usize, node: u8) -> Result<RawPacket, StepFault>
-        ensures found { IfOk result (λ p. option_map (λ s. s.bytes) (item_numbered (packets_of self.now device) number) ≡ Some p.items) }
+        ensures found { IfOk result (λ p. option_map (λ s. s.bytes)
+            (item_numbered (packets_of self.now device) number) ≡ Some p.items) }
         ensures ok { OnOk result (may_step self.now (Step.Deliver device number node) ≡ None) }
         ensures fault { IfErr result (λ e. may_step self.now (Step.Deliver device number node) ≡ Some e) }
     {
@@ -509,7 +510,9 @@ impl<'a, B: Bank + Drop> State<'a, B> {
     /// Restarts the device at a place.
     fn restart_device(&mut self, place: usize)
         requires { place < length self.old.sites }
-        ensures { self.new ≡ record self.old { sites = site_restarts self.old.sites (Some place) (slice_get self.old.sites place) } }
+        ensures { self.new ≡ record self.old {
+          sites = site_restarts self.old.sites (Some place) (slice_get self.old.sites place);
+        } }
     {
         restart_at(self.sites.as_mut_slice(), place);
     }

@@ -33,7 +33,9 @@ impl<S: Store + Drop> Model for KeptBank<S> {
 
     ghost view = { λ b. record { rows = b.bank.rows; stage = b.bank.stage; faults = b.faults; kept = S.kept b.store } };
 
-    ghost invariant = { λ b. (b.keys.items ≡ map key_of b.bank.rows) × HaveKeysOnce b.keys.items × (S.kept b.store ≡ all_running b.bank.rows) };
+    ghost invariant = { λ b. (b.keys.items ≡ map key_of b.bank.rows)
+        × HaveKeysOnce b.keys.items
+        × (S.kept b.store ≡ all_running b.bank.rows) };
 }
 
 impl<S: Store + Drop> KeptBank<S> {
@@ -104,7 +106,12 @@ impl<S: Store + Drop> Bank for KeptBank<S> {
 
     #[tactic(auto, using(crate::proofs::Keeping::keeping))]
     fn switch(&mut self) -> Result<(), BankFault>
-        ensures ok { OnOk result (self.new ≡ record { rows = rows_after_switch self.old.rows; stage = None; faults = self.old.faults; kept = all_running (rows_after_switch self.old.rows) }) }
+        ensures ok { OnOk result (self.new ≡ record {
+          rows = rows_after_switch self.old.rows;
+          stage = None;
+          faults = self.old.faults;
+          kept = all_running (rows_after_switch self.old.rows);
+        }) }
         ensures stays { OnErr result (self.new ≡ record self.old { faults = self.new.faults }) }
         ensures failed { OnErr result (CountsFailure self.old.faults self.new.faults) }
     {
@@ -156,7 +163,10 @@ fn push_applied<'a>(
     key: Key,
     applied: Option<(&'a Label, &'a [u8])>,
 ) -> Result<(), AllocError>
-    ensures { OnOk result (images.new.items ≡ images.old.items ++ one_applied key (option_map (λ r. record { label = r.0.now; bytes = r.1.now }) applied.entry)) }
+    ensures { OnOk result (images.new.items
+        ≡ images.old.items
+        ++ one_applied key (option_map (λ r. record { label = r.0.now; bytes = r.1.now })
+        applied.entry)) }
 {
     if let Some((label, bytes)) = applied {
         images.push(Kept { key, label, bytes })?;

@@ -49,7 +49,8 @@ pub trait Folder {
         ensures known { is_known self.new ≡ is_known self.old }
         ensures ok { OnOk result (is_known self.old ≡ true → WritesFile (files self.old) (files self.new) name.now bytes.now) }
         ensures err { OnErr result (is_known self.old ≡ true → ChangesOnlyFile (files self.old) (files self.new) name.now) }
-        ensures moment { is_known self.old ≡ true → IsMoment (files self.old) (files self.new) (moments self.old) (moments self.new) };
+        ensures moment { is_known self.old ≡ true
+            → IsMoment (files self.old) (files self.new) (moments self.old) (moments self.new) };
 
     /// Renames a file, replacing the file with the new name, entirely or not at all, and syncs the
     /// change to the disk.
@@ -59,9 +60,15 @@ pub trait Folder {
     fn rename(&mut self, name: &[u8], place: &[u8]) -> Result<(), RenameFault>
         ensures known { is_known self.new ≡ is_known self.old }
         ensures ok { OnOk result (is_known self.old ≡ true → RenamesFile (files self.old) (files self.new) name.now place.now) }
-        ensures unchanged { IfErr result (λ e. e ≡ RenameFault.Unchanged → is_known self.old ≡ true → LeavesFiles (files self.old) (files self.new)) }
-        ensures unsure { IfErr result (λ e. e ≡ RenameFault.Unsure → is_known self.old ≡ true → LeavesFiles (files self.old) (files self.new) ⊎ RenamesFile (files self.old) (files self.new) name.now place.now) }
-        ensures moment { is_known self.old ≡ true → IsMoment (files self.old) (files self.new) (moments self.old) (moments self.new) };
+        ensures unchanged { IfErr result (λ e. e ≡ RenameFault.Unchanged
+            → is_known self.old ≡ true
+            → LeavesFiles (files self.old) (files self.new)) }
+        ensures unsure { IfErr result (λ e. e ≡ RenameFault.Unsure
+            → is_known self.old ≡ true
+            → LeavesFiles (files self.old) (files self.new)
+            ⊎ RenamesFile (files self.old) (files self.new) name.now place.now) }
+        ensures moment { is_known self.old ≡ true
+            → IsMoment (files self.old) (files self.new) (moments self.old) (moments self.new) };
 
     /// Removes a file.
     ///
@@ -70,7 +77,8 @@ pub trait Folder {
     fn remove(&mut self, name: &[u8]) -> Result<(), FolderFault>
         ensures known { is_known self.new ≡ is_known self.old }
         ensures others { is_known self.old ≡ true → ChangesOnlyFile (files self.old) (files self.new) name.now }
-        ensures moment { is_known self.old ≡ true → IsMoment (files self.old) (files self.new) (moments self.old) (moments self.new) };
+        ensures moment { is_known self.old ≡ true
+            → IsMoment (files self.old) (files self.new) (moments self.old) (moments self.new) };
 
     /// Returns the names of the files.
     ///

@@ -93,13 +93,24 @@ impl<F: Folder + Drop> FolderStore<F> {
         ensures next { self.new.next ≡ self.old.next }
         ensures sure { self.new.is_sure ≡ self.old.is_sure }
         ensures known { F.is_known self.new.folder ≡ F.is_known self.old.folder }
-        ensures untouched { F.is_known self.old.folder ≡ true → IsUntouched self.old.entries.items (F.files self.old.folder) (F.files self.new.folder) }
-        ensures settled { IsSettledIfKnown (F.is_known self.old.folder) self.old.is_sure self.old.next (F.files self.old.folder) self.old.entries.items
-            → IsSettledIfKnown (F.is_known self.new.folder) self.new.is_sure self.new.next (F.files self.new.folder) self.new.entries.items }
-        ensures same { IsSettledIfKnown (F.is_known self.old.folder) self.old.is_sure self.old.next (F.files self.old.folder) self.old.entries.items
-            → F.is_known self.old.folder ≡ true → self.old.is_sure ≡ true → IsBefore (F.files self.old.folder) (F.files self.new.folder) }
-        ensures moments { IsSettledIfKnown (F.is_known self.old.folder) self.old.is_sure self.old.next (F.files self.old.folder) self.old.entries.items
-            → F.is_known self.old.folder ≡ true → self.old.is_sure ≡ true → PassesStates (IsBefore (F.files self.old.folder)) (F.moments self.old.folder) (F.moments self.new.folder) }
+        ensures untouched { F.is_known self.old.folder ≡ true
+            → IsUntouched self.old.entries.items (F.files self.old.folder)
+            (F.files self.new.folder) }
+        ensures settled { IsSettledIfKnown (F.is_known self.old.folder) self.old.is_sure
+            self.old.next (F.files self.old.folder) self.old.entries.items
+            → IsSettledIfKnown (F.is_known self.new.folder) self.new.is_sure self.new.next
+            (F.files self.new.folder) self.new.entries.items }
+        ensures same { IsSettledIfKnown (F.is_known self.old.folder) self.old.is_sure self.old.next
+            (F.files self.old.folder) self.old.entries.items
+            → F.is_known self.old.folder ≡ true
+            → self.old.is_sure ≡ true
+            → IsBefore (F.files self.old.folder) (F.files self.new.folder) }
+        ensures moments { IsSettledIfKnown (F.is_known self.old.folder) self.old.is_sure
+            self.old.next (F.files self.old.folder) self.old.entries.items
+            → F.is_known self.old.folder ≡ true
+            → self.old.is_sure ≡ true
+            → PassesStates (IsBefore (F.files self.old.folder)) (F.moments self.old.folder)
+            (F.moments self.new.folder) }
         ensures unread { IfErr result (λ e. e ≡ OpenFault.Unreadable → self.new ≡ self.old) }
         ensures fault { IfErr result (λ e. (e ≡ OpenFault.Unreadable) ⊎ (e ≡ OpenFault.Memory)) }
     {
@@ -128,14 +139,24 @@ impl<F: Folder + Drop> FolderStore<F> {
         ensures err { OnErr result (self.new.memory.images.items ≡ self.old.memory.images.items) }
         ensures known { F.is_known self.new.folder ≡ F.is_known self.old.folder }
         ensures sure { OnOk result (self.new.is_sure ≡ true) }
-        ensures settled { IsSettledIfKnown (F.is_known self.old.folder) self.old.is_sure self.old.next (F.files self.old.folder) self.old.entries.items
-            → IsSettledIfKnown (F.is_known self.new.folder) self.new.is_sure self.new.next (F.files self.new.folder) self.new.entries.items }
-        ensures found { OnOk result (IsSettledIfKnown (F.is_known self.old.folder) self.old.is_sure self.old.next (F.files self.old.folder) self.old.entries.items
-            → F.is_known self.old.folder ≡ true → IsAfter images.now (F.files self.old.folder) (F.files self.new.folder)) }
-        ensures stays { OnErr result (IsSettledIfKnown (F.is_known self.old.folder) self.old.is_sure self.old.next (F.files self.old.folder) self.old.entries.items
-            → F.is_known self.old.folder ≡ true → self.new.is_sure ≡ true → IsBefore (F.files self.old.folder) (F.files self.new.folder)) }
-        ensures moments { IsSettledIfKnown (F.is_known self.old.folder) self.old.is_sure self.old.next (F.files self.old.folder) self.old.entries.items
-            → F.is_known self.old.folder ≡ true → PassesStates (IsBeforeOrAfter images.now (F.files self.old.folder)) (F.moments self.old.folder) (F.moments self.new.folder) }
+        ensures settled { IsSettledIfKnown (F.is_known self.old.folder) self.old.is_sure
+            self.old.next (F.files self.old.folder) self.old.entries.items
+            → IsSettledIfKnown (F.is_known self.new.folder) self.new.is_sure self.new.next
+            (F.files self.new.folder) self.new.entries.items }
+        ensures found { OnOk result (IsSettledIfKnown (F.is_known self.old.folder) self.old.is_sure
+            self.old.next (F.files self.old.folder) self.old.entries.items
+            → F.is_known self.old.folder ≡ true
+            → IsAfter images.now (F.files self.old.folder) (F.files self.new.folder)) }
+        ensures stays { OnErr result (IsSettledIfKnown (F.is_known self.old.folder) self.old.is_sure
+            self.old.next (F.files self.old.folder) self.old.entries.items
+            → F.is_known self.old.folder ≡ true
+            → self.new.is_sure ≡ true
+            → IsBefore (F.files self.old.folder) (F.files self.new.folder)) }
+        ensures moments { IsSettledIfKnown (F.is_known self.old.folder) self.old.is_sure
+            self.old.next (F.files self.old.folder) self.old.entries.items
+            → F.is_known self.old.folder ≡ true
+            → PassesStates (IsBeforeOrAfter images.now (F.files self.old.folder))
+            (F.moments self.old.folder) (F.moments self.new.folder) }
     {
         if !self.is_sure || !are_apart(images) {
             return Err(StoreFault);

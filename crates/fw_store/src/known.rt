@@ -166,7 +166,8 @@ impl KnownFolder {
 
     /// Records a change.
     fn note(&mut self, kind: Kind, name: &[u8], other: &[u8]) -> Result<(), AllocError>
-        ensures ok { OnOk result (self.new.changes.items ≡ self.old.changes.items ++ record { kind = kind; name = name.now; other = other.now } ∷ []) }
+        ensures ok { OnOk result (self.new.changes.items ≡ self.old.changes.items
+            ++ record { kind = kind; name = name.now; other = other.now } ∷ []) }
         ensures err { OnErr result (self.new.changes.items ≡ self.old.changes.items) }
     {
         let change = match change_of(self.alloc, kind, name, other) {
@@ -182,9 +183,12 @@ impl KnownFolder {
     /// Writes these bytes to a file.
     #[tactic(auto, using(crate::proofs::Changes::calling))]
     fn put(&mut self, name: &[u8], bytes: &[u8]) -> Result<(), FolderFault>
-        ensures ok { OnOk result (WritesFile (files_of self.old.changes.items) (files_of self.new.changes.items) name.now bytes.now) }
+        ensures ok { OnOk result (WritesFile (files_of self.old.changes.items)
+            (files_of self.new.changes.items) name.now bytes.now) }
         ensures only { ChangesOnlyFile (files_of self.old.changes.items) (files_of self.new.changes.items) name.now }
-        ensures moment { IsMoment (files_of self.old.changes.items) (files_of self.new.changes.items) (states_of self.old.changes.items) (states_of self.new.changes.items) }
+        ensures moment { IsMoment (files_of self.old.changes.items)
+            (files_of self.new.changes.items) (states_of self.old.changes.items)
+            (states_of self.new.changes.items) }
     {
         match self.note(Kind::Put, name, bytes) {
             Ok(()) => Ok(()),
@@ -195,9 +199,12 @@ impl KnownFolder {
     /// Renames a file.
     #[tactic(auto, using(crate::proofs::Changes::calling))]
     fn give(&mut self, name: &[u8], place: &[u8]) -> Result<(), FolderFault>
-        ensures ok { OnOk result (RenamesFile (files_of self.old.changes.items) (files_of self.new.changes.items) name.now place.now) }
+        ensures ok { OnOk result (RenamesFile (files_of self.old.changes.items)
+            (files_of self.new.changes.items) name.now place.now) }
         ensures err { OnErr result (LeavesFiles (files_of self.old.changes.items) (files_of self.new.changes.items)) }
-        ensures moment { IsMoment (files_of self.old.changes.items) (files_of self.new.changes.items) (states_of self.old.changes.items) (states_of self.new.changes.items) }
+        ensures moment { IsMoment (files_of self.old.changes.items)
+            (files_of self.new.changes.items) (states_of self.old.changes.items)
+            (states_of self.new.changes.items) }
     {
         match self.note(Kind::Moved, name, place) {
             Ok(()) => Ok(()),

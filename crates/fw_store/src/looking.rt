@@ -20,7 +20,8 @@ use std::alloc::{AllocError, Global};
 /// Returns the lines of a folder's `active`, if it is the text of lines; no lines if there is no
 /// such file.
 fn lines<F: Folder>(alloc: Global, folder: &F) -> Result<Option<Vec<ImageEntry>>, OpenFault>
-    ensures ok { IfOk result (λ r. F.is_known folder.now ≡ true → option_map (λ v. v.items) r ≡ lines_by (F.files folder.now active_name)) }
+    ensures ok { IfOk result (λ r. F.is_known folder.now ≡ true
+        → option_map (λ v. v.items) r ≡ lines_by (F.files folder.now active_name)) }
     ensures err { IfErr result (λ e. (e ≡ OpenFault.Unreadable) ⊎ (e ≡ OpenFault.Memory)) }
 {
     let found = match folder.read(alloc, ACTIVE) {
@@ -53,7 +54,8 @@ fn image<F: Folder>(
     folder: &F,
     entry: &ImageEntry,
 ) -> Result<Option<Stored>, OpenFault>
-    ensures ok { IfOk result (λ r. F.is_known folder.now ≡ true → r ≡ image_by entry.now (F.files folder.now (name_of entry.now.key entry.now.number))) }
+    ensures ok { IfOk result (λ r. F.is_known folder.now ≡ true
+        → r ≡ image_by entry.now (F.files folder.now (name_of entry.now.key entry.now.number))) }
     ensures err { IfErr result (λ e. (e ≡ OpenFault.Unreadable) ⊎ (e ≡ OpenFault.Memory)) }
 {
     let Ok(name) = image_name(alloc, entry.key, entry.number) else {
@@ -73,7 +75,8 @@ fn images<F: Folder>(
     folder: &F,
     entries: &[ImageEntry],
 ) -> Result<Option<Vec<Stored>>, OpenFault>
-    ensures ok { IfOk result (λ r. F.is_known folder.now ≡ true → option_map (λ v. v.items) r ≡ images_by (F.files folder.now) entries.now) }
+    ensures ok { IfOk result (λ r. F.is_known folder.now ≡ true
+        → option_map (λ v. v.items) r ≡ images_by (F.files folder.now) entries.now) }
     ensures err { IfErr result (λ e. (e ≡ OpenFault.Unreadable) ⊎ (e ≡ OpenFault.Memory)) }
 {
     let mut images = Vec::new(alloc);
@@ -145,11 +148,16 @@ pub(crate) fn look<F: Folder>(
     folder: &F,
     components: &[Kept<'_>],
 ) -> Result<(Vec<ImageEntry>, MemStore), OpenFault>
-    ensures ok { IfOk result (λ r. F.is_known folder.now ≡ true → found_in components.now (F.files folder.now) ≡ Ok r.1.images.items) }
+    ensures ok { IfOk result (λ r. F.is_known folder.now ≡ true
+        → found_in components.now (F.files folder.now) ≡ Ok r.1.images.items) }
     ensures lines { IfOk result (λ r. F.is_known folder.now ≡ true → lines_by (F.files folder.now active_name) ≡ Some r.0.items) }
     ensures there { IfOk result (λ r. F.is_known folder.now ≡ true → is_some (images_by (F.files folder.now) r.0.items) ≡ true) }
-    ensures damaged { IfErr result (λ e. e ≡ OpenFault.Damaged → F.is_known folder.now ≡ true → found_in components.now (F.files folder.now) ≡ Err OpenFault.Damaged) }
-    ensures foreign { IfErr result (λ e. e ≡ OpenFault.Foreign → F.is_known folder.now ≡ true → found_in components.now (F.files folder.now) ≡ Err OpenFault.Foreign) }
+    ensures damaged { IfErr result (λ e. e ≡ OpenFault.Damaged
+        → F.is_known folder.now ≡ true
+        → found_in components.now (F.files folder.now) ≡ Err OpenFault.Damaged) }
+    ensures foreign { IfErr result (λ e. e ≡ OpenFault.Foreign
+        → F.is_known folder.now ≡ true
+        → found_in components.now (F.files folder.now) ≡ Err OpenFault.Foreign) }
 {
     let entries = match lines(alloc, folder) {
         Ok(Some(entries)) => entries,
@@ -182,9 +190,14 @@ pub fn read_store<F: Folder>(
     folder: &F,
     components: &[Kept<'_>],
 ) -> Result<MemStore, OpenFault>
-    ensures ok { IfOk result (λ s. F.is_known folder.now ≡ true → found_in components.now (F.files folder.now) ≡ Ok s.images.items) }
-    ensures damaged { IfErr result (λ e. e ≡ OpenFault.Damaged → F.is_known folder.now ≡ true → found_in components.now (F.files folder.now) ≡ Err OpenFault.Damaged) }
-    ensures foreign { IfErr result (λ e. e ≡ OpenFault.Foreign → F.is_known folder.now ≡ true → found_in components.now (F.files folder.now) ≡ Err OpenFault.Foreign) }
+    ensures ok { IfOk result (λ s. F.is_known folder.now ≡ true
+        → found_in components.now (F.files folder.now) ≡ Ok s.images.items) }
+    ensures damaged { IfErr result (λ e. e ≡ OpenFault.Damaged
+        → F.is_known folder.now ≡ true
+        → found_in components.now (F.files folder.now) ≡ Err OpenFault.Damaged) }
+    ensures foreign { IfErr result (λ e. e ≡ OpenFault.Foreign
+        → F.is_known folder.now ≡ true
+        → found_in components.now (F.files folder.now) ≡ Err OpenFault.Foreign) }
 {
     match look(alloc, folder, components) {
         Ok((_, store)) => Ok(store),

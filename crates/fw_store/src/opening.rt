@@ -39,12 +39,18 @@ pub fn open_store<F: Folder + Drop>(
     folder: F,
     components: &[Kept<'_>],
 ) -> Result<FolderStore<F>, OpenFault>
-    ensures found { IfOk result (λ s. F.is_known folder ≡ true → found_in components.now (F.files folder) ≡ Ok s.memory.images.items) }
+    ensures found { IfOk result (λ s. F.is_known folder ≡ true
+        → found_in components.now (F.files folder) ≡ Ok s.memory.images.items) }
     ensures sure { IfOk result (λ s. s.is_sure ≡ true) }
-    ensures settled { IfOk result (λ s. IsSettledIfKnown (F.is_known s.folder) s.is_sure s.next (F.files s.folder) s.entries.items) }
+    ensures settled { IfOk result (λ s. IsSettledIfKnown (F.is_known s.folder) s.is_sure s.next
+        (F.files s.folder) s.entries.items) }
     ensures untouched { IfOk result (λ s. s.folder ≡ folder) }
-    ensures damaged { IfErr result (λ e. e ≡ OpenFault.Damaged → F.is_known folder ≡ true → found_in components.now (F.files folder) ≡ Err OpenFault.Damaged) }
-    ensures foreign { IfErr result (λ e. e ≡ OpenFault.Foreign → F.is_known folder ≡ true → found_in components.now (F.files folder) ≡ Err OpenFault.Foreign) }
+    ensures damaged { IfErr result (λ e. e ≡ OpenFault.Damaged
+        → F.is_known folder ≡ true
+        → found_in components.now (F.files folder) ≡ Err OpenFault.Damaged) }
+    ensures foreign { IfErr result (λ e. e ≡ OpenFault.Foreign
+        → F.is_known folder ≡ true
+        → found_in components.now (F.files folder) ≡ Err OpenFault.Foreign) }
 {
     let (entries, memory) = match look(alloc, &folder, components) {
         Ok(found) => found,

@@ -37,8 +37,12 @@ fn write_images<F: Folder>(
 ) -> Result<(), FolderFault>
     requires apart { HaveKeysOnce (map (λ k. k.key) images.now) }
     ensures known { F.is_known folder.new ≡ F.is_known folder.old }
-    ensures ok { OnOk result (F.is_known folder.old ≡ true → IsWriting number images.now (F.files folder.old) (F.files folder.new) (F.moments folder.old) (F.moments folder.new)) }
-    ensures err { OnErr result (F.is_known folder.old ≡ true → IsStopped number (F.files folder.old) (F.files folder.new) (F.moments folder.old) (F.moments folder.new)) }
+    ensures ok { OnOk result (F.is_known folder.old ≡ true
+        → IsWriting number images.now (F.files folder.old) (F.files folder.new)
+        (F.moments folder.old) (F.moments folder.new)) }
+    ensures err { OnErr result (F.is_known folder.old ≡ true
+        → IsStopped number (F.files folder.old) (F.files folder.new) (F.moments folder.old)
+        (F.moments folder.new)) }
 {
     for image in images {
         let Ok(name) = file_name(alloc, image.key, number) else {
@@ -56,9 +60,19 @@ fn write_images<F: Folder>(
 #[tactic(auto, using(crate::proofs::Moments::putting))]
 fn put_text<F: Folder>(folder: &mut F, text: &[u8]) -> Result<(), RenameFault>
     ensures known { F.is_known folder.new ≡ F.is_known folder.old }
-    ensures ok { OnOk result (F.is_known folder.old ≡ true → ReplacesActive text.now (F.files folder.old) (F.files folder.new) (F.moments folder.old) (F.moments folder.new)) }
-    ensures unchanged { IfErr result (λ e. e ≡ RenameFault.Unchanged → F.is_known folder.old ≡ true → FailsToReplaceActive (F.files folder.old) (F.files folder.new) (F.moments folder.old) (F.moments folder.new)) }
-    ensures unsure { IfErr result (λ e. e ≡ RenameFault.Unsure → F.is_known folder.old ≡ true → FailsToReplaceActive (F.files folder.old) (F.files folder.new) (F.moments folder.old) (F.moments folder.new) ⊎ ReplacesActive text.now (F.files folder.old) (F.files folder.new) (F.moments folder.old) (F.moments folder.new)) }
+    ensures ok { OnOk result (F.is_known folder.old ≡ true
+        → ReplacesActive text.now (F.files folder.old) (F.files folder.new) (F.moments folder.old)
+        (F.moments folder.new)) }
+    ensures unchanged { IfErr result (λ e. e ≡ RenameFault.Unchanged
+        → F.is_known folder.old ≡ true
+        → FailsToReplaceActive (F.files folder.old) (F.files folder.new) (F.moments folder.old)
+        (F.moments folder.new)) }
+    ensures unsure { IfErr result (λ e. e ≡ RenameFault.Unsure
+        → F.is_known folder.old ≡ true
+        → FailsToReplaceActive (F.files folder.old) (F.files folder.new) (F.moments folder.old)
+        (F.moments folder.new)
+        ⊎ ReplacesActive text.now (F.files folder.old) (F.files folder.new) (F.moments folder.old)
+        (F.moments folder.new)) }
 {
     match folder.write(ACTIVE_NEW, text) {
         Ok(()) => folder.rename(ACTIVE_NEW, ACTIVE),
@@ -82,10 +96,17 @@ pub(crate) fn put_images<F: Folder>(
 ) -> Result<(), RenameFault>
     requires apart { HaveKeysOnce (map (λ k. k.key) images.now) }
     ensures known { F.is_known folder.new ≡ F.is_known folder.old }
-    ensures ok { OnOk result (F.is_known folder.old ≡ true → WritesImages number images.now entries.now (F.files folder.old) (F.files folder.new)) }
-    ensures unchanged { IfErr result (λ e. e ≡ RenameFault.Unchanged → F.is_known folder.old ≡ true → LeavesLowerFiles number (F.files folder.old) (F.files folder.new)) }
-    ensures unsure { IfErr result (λ e. e ≡ RenameFault.Unsure → F.is_known folder.old ≡ true → MayHaveReplaced number images.now entries.now (F.files folder.old) (F.files folder.new)) }
-    ensures moments { F.is_known folder.old ≡ true → PassesStates (MayHaveReplaced number images.now entries.now (F.files folder.old)) (F.moments folder.old) (F.moments folder.new) }
+    ensures ok { OnOk result (F.is_known folder.old ≡ true
+        → WritesImages number images.now entries.now (F.files folder.old) (F.files folder.new)) }
+    ensures unchanged { IfErr result (λ e. e ≡ RenameFault.Unchanged
+        → F.is_known folder.old ≡ true
+        → LeavesLowerFiles number (F.files folder.old) (F.files folder.new)) }
+    ensures unsure { IfErr result (λ e. e ≡ RenameFault.Unsure
+        → F.is_known folder.old ≡ true
+        → MayHaveReplaced number images.now entries.now (F.files folder.old) (F.files folder.new)) }
+    ensures moments { F.is_known folder.old ≡ true
+        → PassesStates (MayHaveReplaced number images.now entries.now (F.files folder.old))
+        (F.moments folder.old) (F.moments folder.new) }
 {
     let Ok(text) = active_text(alloc, entries) else {
         return Err(RenameFault::Unchanged);

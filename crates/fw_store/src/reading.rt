@@ -36,7 +36,10 @@ fn field(text: &[u8], stop: u8) -> Option<(&[u8], &[u8])>
 
 /// Returns the decimal number of the digits, if they are digits and it fits.
 fn digits(word: &[u8]) -> Option<u64>
-    ensures { result ≡ (if list_all is_ascii_digit word.now && nat_lt (digits_value 10 word.now) (2 ^ 64) then Some (digits_value 10 word.now) else None) }
+    ensures { result ≡ (if list_all is_ascii_digit word.now
+        && nat_lt (digits_value 10 word.now) (2 ^ 64)
+        then Some (digits_value 10 word.now)
+        else None) }
 {
     let mut value: u64 = 0;
     for byte in word {

@@ -60,9 +60,15 @@ fn sweep_one<F: Folder>(
     name: &[u8],
 ) -> Result<(), AllocError>
     ensures known { F.is_known folder.new ≡ F.is_known folder.old }
-    ensures untouched { F.is_known folder.old ≡ true → (first : Files) → IsUntouched entries.now first (F.files folder.old) → IsUntouched entries.now first (F.files folder.new) }
-    ensures moments { F.is_known folder.old ≡ true → (first : Files) (past : List Files) → IsUntouched entries.now first (F.files folder.old)
-        → PassesStates (IsUntouched entries.now first) past (F.moments folder.old) → PassesStates (IsUntouched entries.now first) past (F.moments folder.new) }
+    ensures untouched { F.is_known folder.old ≡ true
+        → (first : Files)
+        → IsUntouched entries.now first (F.files folder.old)
+        → IsUntouched entries.now first (F.files folder.new) }
+    ensures moments { F.is_known folder.old ≡ true
+        → (first : Files) (past : List Files)
+        → IsUntouched entries.now first (F.files folder.old)
+        → PassesStates (IsUntouched entries.now first) past (F.moments folder.old)
+        → PassesStates (IsUntouched entries.now first) past (F.moments folder.new) }
 {
     match is_stray(alloc, entries, name) {
         Ok(true) => {}
@@ -83,7 +89,9 @@ pub(crate) fn sweep<F: Folder>(
 ) -> Result<(), AllocError>
     ensures known { F.is_known folder.new ≡ F.is_known folder.old }
     ensures untouched { F.is_known folder.old ≡ true → IsUntouched entries.now (F.files folder.old) (F.files folder.new) }
-    ensures moments { F.is_known folder.old ≡ true → PassesStates (IsUntouched entries.now (F.files folder.old)) (F.moments folder.old) (F.moments folder.new) }
+    ensures moments { F.is_known folder.old ≡ true
+        → PassesStates (IsUntouched entries.now (F.files folder.old)) (F.moments folder.old)
+        (F.moments folder.new) }
 {
     for name in names {
         match sweep_one(alloc, folder, entries, name) {

@@ -196,7 +196,8 @@ fn push_fields(
     answer: &[u8],
     fields: &[u8],
 ) -> Result<(), AllocError>
-    ensures { OnOk result (AppendsText text.old.items text.new.items (answer_fields_read (answer_read command answer.now) fields.now)) }
+    ensures { OnOk result (AppendsText text.old.items text.new.items
+        (answer_fields_read (answer_read command answer.now) fields.now)) }
 {
     match fwup_wire::read_answer(command, answer) {
         Ok(answer) => push_answer(alloc, text, &answer),
@@ -213,7 +214,9 @@ fn push_coded(
     answer: &[u8],
     fields: &[u8],
 ) -> Result<(), AllocError>
-    ensures { OnOk result (AppendsText text.old.items text.new.items (name_or_digits (update_code code) code ++ answer_fields_read (answer_read command answer.now) fields.now)) }
+    ensures { OnOk result (AppendsText text.old.items text.new.items
+        (name_or_digits (update_code code) code
+        ++ answer_fields_read (answer_read command answer.now) fields.now)) }
 {
     push_name(alloc, text, update_code(code), code)?;
     push_fields(alloc, text, command, answer, fields)?;

@@ -56,7 +56,9 @@ fn push_version_asked(
     operation: u8,
     kind: u8,
 ) -> Result<(), AllocError>
-    ensures { OnOk result (AppendsText text.old.items text.new.items (in_digits (codes " handle ") handle.now ++ in_two (codes " operation ") operation ++ in_two (codes " type ") kind)) }
+    ensures { OnOk result (AppendsText text.old.items text.new.items
+        (in_digits (codes " handle ") handle.now ++ in_two (codes " operation ") operation
+        ++ in_two (codes " type ") kind)) }
 {
     push_digits(alloc, text, " handle ", handle)?;
     push_two(alloc, text, " operation ", operation)?;
@@ -83,7 +85,9 @@ fn push_version_told(
     flag: u8,
     versions: &[u8],
 ) -> Result<(), AllocError>
-    ensures { OnOk result (AppendsText text.old.items text.new.items (in_digits (codes " handle ") handle.now ++ in_two (codes " flag ") flag ++ in_digits (codes " versions ") versions.now)) }
+    ensures { OnOk result (AppendsText text.old.items text.new.items
+        (in_digits (codes " handle ") handle.now ++ in_two (codes " flag ") flag
+        ++ in_digits (codes " versions ") versions.now)) }
 {
     push_digits(alloc, text, " handle ", handle)?;
     push_two(alloc, text, " flag ", flag)?;
@@ -109,7 +113,8 @@ fn push_commands_asked(
     kind: u8,
     version: &[u8],
 ) -> Result<(), AllocError>
-    ensures { OnOk result (AppendsText text.old.items text.new.items (in_two (codes " type ") kind ++ in_digits (codes " version ") version.now)) }
+    ensures { OnOk result (AppendsText text.old.items text.new.items
+        (in_two (codes " type ") kind ++ in_digits (codes " version ") version.now)) }
 {
     push_two(alloc, text, " type ", kind)?;
     push_digits(alloc, text, " version ", version)?;
@@ -170,7 +175,8 @@ fn push_answer_fields(
     code: u8,
     fields: &[u8],
 ) -> Result<(), AllocError>
-    ensures { OnOk result (AppendsText text.old.items text.new.items (if code == 0 then base_success_fields command fields.now else rest_text fields.now)) }
+    ensures { OnOk result (AppendsText text.old.items text.new.items
+        (if code == 0 then base_success_fields command fields.now else rest_text fields.now)) }
 {
     if code == SUCCESS {
         push_success_fields(alloc, text, command, fields)
@@ -187,7 +193,9 @@ fn push_coded(
     code: u8,
     fields: &[u8],
 ) -> Result<(), AllocError>
-    ensures { OnOk result (AppendsText text.old.items text.new.items (name_or_digits (base_code code) code ++ (if code == 0 then base_success_fields command fields.now else rest_text fields.now))) }
+    ensures { OnOk result (AppendsText text.old.items text.new.items
+        (name_or_digits (base_code code) code
+        ++ (if code == 0 then base_success_fields command fields.now else rest_text fields.now))) }
 {
     push_name(alloc, text, base_code(code), code)?;
     push_answer_fields(alloc, text, command, code, fields)?;
@@ -230,7 +238,8 @@ fn push_other_coded(
     code: u8,
     fields: &[u8],
 ) -> Result<(), AllocError>
-    ensures { OnOk result (AppendsText text.old.items text.new.items (name_or_digits (shared_code code) code ++ rest_text fields.now)) }
+    ensures { OnOk result (AppendsText text.old.items text.new.items
+        (name_or_digits (shared_code code) code ++ rest_text fields.now)) }
 {
     push_name(alloc, text, shared_code(code), code)?;
     push_rest(alloc, text, fields)?;
@@ -286,7 +295,8 @@ fn push_named_request(
     command: u8,
     fields: &[u8],
 ) -> Result<(), AllocError>
-    ensures { OnOk result (AppendsText text.old.items text.new.items (codes " " ++ name.now ++ base_request_fields command fields.now)) }
+    ensures { OnOk result (AppendsText text.old.items text.new.items
+        (codes " " ++ name.now ++ base_request_fields command fields.now)) }
 {
     push_words(text, " ")?;
     push_words(text, name)?;
@@ -318,7 +328,8 @@ fn push_named_answer(
     command: u8,
     body: &[u8],
 ) -> Result<(), AllocError>
-    ensures { OnOk result (AppendsText text.old.items text.new.items (codes " " ++ name.now ++ base_code_and_fields command body.now)) }
+    ensures { OnOk result (AppendsText text.old.items text.new.items
+        (codes " " ++ name.now ++ base_code_and_fields command body.now)) }
 {
     push_words(text, " ")?;
     push_words(text, name)?;

@@ -104,7 +104,8 @@ pub fn push_capture(
     is_sent: bool,
     bytes: &[u8],
 ) -> Result<(), AllocError>
-    ensures { OnOk result (AppendsText text.old.items text.new.items (capture_record (record { turn = turn; is_sent = is_sent; bytes = bytes.now }))) }
+    ensures { OnOk result (AppendsText text.old.items text.new.items
+        (capture_record (record { turn = turn; is_sent = is_sent; bytes = bytes.now }))) }
 {
     push_head(text, turn, size(bytes))?;
     push_cooked(text, is_sent, source(bytes))?;

@@ -40,7 +40,8 @@ fn push_set_endpoint_asked(
     operation: u8,
     eid: u8,
 ) -> Result<(), AllocError>
-    ensures { OnOk result (AppendsText text.old.items text.new.items (in_two (codes " operation ") operation ++ word_and_number (codes " eid ") eid)) }
+    ensures { OnOk result (AppendsText text.old.items text.new.items
+        (in_two (codes " operation ") operation ++ word_and_number (codes " eid ") eid)) }
 {
     push_two(alloc, text, " operation ", operation)?;
     push_byte(alloc, text, " eid ", eid)?;
@@ -70,7 +71,9 @@ fn push_set_endpoint_told(
     eid: u8,
     pool: u8,
 ) -> Result<(), AllocError>
-    ensures { OnOk result (AppendsText text.old.items text.new.items (in_two (codes " status ") status ++ word_and_number (codes " eid ") eid ++ word_and_number (codes " pool ") pool)) }
+    ensures { OnOk result (AppendsText text.old.items text.new.items
+        (in_two (codes " status ") status ++ word_and_number (codes " eid ") eid
+        ++ word_and_number (codes " pool ") pool)) }
 {
     push_two(alloc, text, " status ", status)?;
     push_byte(alloc, text, " eid ", eid)?;
@@ -101,7 +104,9 @@ fn push_endpoint_told(
     kind: u8,
     medium: u8,
 ) -> Result<(), AllocError>
-    ensures { OnOk result (AppendsText text.old.items text.new.items (word_and_number (codes " eid ") eid ++ in_two (codes " type ") kind ++ in_two (codes " medium ") medium)) }
+    ensures { OnOk result (AppendsText text.old.items text.new.items
+        (word_and_number (codes " eid ") eid ++ in_two (codes " type ") kind
+        ++ in_two (codes " medium ") medium)) }
 {
     push_byte(alloc, text, " eid ", eid)?;
     push_two(alloc, text, " type ", kind)?;
@@ -229,7 +234,8 @@ fn push_answer_fields(
     code: u8,
     fields: &[u8],
 ) -> Result<(), AllocError>
-    ensures { OnOk result (AppendsText text.old.items text.new.items (if code == 0 then control_success_fields command fields.now else rest_text fields.now)) }
+    ensures { OnOk result (AppendsText text.old.items text.new.items
+        (if code == 0 then control_success_fields command fields.now else rest_text fields.now)) }
 {
     if code == SUCCESS {
         push_success_fields(alloc, text, command, fields)
@@ -246,7 +252,11 @@ fn push_coded(
     code: u8,
     fields: &[u8],
 ) -> Result<(), AllocError>
-    ensures { OnOk result (AppendsText text.old.items text.new.items (name_or_digits (control_code code) code ++ (if code == 0 then control_success_fields command fields.now else rest_text fields.now))) }
+    ensures { OnOk result (AppendsText text.old.items text.new.items
+        (name_or_digits (control_code code) code
+        ++ (if code == 0
+        then control_success_fields command fields.now
+        else rest_text fields.now))) }
 {
     push_name(alloc, text, names::control_code(code), code)?;
     push_answer_fields(alloc, text, command, code, fields)?;

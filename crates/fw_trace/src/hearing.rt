@@ -33,9 +33,18 @@ impl Model for EndAssemblies {
 
     ghost Value = { HearingOf };
 
-    ghost view = { λ h. record { unit = h.requests.unit; own = h.requests.own; peer = h.requests.peer; held = record { requests = h.requests.held; replies = h.replies.held } } };
+    ghost view = { λ h. record {
+      unit = h.requests.unit;
+      own = h.requests.own;
+      peer = h.requests.peer;
+      held = record { requests = h.requests.held; replies = h.replies.held };
+    } };
 
-    ghost invariant = { λ h. (h.requests.to ≡ true) × (h.replies.to ≡ false) × (h.replies.unit ≡ h.requests.unit) × (h.replies.own ≡ h.requests.own) × (h.replies.peer ≡ h.requests.peer) };
+    ghost invariant = { λ h. (h.requests.to ≡ true)
+        × (h.replies.to ≡ false)
+        × (h.replies.unit ≡ h.requests.unit)
+        × (h.replies.own ≡ h.requests.own)
+        × (h.replies.peer ≡ h.requests.peer) };
 }
 
 impl EndAssemblies {
@@ -78,7 +87,10 @@ impl EndAssemblies {
         requires body { (1 ≤ length packet.now.body.now) × (length packet.now.body.now ≤ bytes_of self.old.unit) }
         requires tag { packet.now.head.tag ≤ 7 }
         ensures answer { result ≡ fed_in self.old.unit self.old.held (packet_of packet.now.head packet.now.body.now) }
-        ensures after { self.new ≡ record self.old { held = held_in self.old.unit self.old.held (packet_of packet.now.head packet.now.body.now) } }
+        ensures after { self.new ≡ record self.old {
+          held = held_in self.old.unit self.old.held (packet_of packet.now.head
+              packet.now.body.now);
+        } }
     {
         let mut whole = Message::blank();
         let taken = if packet.head.to {

@@ -34,9 +34,17 @@ impl Model for PacketReader {
 
     ghost Value = { ReaderOf };
 
-    ghost view = { λ r. record { unit = r.at_device.unit; agent = r.at_device.peer; device = r.at_device.own; at_agent = r.at_agent.held; at_device = r.at_device.held } };
+    ghost view = { λ r. record {
+      unit = r.at_device.unit;
+      agent = r.at_device.peer;
+      device = r.at_device.own;
+      at_agent = r.at_agent.held;
+      at_device = r.at_device.held;
+    } };
 
-    ghost invariant = { λ r. (r.at_agent.unit ≡ r.at_device.unit) × (r.at_agent.own ≡ r.at_device.peer) × (r.at_agent.peer ≡ r.at_device.own) };
+    ghost invariant = { λ r. (r.at_agent.unit ≡ r.at_device.unit)
+        × (r.at_agent.own ≡ r.at_device.peer)
+        × (r.at_agent.peer ≡ r.at_device.own) };
 }
 
 /// The place of a packet among those of its pair.
@@ -193,7 +201,8 @@ fn push_fed(
     packet: &Packet<'_>,
     fed: &Fed,
 ) -> Result<(), AllocError>
-    ensures { OnOk result (AppendsText text.old.items text.new.items (fed_text (packet_of packet.now.head packet.now.body.now) fed.now)) }
+    ensures { OnOk result (AppendsText text.old.items text.new.items
+        (fed_text (packet_of packet.now.head packet.now.body.now) fed.now)) }
 {
     match fed {
         Fed::Open => push_part(alloc, text, packet),
@@ -209,7 +218,8 @@ fn push_outcome(
     packet: &Packet<'_>,
     heard: &PacketOutcome,
 ) -> Result<(), AllocError>
-    ensures { OnOk result (AppendsText text.old.items text.new.items (outcome_text (packet_of packet.now.head packet.now.body.now) heard.now)) }
+    ensures { OnOk result (AppendsText text.old.items text.new.items
+        (outcome_text (packet_of packet.now.head packet.now.body.now) heard.now)) }
 {
     match heard {
         PacketOutcome::Destination => push_words(text, " drop Destination"),
@@ -225,7 +235,8 @@ fn push_packet(
     packet: &Packet<'_>,
     heard: &PacketOutcome,
 ) -> Result<(), AllocError>
-    ensures { OnOk result (AppendsText text.old.items text.new.items (packet_text (packet_of packet.now.head packet.now.body.now) heard.now)) }
+    ensures { OnOk result (AppendsText text.old.items text.new.items
+        (packet_text (packet_of packet.now.head packet.now.body.now) heard.now)) }
 {
     push_head(alloc, text, &packet.head)?;
     push_outcome(alloc, text, packet, heard)?;
@@ -240,7 +251,9 @@ fn push_packet_line(
     packet: &Packet<'_>,
     heard: &PacketOutcome,
 ) -> Result<(), AllocError>
-    ensures { OnOk result (AppendsText text.old.items text.new.items (place_text place.turn place.device place.number ++ packet_text (packet_of packet.now.head packet.now.body.now) heard.now ++ codes "\n")) }
+    ensures { OnOk result (AppendsText text.old.items text.new.items
+        (place_text place.turn place.device place.number
+        ++ packet_text (packet_of packet.now.head packet.now.body.now) heard.now ++ codes "\n")) }
 {
     push_place(alloc, text, place)?;
     push_packet(alloc, text, packet, heard)?;
@@ -255,7 +268,9 @@ fn push_bytes_line(
     place: Place,
     bytes: &[u8],
 ) -> Result<(), AllocError>
-    ensures { OnOk result (AppendsText text.old.items text.new.items (place_text place.turn place.device place.number ++ in_digits (codes " bytes ") bytes.now ++ codes "\n")) }
+    ensures { OnOk result (AppendsText text.old.items text.new.items
+        (place_text place.turn place.device place.number ++ in_digits (codes " bytes ") bytes.now
+        ++ codes "\n")) }
 {
     push_place(alloc, text, place)?;
     push_digits(alloc, text, " bytes ", bytes)?;

@@ -31,10 +31,20 @@ pub fn replay_two<'a, 'b, B: Bank + Drop>(
     Result<(), (usize, StepFault)>,
 )
     ensures first_ok { OnOk result.0 (Run first.old first_steps.now first.new) }
-    ensures first_stopped { IfErr result.0 (λ e. (e.0 < length first_steps.now) × Run first.old (take e.0 first_steps.now) first.new × IfSome (slice_get first_steps.now e.0) (λ s. RefusesStep first.new s e.1)) }
+    ensures first_stopped { IfErr result.0 (λ e. (e.0 < length first_steps.now)
+        × Run first.old (take e.0 first_steps.now) first.new
+        × IfSome (slice_get first_steps.now e.0) (λ s. RefusesStep first.new s e.1)) }
     ensures second_ok { OnOk result.1 (Run second.old second_steps.now second.new) }
-    ensures second_stopped { IfErr result.1 (λ e. (e.0 < length second_steps.now) × Run second.old (take e.0 second_steps.now) second.new × IfSome (slice_get second_steps.now e.0) (λ s. RefusesStep second.new s e.1)) }
-    ensures isolated { AgreeIn device first.old second.old → steps_of first.old device first_steps.now ≡ steps_of second.old device second_steps.now → IsOk result.0 → IsOk result.1 → IsUnfailed device first.old first.new → IsUnfailed device second.old second.new → AgreeIn device first.new second.new }
+    ensures second_stopped { IfErr result.1 (λ e. (e.0 < length second_steps.now)
+        × Run second.old (take e.0 second_steps.now) second.new
+        × IfSome (slice_get second_steps.now e.0) (λ s. RefusesStep second.new s e.1)) }
+    ensures isolated { AgreeIn device first.old second.old
+        → steps_of first.old device first_steps.now ≡ steps_of second.old device second_steps.now
+        → IsOk result.0
+        → IsOk result.1
+        → IsUnfailed device first.old first.new
+        → IsUnfailed device second.old second.new
+        → AgreeIn device first.new second.new }
 {
     devices_are_isolated();
     first.is_promised();

@@ -38,13 +38,25 @@ pub fn replay<B: Bank + Drop>(
     steps: &[Step],
 ) -> Result<(), (usize, StepFault)>
     ensures ok { OnOk result (Run world.old steps.now world.new) }
-    ensures stopped { IfErr result (λ e. (e.0 < length steps.now) × Run world.old (take e.0 steps.now) world.new × IfSome (slice_get steps.now e.0) (λ s. RefusesStep world.new s e.1)) }
+    ensures stopped { IfErr result (λ e. (e.0 < length steps.now)
+        × Run world.old (take e.0 steps.now) world.new
+        × IfSome (slice_get steps.now e.0) (λ s. RefusesStep world.new s e.1)) }
     ensures grown { GrowsHistory world.old world.new }
     ensures tied { IsTiedBetween world.old world.new }
-    ensures moments { (opening earlier later : WorldOf) (before between : List Step) → IsOpeningWorld opening → Run opening before earlier → Run earlier between later → IsSafeWorld opening later × IsTiedBetween earlier later }
+    ensures moments { (opening earlier later : WorldOf) (before between : List Step)
+        → IsOpeningWorld opening
+        → Run opening before earlier
+        → Run earlier between later
+        → IsSafeWorld opening later × IsTiedBetween earlier later }
     ensures clocks { OnOk result ((eid : ℕ) → is_node world.old eid ≡ true → KeepsTime eid steps.now) }
     ensures clocks_stopped { IfErr result (λ e. (eid : ℕ) → is_node world.old eid ≡ true → KeepsTime eid (take e.0 steps.now)) }
-    ensures time { (opening earlier later : WorldOf) (before between : List Step) → IsOpeningWorld opening → Run opening before earlier → Run earlier between later → (eid : ℕ) → is_node earlier eid ≡ true → KeepsTime eid between }
+    ensures time { (opening earlier later : WorldOf) (before between : List Step)
+        → IsOpeningWorld opening
+        → Run opening before earlier
+        → Run earlier between later
+        → (eid : ℕ)
+        → is_node earlier eid ≡ true
+        → KeepsTime eid between }
     ensures promised { IsPromised world.new }
 {
     packets_are_safe();
@@ -62,7 +74,9 @@ fn take_all<B: Bank + Drop>(
     steps: &[Step],
 ) -> Result<(), (usize, StepFault)>
     ensures ok { OnOk result (Run world.old steps.now world.new) }
-    ensures stopped { IfErr result (λ e. (e.0 < length steps.now) × Run world.old (take e.0 steps.now) world.new × IfSome (slice_get steps.now e.0) (λ s. RefusesStep world.new s e.1)) }
+    ensures stopped { IfErr result (λ e. (e.0 < length steps.now)
+        × Run world.old (take e.0 steps.now) world.new
+        × IfSome (slice_get steps.now e.0) (λ s. RefusesStep world.new s e.1)) }
     ensures led { IsAfterSteps world.old world.new }
 {
     for (i, step) in steps.iter().enumerate() {

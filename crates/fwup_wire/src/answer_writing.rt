@@ -33,8 +33,12 @@ const ALL_COMPONENTS_WORK: [u8; 9] = [0; 9];
 pub fn write_answer(answer: &Answer<'_>) -> Reply
     requires { IsAnswerWritable (answer_of answer.now) }
     ensures bytes { result.items ≡ answer_bytes (answer_of answer.now) }
-    ensures member { (command : ℕ) → answers_command command (answer_of answer.now) ≡ true → IsAnswer command result.items (answer_of answer.now) }
-    ensures reads_back { (command : ℕ) → answers_command command (answer_of answer.now) ≡ true → answer_in command result.items ≡ Some (answer_of answer.now) }
+    ensures member { (command : ℕ)
+        → answers_command command (answer_of answer.now) ≡ true
+        → IsAnswer command result.items (answer_of answer.now) }
+    ensures reads_back { (command : ℕ)
+        → answers_command command (answer_of answer.now) ≡ true
+        → answer_in command result.items ≡ Some (answer_of answer.now) }
 {
     written(answer)
 }
@@ -44,7 +48,9 @@ pub fn write_answer(answer: &Answer<'_>) -> Reply
 fn written(answer: &Answer<'_>) -> Reply
     requires { IsAnswerWritable (answer_of answer.now) }
     ensures bytes { result.items ≡ answer_bytes (answer_of answer.now) }
-    ensures reads_back { (command : ℕ) → answers_command command (answer_of answer.now) ≡ true → answer_in command result.items ≡ Some (answer_of answer.now) }
+    ensures reads_back { (command : ℕ)
+        → answers_command command (answer_of answer.now) ≡ true
+        → answer_in command result.items ≡ Some (answer_of answer.now) }
 {
     let mut out = Reply::new();
     out.push(answer.code());

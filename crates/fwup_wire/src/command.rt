@@ -104,7 +104,7 @@ pub enum Command<'a> {
     },
     /// Makes the applied images active.
     ActivateFirmware {
-        /// Self-contained components are activated at once.
+        /// Whether self-contained components are to be activated at once.
         self_contained: bool,
     },
     /// Requests the device's state.

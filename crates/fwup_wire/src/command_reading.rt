@@ -50,14 +50,16 @@ pub fn read(command: u8, fields: &[u8]) -> Result<Command<'_>, u8>
 
 /// Returns the command, or the code for a wrong length if there is none.
 fn of_length(found: Option<Command<'_>>) -> Result<Command<'_>, u8>
-    ensures { result_map_both command_of (λ e. e) result ≡ Rattle.fwup_wire.specs.Commands.of_length (option_map command_of found.entry) }
+    ensures { result_map_both command_of (λ e. e) result
+        ≡ Rattle.fwup_wire.specs.Commands.of_length (option_map command_of found.entry) }
 {
     found.ok_or(ERROR_INVALID_LENGTH)
 }
 
 /// Returns a command without request data.
 fn alone<'a>(fields: &[u8], command: Command<'a>) -> Result<Command<'a>, u8>
-    ensures { result_map_both command_of (λ e. e) result ≡ Rattle.fwup_wire.specs.Commands.alone fields.now (command_of command.entry) }
+    ensures { result_map_both command_of (λ e. e) result
+        ≡ Rattle.fwup_wire.specs.Commands.alone fields.now (command_of command.entry) }
 {
     if fields.is_empty() {
         Ok(command)

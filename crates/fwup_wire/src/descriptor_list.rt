@@ -34,7 +34,9 @@ impl Model for DescriptorList {
 
     ghost view = { λ d. unwrap_or (descriptors_in d.count d.bytes.items) [] };
 
-    ghost invariant = { λ d. HoldsDescriptors d.count d.bytes.items (unwrap_or (descriptors_in d.count d.bytes.items) []) × (4 * d.count ≤ length d.bytes.items) };
+    ghost invariant = { λ d. HoldsDescriptors d.count d.bytes.items
+        (unwrap_or (descriptors_in d.count d.bytes.items) [])
+        × (4 * d.count ≤ length d.bytes.items) };
 }
 
 /// Two lists are equal if they are as long and are sent as the same bytes.

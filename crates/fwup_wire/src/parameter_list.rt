@@ -38,7 +38,9 @@ impl Model for ParameterList {
 
     ghost view = { λ d. unwrap_or (parameters_in d.count d.bytes.items) [] };
 
-    ghost invariant = { λ d. HoldsParameters d.count d.bytes.items (unwrap_or (parameters_in d.count d.bytes.items) []) × (39 * d.count ≤ length d.bytes.items) };
+    ghost invariant = { λ d. HoldsParameters d.count d.bytes.items
+        (unwrap_or (parameters_in d.count d.bytes.items) [])
+        × (39 * d.count ≤ length d.bytes.items) };
 }
 
 impl ParameterList {

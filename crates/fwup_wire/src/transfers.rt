@@ -10,8 +10,9 @@ use pldm_base::MAX_REPLY;
 /// 1.0, the baseline transfer size).
 pub const MIN_TRANSFER: usize = 32;
 
-/// The most bytes of an image that a device requests at once, and that an agent sends, at any
-/// transmission unit: the greatest multiple of 16 that the longest reply holds after its code.
+/// The most bytes of an image that a device requests at once, and that an agent sends, at the
+/// greatest transmission unit: the greatest multiple of 16 that the longest reply holds after its
+/// code.
 pub const MAX_TRANSFER: usize = (MAX_REPLY - 1) / 16 * 16;
 
 /// Returns the most bytes of an image that a device requests at once, and that an agent sends

@@ -210,7 +210,8 @@ pub fn beginning_of(bytes: &[u8]) -> &[u8]
 /// refused.
 pub fn inspect(alloc: Global, bytes: &[u8]) -> Result<Vec<u8>, InspectFault>
     ensures text { IfOk result (λ text. result_map_both inspect_of (λ e. e) (package_of bytes.now) ≡ Ok text.items) }
-    ensures fault { IfErr result (λ e. e ≢ InspectFault.Memory → result_map_both (λ p. p) InspectFault.Package (package_of bytes.now) ≡ Err e) }
+    ensures fault { IfErr result (λ e. e ≢ InspectFault.Memory
+        → result_map_both (λ p. p) InspectFault.Package (package_of bytes.now) ≡ Err e) }
     ensures memory { IfErr result (λ e. e ≡ InspectFault.Memory → IsOk (package_of bytes.now)) }
 {
     inspect_beginning(alloc, beginning_of(bytes), bytes.len())
@@ -227,9 +228,17 @@ pub fn inspect_beginning(
     beginning: &[u8],
     file_length: usize,
 ) -> Result<Vec<u8>, InspectFault>
-    ensures text { (file : List ℕ) → IsBeginning file beginning.now file_length → IfOk result (λ text. result_map_both inspect_of (λ e. e) (package_of file) ≡ Ok text.items) }
-    ensures fault { (file : List ℕ) → IsBeginning file beginning.now file_length → IfErr result (λ e. e ≢ InspectFault.Memory → result_map_both (λ p. p) InspectFault.Package (package_of file) ≡ Err e) }
-    ensures memory { (file : List ℕ) → IsBeginning file beginning.now file_length → IfErr result (λ e. e ≡ InspectFault.Memory → IsOk (package_of file)) }
+    ensures text { (file : List ℕ)
+        → IsBeginning file beginning.now file_length
+        → IfOk result (λ text. result_map_both inspect_of (λ e. e) (package_of file)
+        ≡ Ok text.items) }
+    ensures fault { (file : List ℕ)
+        → IsBeginning file beginning.now file_length
+        → IfErr result (λ e. e ≢ InspectFault.Memory
+        → result_map_both (λ p. p) InspectFault.Package (package_of file) ≡ Err e) }
+    ensures memory { (file : List ℕ)
+        → IsBeginning file beginning.now file_length
+        → IfErr result (λ e. e ≡ InspectFault.Memory → IsOk (package_of file)) }
 {
     let contents = match Outline::read(beginning, file_length) {
         Ok(contents) => contents,

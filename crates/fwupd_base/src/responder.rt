@@ -34,8 +34,11 @@ impl Responder {
     /// # Errors
     /// The first cause why the packet gets no answer; the terminus identifier is then unchanged.
     pub fn answer(&mut self, bytes: &[u8], packet: &mut RawPacket) -> Result<(), LineDropCause>
-        ensures reply { result_map_both (λ _. packet.new.items) (λ e. e) result ≡ (wire_reply self.old.endpoint self.old.tid (packet_of UNIT bytes.now)).reply }
-        ensures after { self.new ≡ record self.old { tid = (wire_reply self.old.endpoint self.old.tid (packet_of UNIT bytes.now)).tid } }
+        ensures reply { result_map_both (λ _. packet.new.items) (λ e. e) result
+            ≡ (wire_reply self.old.endpoint self.old.tid (packet_of UNIT bytes.now)).reply }
+        ensures after { self.new ≡ record self.old {
+          tid = (wire_reply self.old.endpoint self.old.tid (packet_of UNIT bytes.now)).tid;
+        } }
     {
         let heard = mctp_wire::decode(UNIT, bytes).map_err(LineDropCause::Wire)?;
         self.answer_packet(&heard.head, heard.body, packet)
@@ -49,7 +52,8 @@ impl Responder {
         packet: &mut RawPacket,
     ) -> Result<(), LineDropCause>
         requires { head.now.tag < 8 }
-        ensures reply { result_map_both (λ _. packet.new.items) (λ e. e) result ≡ (packet_reply self.old.endpoint self.old.tid head.now body.now).reply }
+        ensures reply { result_map_both (λ _. packet.new.items) (λ e. e) result
+            ≡ (packet_reply self.old.endpoint self.old.tid head.now body.now).reply }
         ensures after { self.new ≡ record self.old { tid = (packet_reply self.old.endpoint self.old.tid head.now body.now).tid } }
     {
         if head.dest != self.endpoint.eid {
@@ -75,7 +79,8 @@ impl Responder {
         packet: &mut RawPacket,
     ) -> Result<(), LineDropCause>
         requires { head.now.tag < 8 }
-        ensures reply { result_map_both (λ _. packet.new.items) (λ e. e) result ≡ (body_reply self.old.endpoint head.now self.old.tid message.now).reply }
+        ensures reply { result_map_both (λ _. packet.new.items) (λ e. e) result
+            ≡ (body_reply self.old.endpoint head.now self.old.tid message.now).reply }
         ensures after { self.new ≡ record self.old { tid = (body_reply self.old.endpoint head.now self.old.tid message.now).tid } }
     {
         match message {
@@ -99,8 +104,11 @@ impl Responder {
         packet: &mut RawPacket,
     ) -> Result<(), LineDropCause>
         requires { head.now.tag < 8 }
-        ensures reply { result_map_both (λ _. packet.new.items) (λ e. e) result ≡ (pldm_reply self.old.endpoint head.now self.old.tid (pldm_of message.now)).reply }
-        ensures after { self.new ≡ record self.old { tid = (pldm_reply self.old.endpoint head.now self.old.tid (pldm_of message.now)).tid } }
+        ensures reply { result_map_both (λ _. packet.new.items) (λ e. e) result
+            ≡ (pldm_reply self.old.endpoint head.now self.old.tid (pldm_of message.now)).reply }
+        ensures after { self.new ≡ record self.old {
+          tid = (pldm_reply self.old.endpoint head.now self.old.tid (pldm_of message.now)).tid;
+        } }
     {
         let Ok((request, fields)) = pldm_base::decode(message) else {
             return Err(LineDropCause::Message);

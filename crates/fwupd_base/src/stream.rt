@@ -44,9 +44,14 @@ fn write_answer<W: Write>(
     writer: &mut W,
 ) -> Result<(), AnswerFault>
     requires room { length digits.now ≤ 2 * vec_capacity bytes.old }
-    ensures ok { OnOk result (Appends (W.contents writer.old) (W.contents writer.new) (text_for_line responder.old.endpoint responder.old.tid digits.now)) }
-    ensures after { responder.new ≡ record responder.old { tid = tid_after_line responder.old.endpoint responder.old.tid digits.now } }
-    ensures fault { IfErr result (λ e. (e ≡ AnswerFault.Write) × WritesBeginning (W.contents writer.old) (W.contents writer.new) (text_for_line responder.old.endpoint responder.old.tid digits.now)) }
+    ensures ok { OnOk result (Appends (W.contents writer.old) (W.contents writer.new)
+        (text_for_line responder.old.endpoint responder.old.tid digits.now)) }
+    ensures after { responder.new ≡ record responder.old {
+      tid = tid_after_line responder.old.endpoint responder.old.tid digits.now;
+    } }
+    ensures fault { IfErr result (λ e. (e ≡ AnswerFault.Write)
+        × WritesBeginning (W.contents writer.old) (W.contents writer.new)
+        (text_for_line responder.old.endpoint responder.old.tid digits.now)) }
     ensures capacity { vec_capacity bytes.old ≤ vec_capacity bytes.new }
 {
     let mut line = LineText::new();
@@ -67,10 +72,16 @@ fn answer_ended<W: Write>(
 ) -> Result<(), AnswerFault>
     requires holds { length held.old.items + length digits.now ≤ vec_capacity held.old }
     requires decodes { length held.old.items + length digits.now ≤ 2 * vec_capacity bytes.old }
-    ensures ok { OnOk result (Appends (W.contents writer.old) (W.contents writer.new) (text_for_line responder.old.endpoint responder.old.tid (held.old.items ++ digits.now))) }
+    ensures ok { OnOk result (Appends (W.contents writer.old) (W.contents writer.new)
+        (text_for_line responder.old.endpoint responder.old.tid (held.old.items ++ digits.now))) }
     ensures none { OnOk result (held.new.items ≡ []) }
-    ensures after { responder.new ≡ record responder.old { tid = tid_after_line responder.old.endpoint responder.old.tid (held.old.items ++ digits.now) } }
-    ensures fault { IfErr result (λ e. (e ≡ AnswerFault.Write) × WritesBeginning (W.contents writer.old) (W.contents writer.new) (text_for_line responder.old.endpoint responder.old.tid (held.old.items ++ digits.now))) }
+    ensures after { responder.new ≡ record responder.old {
+      tid = tid_after_line responder.old.endpoint responder.old.tid
+          (held.old.items ++ digits.now);
+    } }
+    ensures fault { IfErr result (λ e. (e ≡ AnswerFault.Write)
+        × WritesBeginning (W.contents writer.old) (W.contents writer.new)
+        (text_for_line responder.old.endpoint responder.old.tid (held.old.items ++ digits.now))) }
     ensures held_room { vec_capacity held.old ≤ vec_capacity held.new }
     ensures room { vec_capacity bytes.old ≤ vec_capacity bytes.new }
 {
@@ -95,11 +106,17 @@ fn answer_piece<W: Write>(
     requires holds { length held.old.items + length piece.now ≤ vec_capacity held.old }
     requires decodes { length held.old.items + length piece.now ≤ 2 * vec_capacity bytes.old }
     ensures endpoint { responder.new.endpoint ≡ responder.old.endpoint }
-    ensures ok { (text : List ℕ) (before : Option (List ℕ)) → HasAnsweredLines responder.old.endpoint responder.old.tid text before (W.contents writer.old) held.old.items
-        → OnOk result (HasAnsweredLines responder.old.endpoint responder.new.tid (text ++ piece.now) before (W.contents writer.new) held.new.items) }
+    ensures ok { (text : List ℕ) (before : Option (List ℕ))
+        → HasAnsweredLines responder.old.endpoint responder.old.tid text before
+        (W.contents writer.old) held.old.items
+        → OnOk result (HasAnsweredLines responder.old.endpoint responder.new.tid (text ++ piece.now)
+        before (W.contents writer.new) held.new.items) }
     ensures fault { IfErr result (λ e. e ≡ AnswerFault.Write) }
-    ensures broken { (text : List ℕ) (before : Option (List ℕ)) → HasAnsweredLines responder.old.endpoint responder.old.tid text before (W.contents writer.old) held.old.items
-        → OnErr result (BreaksOffAnswer responder.old.endpoint (text ++ piece.now) before (W.contents writer.new)) }
+    ensures broken { (text : List ℕ) (before : Option (List ℕ))
+        → HasAnsweredLines responder.old.endpoint responder.old.tid text before
+        (W.contents writer.old) held.old.items
+        → OnErr result (BreaksOffAnswer responder.old.endpoint (text ++ piece.now) before
+        (W.contents writer.new)) }
 {
     let mut from = 0;
     while let Some(count) = memchr(b'\n', &piece[from..]) {
@@ -150,11 +167,17 @@ fn finish<W: Write>(
     writer: &mut W,
 ) -> Result<(), AnswerFault>
     requires decodes { length held.now ≤ 2 * vec_capacity bytes.old }
-    ensures ok { (text : List ℕ) (before : Option (List ℕ)) → HasAnsweredLines responder.old.endpoint responder.old.tid text before (W.contents writer.old) held.now
-        → OnOk result (Appends before (W.contents writer.new) (answers_of responder.old.endpoint text)) }
+    ensures ok { (text : List ℕ) (before : Option (List ℕ))
+        → HasAnsweredLines responder.old.endpoint responder.old.tid text before
+        (W.contents writer.old) held.now
+        → OnOk result (Appends before (W.contents writer.new)
+        (answers_of responder.old.endpoint text)) }
     ensures fault { IfErr result (λ e. e ≡ AnswerFault.Write) }
-    ensures broken { (text : List ℕ) (before : Option (List ℕ)) → HasAnsweredLines responder.old.endpoint responder.old.tid text before (W.contents writer.old) held.now
-        → OnErr result (BreaksOffAnswer responder.old.endpoint text before (W.contents writer.new)) }
+    ensures broken { (text : List ℕ) (before : Option (List ℕ))
+        → HasAnsweredLines responder.old.endpoint responder.old.tid text before
+        (W.contents writer.old) held.now
+        → OnErr result (BreaksOffAnswer responder.old.endpoint text before
+        (W.contents writer.new)) }
 {
     if held.is_empty() {
         return Ok(());
@@ -187,11 +210,14 @@ pub fn answer_stream<R: Read, W: Write>(
     eid: u8,
     uuid: Uuid,
 ) -> Result<(), AnswerFault>
-    ensures ok { OnOk result (AnswerOk (endpoint_of eid uuid) (R.remaining reader.old) (R.remaining reader.new) (W.contents writer.old) (W.contents writer.new)) }
-    ensures stopped { IfErr result (λ e. e ≢ AnswerFault.Write →
-        AnswerErr (endpoint_of eid uuid) e (R.remaining reader.old) (R.remaining reader.new) (W.contents writer.old) (W.contents writer.new)) }
-    ensures broken { IfErr result (λ e. e ≡ AnswerFault.Write →
-        AnswerWriteErr (endpoint_of eid uuid) (R.remaining reader.old) (R.remaining reader.new) (W.contents writer.old) (W.contents writer.new)) }
+    ensures ok { OnOk result (AnswerOk (endpoint_of eid uuid) (R.remaining reader.old)
+        (R.remaining reader.new) (W.contents writer.old) (W.contents writer.new)) }
+    ensures stopped { IfErr result (λ e. e ≢ AnswerFault.Write
+        → AnswerErr (endpoint_of eid uuid) e (R.remaining reader.old) (R.remaining reader.new)
+        (W.contents writer.old) (W.contents writer.new)) }
+    ensures broken { IfErr result (λ e. e ≡ AnswerFault.Write
+        → AnswerWriteErr (endpoint_of eid uuid) (R.remaining reader.old) (R.remaining reader.new)
+        (W.contents writer.old) (W.contents writer.new)) }
 {
     let mut responder = Responder {
         endpoint: Endpoint { eid, uuid },

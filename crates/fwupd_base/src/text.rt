@@ -86,7 +86,9 @@ pub fn answer_line(
 )
     requires room { length digits.now ≤ 2 * vec_capacity bytes.old }
     ensures text { text.new.items ≡ text_for_line responder.old.endpoint responder.old.tid digits.now }
-    ensures after { responder.new ≡ record responder.old { tid = tid_after_line responder.old.endpoint responder.old.tid digits.now } }
+    ensures after { responder.new ≡ record responder.old {
+      tid = tid_after_line responder.old.endpoint responder.old.tid digits.now;
+    } }
     ensures capacity { vec_capacity bytes.old ≤ vec_capacity bytes.new }
 {
     let mut packet = RawPacket::new();

@@ -40,7 +40,8 @@ fn package_spec<F: Files>(alloc: Global, files: &F, path: &str) -> Result<Packag
 /// The image of a component.
 fn image<F: Files>(alloc: Global, files: &F, component: &SpecComponent) -> Result<Vec<u8>, JobFault>
     ensures held { IfOk result (λ image. IsImage (F.holds files.now) (spec_component_of component.now).path image.items) }
-    ensures fault { IfErr result (λ e. (e ≡ JobFault.Memory) ⊎ ImageFails (F.holds files.now) (spec_component_of component.now).path e) }
+    ensures fault { IfErr result (λ e. (e ≡ JobFault.Memory)
+        ⊎ ImageFails (F.holds files.now) (spec_component_of component.now).path e) }
 {
     let Some(path) = &component.path else {
         return Ok(Vec::new(alloc));
@@ -57,8 +58,10 @@ fn images<F: Files>(
     files: &F,
     components: &[SpecComponent],
 ) -> Result<Vec<Vec<u8>>, JobFault>
-    ensures are { IfOk result (λ images. AreImages (F.holds files.now) (map spec_component_of components.now) (map (λ i. i.items) images.items)) }
-    ensures fault { IfErr result (λ e. (e ≡ JobFault.Memory) ⊎ ImagesFail (F.holds files.now) (map spec_component_of components.now) e) }
+    ensures are { IfOk result (λ images. AreImages (F.holds files.now)
+        (map spec_component_of components.now) (map (λ i. i.items) images.items)) }
+    ensures fault { IfErr result (λ e. (e ≡ JobFault.Memory)
+        ⊎ ImagesFail (F.holds files.now) (map spec_component_of components.now) e) }
 {
     let mut images = Vec::new(alloc);
     for component in components {
@@ -99,7 +102,8 @@ fn all_descriptors<'a>(
     alloc: Global,
     records: &'a [SpecRecord],
 ) -> Result<Vec<Vec<Descriptor<'a>>>, JobFault>
-    ensures are { IfOk result (λ lent. map (λ ds. map descriptor_of ds.items) lent.items ≡ map (λ r. map spec_descriptor_of r.descriptors.items) records.now) }
+    ensures are { IfOk result (λ lent. map (λ ds. map descriptor_of ds.items) lent.items
+        ≡ map (λ r. map spec_descriptor_of r.descriptors.items) records.now) }
     ensures fault { IfErr result (λ e. e ≡ JobFault.Memory) }
 {
     let mut lent = Vec::new(alloc);
@@ -136,7 +140,8 @@ fn own_descriptors<'a, 's: 'a>(
     all: &'a [Vec<Descriptor<'s>>],
     place: usize,
 ) -> Option<&'a [Descriptor<'s>]>
-    ensures { option_map (λ own. map descriptor_of own.now) result ≡ slice_get (map (λ ds. map descriptor_of ds.items) all.now) place }
+    ensures { option_map (λ own. map descriptor_of own.now) result
+        ≡ slice_get (map (λ ds. map descriptor_of ds.items) all.now) place }
 {
     match all.get(place) {
         Some(own) => Some(own.as_slice()),
@@ -150,7 +155,8 @@ fn lent_records<'a, 's: 'a>(
     records: &'s [SpecRecord],
     descriptors: &'a [Vec<Descriptor<'s>>],
 ) -> Result<Vec<AskedRecord<'a>>, JobFault>
-    requires { map (λ ds. map descriptor_of ds.items) descriptors.now ≡ map (λ r. map spec_descriptor_of r.descriptors.items) records.now }
+    requires { map (λ ds. map descriptor_of ds.items) descriptors.now
+        ≡ map (λ r. map spec_descriptor_of r.descriptors.items) records.now }
     ensures are { IfOk result (λ lent. map asked_record_of lent.items ≡ map record_by (map spec_record_of records.now)) }
     ensures fault { IfErr result (λ e. e ≡ JobFault.Memory) }
 {
@@ -187,7 +193,8 @@ fn lent_components<'a>(
     components: &'a [SpecComponent],
     images: &[Vec<u8>],
 ) -> Result<Vec<AskedComponent<'a>>, JobFault>
-    ensures are { IfOk result (λ lent. map asked_component_of lent.items ≡ components_by (map spec_component_of components.now) (map (λ i. i.items) images.now)) }
+    ensures are { IfOk result (λ lent. map asked_component_of lent.items
+        ≡ components_by (map spec_component_of components.now) (map (λ i. i.items) images.now)) }
     ensures fault { IfErr result (λ e. e ≡ JobFault.Memory) }
 {
     let mut lent = Vec::new(alloc);
@@ -220,7 +227,12 @@ fn asked_package<'a, 'r: 'a, 's: 'r>(
     records: &'r [AskedRecord<'r>],
     components: &'a [AskedComponent<'s>],
 ) -> AskedPackage<'a>
-    ensures { asked_package_of result ≡ record { release = spec.now.release; version = spec.now.version.items; records = map asked_record_of records.now; components = map asked_component_of components.now } }
+    ensures { asked_package_of result ≡ record {
+      release = spec.now.release;
+      version = spec.now.version.items;
+      records = map asked_record_of records.now;
+      components = map asked_component_of components.now;
+    } }
 {
     AskedPackage {
         release: spec.release,
@@ -240,7 +252,8 @@ fn header_of(
 ) -> Result<(), JobFault>
     ensures bytes { OnOk result (header.new.items ≡ header_bytes (asked_by (spec_seen spec.now) (map (λ i. i.items) images.now))) }
     ensures header { OnOk result (IsHeaderOf (asked_by (spec_seen spec.now) (map (λ i. i.items) images.now)) header.new.items) }
-    ensures fault { IfErr result (λ e. (e ≡ JobFault.Memory) ⊎ IsBuildFault path.now (spec_seen spec.now) (map (λ i. i.items) images.now) e) }
+    ensures fault { IfErr result (λ e. (e ≡ JobFault.Memory)
+        ⊎ IsBuildFault path.now (spec_seen spec.now) (map (λ i. i.items) images.now) e) }
 {
     let descriptors = match all_descriptors(alloc, spec.records.as_slice()) {
         Ok(descriptors) => descriptors,
@@ -266,7 +279,8 @@ fn header_of(
 /// # Errors
 /// `Output` if they can't be written.
 fn write_parts<W: Write>(writer: &mut W, header: &[u8], images: &[Vec<u8>]) -> Result<(), JobFault>
-    ensures ok { OnOk result (Appends (W.contents writer.old) (W.contents writer.new) (header.now ++ concat (map (λ i. i.items) images.now))) }
+    ensures ok { OnOk result (Appends (W.contents writer.old) (W.contents writer.new)
+        (header.now ++ concat (map (λ i. i.items) images.now))) }
     ensures fault { IfErr result (λ e. e ≡ JobFault.Output) }
 {
     match write_whole(writer, header) {

@@ -44,8 +44,15 @@ pub fn update_checked<
     watch: &mut V,
     output: &mut Output<W>,
 ) -> Result<(), JobFault>
-    ensures ok { OnOk result (ReportsChecked (F.holds files.now) (source_of (stores_in (T.is_known stores.now) (T.files stores.now)) (option_map (λ p. p.now) store.entry) config.now) order (show_of show.entry) (V.watched watch.new) output.old output.new) }
-    ensures fault { IfErr result (λ e. CheckedEnds (F.holds files.now) (source_of (stores_in (T.is_known stores.now) (T.files stores.now)) (option_map (λ p. p.now) store.entry) config.now) order (show_of show.entry) (V.refuses watch.old) (S.lacks wires.old folder.now) e (V.watched watch.new) output.old output.new) }
+    ensures ok { OnOk result (ReportsChecked (F.holds files.now)
+        (source_of (stores_in (T.is_known stores.now) (T.files stores.now))
+        (option_map (λ p. p.now) store.entry) config.now) order (show_of show.entry)
+        (V.watched watch.new) output.old output.new) }
+    ensures fault { IfErr result (λ e. CheckedEnds (F.holds files.now)
+        (source_of (stores_in (T.is_known stores.now) (T.files stores.now))
+        (option_map (λ p. p.now) store.entry) config.now) order (show_of show.entry)
+        (V.refuses watch.old) (S.lacks wires.old folder.now) e (V.watched watch.new) output.old
+        output.new) }
     ensures untouched { IfErr result (λ e. (watch.new ≡ watch.old) ⊎ HasObserverFault e (V.watched watch.new).fault) }
     ensures unopened { IfErr result (λ e. TellsStore e → (watch.new ≡ watch.old) × (wires.new ≡ wires.old)) }
 {

@@ -52,8 +52,14 @@ pub fn perform_job<
     places: &mut P,
     output: &mut Output<W>,
 ) -> Result<(), JobFault>
-    ensures ok { OnOk result (IsDone job.now (F.holds files.now) (stores_in (T.is_known stores.now) (T.files stores.now)) (R.remaining reader.old) (R.remaining reader.new) (V.watched watch.new) (P.is_known places.old) (P.held places.new) output.old output.new) }
-    ensures fault { IfErr result (λ e. JobEnds job.now (F.holds files.now) (stores_in (T.is_known stores.now) (T.files stores.now)) (V.refuses watch.old) (S.lacks wires.old) (R.remaining reader.old) (R.remaining reader.new) e (V.watched watch.new) (P.is_known places.old) (P.held places.new) output.old output.new) }
+    ensures ok { OnOk result (IsDone job.now (F.holds files.now)
+        (stores_in (T.is_known stores.now) (T.files stores.now)) (R.remaining reader.old)
+        (R.remaining reader.new) (V.watched watch.new) (P.is_known places.old) (P.held places.new)
+        output.old output.new) }
+    ensures fault { IfErr result (λ e. JobEnds job.now (F.holds files.now)
+        (stores_in (T.is_known stores.now) (T.files stores.now)) (V.refuses watch.old)
+        (S.lacks wires.old) (R.remaining reader.old) (R.remaining reader.new) e
+        (V.watched watch.new) (P.is_known places.old) (P.held places.new) output.old output.new) }
     ensures untouched { IfErr result (λ e. (watch.new ≡ watch.old) ⊎ HasObserverFault e (V.watched watch.new).fault) }
 {
     match job {

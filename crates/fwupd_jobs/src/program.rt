@@ -62,7 +62,10 @@ fn status<
     places: &mut P,
     output: &mut Output<W>,
 ) -> ExitCode
-    ensures { StatusSays (exit_status result) job.now (F.holds files.now) (stores_in (T.is_known stores.now) (T.files stores.now)) (V.refuses watch.old) (S.lacks wires.old) (R.remaining reader.old) (R.remaining reader.new) (V.watched watch.new) (P.is_known places.old) (P.held places.new) output.old output.new }
+    ensures { StatusSays (exit_status result) job.now (F.holds files.now)
+        (stores_in (T.is_known stores.now) (T.files stores.now)) (V.refuses watch.old)
+        (S.lacks wires.old) (R.remaining reader.old) (R.remaining reader.new) (V.watched watch.new)
+        (P.is_known places.old) (P.held places.new) output.old output.new }
 {
     match perform_job(
         rt.alloc(),
@@ -125,9 +128,12 @@ fn run<W: Write + Drop>(rt: &HostRuntime, job: &Job<'_>, output: &mut Output<W>)
 /// reader closed the pipe; 1, with a message, if writing the help failed.
 fn printed(rt: &HostRuntime, error: &clap::Error, outcome: io::Result<()>) -> ExitCode
     ensures usage { kind_of error.now ≢ DisplayHelp → kind_of error.now ≢ DisplayVersion → exit_status result ≡ 2 }
-    ensures shown { (kind_of error.now ≡ DisplayHelp) ⊎ (kind_of error.now ≡ DisplayVersion) → OnOk outcome (exit_status result ≡ 0) }
-    ensures gone { (kind_of error.now ≡ DisplayHelp) ⊎ (kind_of error.now ≡ DisplayVersion) → IfErr outcome (λ e. error_kind e ≡ ErrorKind.BrokenPipe → exit_status result ≡ 0) }
-    ensures lost { (kind_of error.now ≡ DisplayHelp) ⊎ (kind_of error.now ≡ DisplayVersion) → IfErr outcome (λ e. error_kind e ≢ ErrorKind.BrokenPipe → exit_status result ≡ 1) }
+    ensures shown { (kind_of error.now ≡ DisplayHelp) ⊎ (kind_of error.now ≡ DisplayVersion)
+        → OnOk outcome (exit_status result ≡ 0) }
+    ensures gone { (kind_of error.now ≡ DisplayHelp) ⊎ (kind_of error.now ≡ DisplayVersion)
+        → IfErr outcome (λ e. error_kind e ≡ ErrorKind.BrokenPipe → exit_status result ≡ 0) }
+    ensures lost { (kind_of error.now ≡ DisplayHelp) ⊎ (kind_of error.now ≡ DisplayVersion)
+        → IfErr outcome (λ e. error_kind e ≢ ErrorKind.BrokenPipe → exit_status result ≡ 1) }
 {
     match outcome {
         Ok(()) => ExitCode::from(error.exit_code() as u8),

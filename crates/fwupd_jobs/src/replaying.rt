@@ -100,9 +100,13 @@ fn replay_lines<B: Bank + Drop, V: Observer>(
 ) -> Result<(), (usize, StepFault)>
     requires countable { length (all_steps lines.now) ≤ 2 ^ 64 - 1 }
     ensures ok { OnOk result (Run world.old (all_steps lines.now) world.new) }
-    ensures stopped { IfErr result (λ e. (e.0 < length (all_steps lines.now)) × Run world.old (take e.0 (all_steps lines.now)) world.new × IfSome (slice_get (all_steps lines.now) e.0) (λ s. RefusesStep world.new s e.1)) }
+    ensures stopped { IfErr result (λ e. (e.0 < length (all_steps lines.now))
+        × Run world.old (take e.0 (all_steps lines.now)) world.new
+        × IfSome (slice_get (all_steps lines.now) e.0) (λ s. RefusesStep world.new s e.1)) }
     ensures same { (V.watched watch.new).shows ≡ (V.watched watch.old).shows }
-    ensures seen { OnOk result (is_traced ≡ true → (V.watched watch.old).seen ≡ 0 → (V.watched watch.new).seen ≡ length (all_steps lines.now)) }
+    ensures seen { OnOk result (is_traced ≡ true
+        → (V.watched watch.old).seen ≡ 0
+        → (V.watched watch.new).seen ≡ length (all_steps lines.now)) }
     ensures seen_before { IfErr result (λ e. is_traced ≡ true → (V.watched watch.old).seen ≡ 0 → (V.watched watch.new).seen ≡ e.0) }
 {
     let tick = Step::Tick(Missed::new());
@@ -135,12 +139,16 @@ pub fn replayed<'a, V: Observer>(
 ) -> Result<ReplayOutcome, AllocError>
     requires whole { AreWhole agent.eid (map device_of devices.items) }
     requires countable { length (all_steps lines.now) ≤ 2 ^ 64 - 1 }
-    ensures replayed { IfOk result (λ r. IsReplayed (new_world agent (nodes_made unit agent.eid (map device_of devices.items)) packages.now) (all_steps lines.now) r.fault show.entry.form r.report.items) }
+    ensures replayed { IfOk result (λ r. IsReplayed (new_world agent
+        (nodes_made unit agent.eid (map device_of devices.items)) packages.now)
+        (all_steps lines.now) r.fault show.entry.form r.report.items) }
     ensures same { OnOk result ((V.watched watch.new).shows ≡ (V.watched watch.old).shows) }
     ensures ended { OnOk result ((V.watched watch.new).has_ended ≡ true) }
     ensures unseen { IfOk result (λ r. IfErr r.watched (λ e. (V.watched watch.new).fault ≡ Some e)) }
     ensures seen { IfOk result (λ r. OnOk r.watched ((V.watched watch.new).fault ≡ None)) }
-    ensures each { IfOk result (λ r. is_some show.entry.trace ≡ true → (V.watched watch.old).seen ≡ 0 → (V.watched watch.new).seen ≡ taken_of (all_steps lines.now) r.fault) }
+    ensures each { IfOk result (λ r. is_some show.entry.trace ≡ true
+        → (V.watched watch.old).seen ≡ 0
+        → (V.watched watch.new).seen ≡ taken_of (all_steps lines.now) r.fault) }
 {
     packets_are_safe();
     moments_are_tied();
@@ -172,10 +180,13 @@ fn begin_replay<F: Files, V: Observer>(
 ) -> Result<(), JobFault>
     ensures shows { OnOk result ((V.watched watch.new).shows ≡ shown_of (show_of show.entry)) }
     ensures anew { OnOk result ((V.watched watch.new).seen ≡ 0) }
-    ensures apart { OnOk result (IsApart (F.holds files.now) (show_of show.entry) (schedule.now ∷ config.now ∷ map (λ p. string_bytes p) packages.now)) }
+    ensures apart { OnOk result (IsApart (F.holds files.now) (show_of show.entry)
+        (schedule.now ∷ config.now ∷ map (λ p. string_bytes p) packages.now)) }
     ensures untouched { IfErr result (λ e. (watch.new ≡ watch.old) ⊎ HasObserverFault e (V.watched watch.new).fault) }
     ensures fault { IfErr result (λ e. (e ≡ JobFault.Memory)
-        ⊎ IsBarred (F.holds files.now) (V.refuses watch.old) (show_of show.entry) (schedule.now ∷ config.now ∷ map (λ p. string_bytes p) packages.now) e (V.watched watch.new)) }
+        ⊎ IsBarred (F.holds files.now) (V.refuses watch.old) (show_of show.entry)
+        (schedule.now ∷ config.now ∷ map (λ p. string_bytes p) packages.now) e
+        (V.watched watch.new)) }
 {
     if is_one_path(files, show.trace, schedule) {
         return Err(JobFault::Trace);
@@ -216,8 +227,14 @@ pub fn replay_files<F: Files, D: Folder + Drop, T: Stores<D>, V: Observer, W: Wr
     watch: &mut V,
     output: &mut Output<W>,
 ) -> Result<(), JobFault>
-    ensures ok { OnOk result (ReportsReplay (F.holds files.now) (source_of (stores_in (T.is_known stores.now) (T.files stores.now)) (option_map (λ p. p.now) store.entry) config.now) steps.now (show_of show.entry) (V.watched watch.new) output.old output.new) }
-    ensures fault { IfErr result (λ e. ReplayEnds (F.holds files.now) (source_of (stores_in (T.is_known stores.now) (T.files stores.now)) (option_map (λ p. p.now) store.entry) config.now) steps.now (show_of show.entry) (V.refuses watch.old) e (V.watched watch.new) output.old output.new) }
+    ensures ok { OnOk result (ReportsReplay (F.holds files.now)
+        (source_of (stores_in (T.is_known stores.now) (T.files stores.now))
+        (option_map (λ p. p.now) store.entry) config.now) steps.now (show_of show.entry)
+        (V.watched watch.new) output.old output.new) }
+    ensures fault { IfErr result (λ e. ReplayEnds (F.holds files.now)
+        (source_of (stores_in (T.is_known stores.now) (T.files stores.now))
+        (option_map (λ p. p.now) store.entry) config.now) steps.now (show_of show.entry)
+        (V.refuses watch.old) e (V.watched watch.new) output.old output.new) }
     ensures untouched { IfErr result (λ e. (watch.new ≡ watch.old) ⊎ HasObserverFault e (V.watched watch.new).fault) }
 {
     let Config {

@@ -147,8 +147,10 @@ pub fn package_files<F: Files>(
     files: &F,
     paths: &[String],
 ) -> Result<Vec<Vec<u8>>, JobFault>
-    ensures packed { IfOk result (λ fs. ArePacked (F.holds files.now) (map (λ p. string_bytes p) paths.now) (map (λ f. f.items) fs.items)) }
-    ensures fault { IfErr result (λ e. (e ≡ JobFault.Memory) ⊎ PackagesFail (F.holds files.now) (map (λ p. string_bytes p) paths.now) e) }
+    ensures packed { IfOk result (λ fs. ArePacked (F.holds files.now)
+        (map (λ p. string_bytes p) paths.now) (map (λ f. f.items) fs.items)) }
+    ensures fault { IfErr result (λ e. (e ≡ JobFault.Memory)
+        ⊎ PackagesFail (F.holds files.now) (map (λ p. string_bytes p) paths.now) e) }
 {
     let mut contents = Vec::new(alloc);
     for path in paths {
@@ -196,10 +198,16 @@ pub(crate) fn read_kept<D: Folder + Drop, T: Stores<D>>(
     root: Option<&str>,
     devices: &mut Vec<DeviceConfig>,
 ) -> Result<(), JobFault>
-    ensures devices { OnOk result (AreDevices (option_map (stores_in (T.is_known stores.now) (T.files stores.now)) (option_map (λ p. p.now) root.entry)) (map device_of devices.old.items) (map device_of devices.new.items)) }
-    ensures whole { OnOk result ((agent : ℕ) → AreWhole agent (map device_of devices.old.items) → AreWhole agent (map device_of devices.new.items)) }
+    ensures devices { OnOk result (AreDevices (option_map (stores_in (T.is_known stores.now)
+        (T.files stores.now)) (option_map (λ p. p.now) root.entry))
+        (map device_of devices.old.items) (map device_of devices.new.items)) }
+    ensures whole { OnOk result ((agent : ℕ)
+        → AreWhole agent (map device_of devices.old.items)
+        → AreWhole agent (map device_of devices.new.items)) }
     ensures fault { IfErr result (λ e. (e ≡ JobFault.Memory)
-        ⊎ IsSomeAnd (option_map (stores_in (T.is_known stores.now) (T.files stores.now)) (option_map (λ p. p.now) root.entry)) (λ s. TellsUnopened s (map device_of devices.old.items) e)) }
+        ⊎ IsSomeAnd (option_map (stores_in (T.is_known stores.now) (T.files stores.now))
+        (option_map (λ p. p.now) root.entry)) (λ s. TellsUnopened s
+        (map device_of devices.old.items) e)) }
 {
     let Some(root) = root else {
         return Ok(());
@@ -222,9 +230,15 @@ pub(crate) fn open_kept<D: Folder + Drop, T: Stores<D>>(
     root: &str,
     devices: &mut Vec<DeviceConfig>,
 ) -> Result<StoreBanks<D>, JobFault>
-    ensures stocked { OnOk result (HaveStoredImages (stores_in (T.is_known stores.now) (T.files stores.now) root.now) (map device_of devices.old.items) (map device_of devices.new.items)) }
-    ensures whole { OnOk result ((agent : ℕ) → AreWhole agent (map device_of devices.old.items) → AreWhole agent (map device_of devices.new.items)) }
-    ensures fault { IfErr result (λ e. (e ≡ JobFault.Memory) ⊎ TellsUnopened (stores_in (T.is_known stores.now) (T.files stores.now) root.now) (map device_of devices.old.items) e) }
+    ensures stocked { OnOk result (HaveStoredImages (stores_in (T.is_known stores.now)
+        (T.files stores.now) root.now) (map device_of devices.old.items)
+        (map device_of devices.new.items)) }
+    ensures whole { OnOk result ((agent : ℕ)
+        → AreWhole agent (map device_of devices.old.items)
+        → AreWhole agent (map device_of devices.new.items)) }
+    ensures fault { IfErr result (λ e. (e ≡ JobFault.Memory)
+        ⊎ TellsUnopened (stores_in (T.is_known stores.now) (T.files stores.now) root.now)
+        (map device_of devices.old.items) e) }
 {
     match open_stores(alloc, stores, root, devices.as_mut_slice()) {
         Ok(banks) => Ok(banks),

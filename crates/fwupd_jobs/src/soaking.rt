@@ -63,7 +63,8 @@ fn judge<W: Write + Drop, P: OutputPlaces<W>>(
     places: &mut P,
 ) -> Result<(), JobFault>
     ensures ok { OnOk result (option_map (λ k. k.items) kept ≡ None) }
-    ensures fault { IfErr result (λ e. ReportsViolation (option_map (λ k. k.items) kept) (option_map (λ p. p.now) file.entry) e (P.is_known places.old) (P.held places.new)) }
+    ensures fault { IfErr result (λ e. ReportsViolation (option_map (λ k. k.items) kept)
+        (option_map (λ p. p.now) file.entry) e (P.is_known places.old) (P.held places.new)) }
     ensures left { P.is_begun places.old ≡ false → P.is_begun places.new ≡ false }
 {
     let Some(steps) = kept else {
@@ -98,8 +99,11 @@ pub fn soak_file<F: Files, V: SoakObserver, B: Write + Drop, P: OutputPlaces<B>,
     places: &mut P,
     output: &mut Output<W>,
 ) -> Result<(), JobFault>
-    ensures ok { OnOk result (SoaksClean (F.holds files.now) config.now order (option_map (λ p. p.now) file.entry) output.old output.new) }
-    ensures fault { IfErr result (λ e. SoakEnds (F.holds files.now) config.now order (option_map (λ p. p.now) file.entry) e (P.is_known places.old) (P.held places.new) output.old output.new) }
+    ensures ok { OnOk result (SoaksClean (F.holds files.now) config.now order
+        (option_map (λ p. p.now) file.entry) output.old output.new) }
+    ensures fault { IfErr result (λ e. SoakEnds (F.holds files.now) config.now order
+        (option_map (λ p. p.now) file.entry) e (P.is_known places.old) (P.held places.new)
+        output.old output.new) }
     ensures left { P.is_begun places.old ≡ false → P.is_begun places.new ≡ false }
 {
     let Config {

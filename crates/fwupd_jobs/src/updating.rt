@@ -46,7 +46,8 @@ pub trait Wires<L> {
     fn open(&mut self, unit: Unit, folder: &str, device: u8) -> Result<L, JobFault>
         ensures to { IfOk result (λ link. is_to unit folder.now device link ≡ true) }
         ensures same { lacks self.new ≡ lacks self.old }
-        ensures fault { IfErr result (λ e. (e ≡ JobFault.Memory) ⊎ ((e ≡ JobFault.Socket device) × (lacks self.old folder.now device ≡ true))) };
+        ensures fault { IfErr result (λ e. (e ≡ JobFault.Memory)
+            ⊎ ((e ≡ JobFault.Socket device) × (lacks self.old folder.now device ≡ true))) };
 }
 
 /// Opens a link to each device of a world, in configured order, each with the requested roughness
@@ -59,8 +60,10 @@ fn open_all<B: Bank + Drop, L: Link + Drop, S: Wires<L>>(
     wires: &mut S,
 ) -> Result<Vec<Rough<L>>, JobFault>
     ensures links { IfOk result (λ links. length links.items ≡ length world.now.sites) }
-    ensures each { IfOk result (λ links. HaveLinks (λ unit device link. S.is_to unit folder.now device link.link ≡ true) world.now.sites links.items) }
-    ensures rough { IfOk result (λ links. HaveLinks (λ unit device link. IsRoughLink roughness device link.roughness link.generator) world.now.sites links.items) }
+    ensures each { IfOk result (λ links. HaveLinks (λ unit device link. S.is_to unit folder.now
+        device link.link ≡ true) world.now.sites links.items) }
+    ensures rough { IfOk result (λ links. HaveLinks (λ unit device link. IsRoughLink roughness
+        device link.roughness link.generator) world.now.sites links.items) }
     ensures fault { IfErr result (λ e. (e ≡ JobFault.Memory) ⊎ IsUnlinked world.now (S.lacks wires.old folder.now) e) }
 {
     let mut links = Vec::new(alloc);
@@ -92,7 +95,9 @@ fn write_report<B: Bank + Drop, W: Write + Drop>(
     output: &mut Output<W>,
 ) -> Result<(), JobFault>
     ensures ok { OnOk result (WritesOutput output.old output.new (report_in form world.now)) }
-    ensures fault { IfErr result (λ e. ((e ≡ JobFault.Memory) × (output.new ≡ output.old)) ⊎ ((e ≡ JobFault.Output) × FailsToWriteOutput output.old output.new (report_in form world.now))) }
+    ensures fault { IfErr result (λ e. ((e ≡ JobFault.Memory) × (output.new ≡ output.old))
+        ⊎ ((e ≡ JobFault.Output)
+        × FailsToWriteOutput output.old output.new (report_in form world.now))) }
 {
     let Ok(text) = report_in(alloc, world, form) else {
         return Err(JobFault::Memory);
@@ -106,7 +111,9 @@ fn write_report<B: Bank + Drop, W: Write + Drop>(
 /// The first device whose link has failed.
 fn lost_device<B: Bank + Drop, L: Link>(world: &World<'_, B>, links: &[L]) -> Option<u8>
     ensures lost { IfSome result (λ device. IsLost world.now (map (λ l. (L.tally l).failures) links.now) device) }
-    ensures none { result ≡ None → length links.now ≡ length world.now.sites → AllByRecursion (λ n. n ≡ 0) (map (λ l. (L.tally l).failures) links.now) }
+    ensures none { result ≡ None
+        → length links.now ≡ length world.now.sites
+        → AllByRecursion (λ n. n ≡ 0) (map (λ l. (L.tally l).failures) links.now) }
 {
     for place in 0..links.len() {
         if links[place].failures() > 0 {
@@ -126,7 +133,10 @@ fn lose_failed<B: Bank + Drop, L: Link, V: Observer>(
     watch: &mut V,
 )
     ensures seen { (V.watched watch.new).seen ≡ (V.watched watch.old).seen }
-    ensures lost { length links.now ≡ length world.now.sites → AllByRecursion (λ n. n ≡ 0) (map (λ l. (L.tally l).failures) links.now) ⊎ TellsLost world.now (map (λ l. (L.tally l).failures) links.now) (V.watched watch.new).lost }
+    ensures lost { length links.now ≡ length world.now.sites
+        → AllByRecursion (λ n. n ≡ 0) (map (λ l. (L.tally l).failures) links.now)
+        ⊎ TellsLost world.now (map (λ l. (L.tally l).failures) links.now)
+        (V.watched watch.new).lost }
     ensures fault { (V.watched watch.new).fault ≡ (V.watched watch.old).fault }
     ensures history { (V.watched watch.new).history ≡ (V.watched watch.old).history }
     ensures recording { (V.watched watch.new).recording ≡ (V.watched watch.old).recording }
@@ -152,22 +162,32 @@ fn update_reporting<B: Bank + Drop, L: Link + Drop, V: Observer>(
     watch: &mut V,
 ) -> Result<(), JobFault>
     requires each { length links.old ≡ length world.old.sites }
-    requires rough { HaveLinks (λ unit device link. IsRoughLink order.roughness device link.roughness link.generator) world.old.sites links.old }
+    requires rough { HaveLinks (λ unit device link. IsRoughLink order.roughness device
+        link.roughness link.generator) world.old.sites links.old }
     ensures updated { OnOk result (UpdateOk order.number world.old world.new) }
     ensures reached { RunsSteps order.number world.old world.new }
     ensures seen { OnOk result ((V.watched watch.new).fault ≡ None) }
-    ensures recorded { OnOk result (IfSome (V.watched watch.old).recording IsNewRecording → IfSome (V.watched watch.new).recording (HasRecordedSteps world.old world.new)) }
-    ensures recorded_still { IfErr result (λ e. (V.watched watch.new).fault ≡ None → IfSome (V.watched watch.old).recording IsNewRecording → IfSome (V.watched watch.new).recording (HasRecordedSteps world.old world.new)) }
-    ensures history { OnOk result (HasHistoryLinesIfAny (V.watched watch.old).history world.old.history → HasHistoryLinesIfAny (V.watched watch.new).history world.new.history) }
-    ensures history_still { HasHistoryLinesIfAny (V.watched watch.old).history world.old.history → MayHaveHistoryLines (V.watched watch.new).history world.new.history }
+    ensures recorded { OnOk result (IfSome (V.watched watch.old).recording IsNewRecording
+        → IfSome (V.watched watch.new).recording (HasRecordedSteps world.old world.new)) }
+    ensures recorded_still { IfErr result (λ e. (V.watched watch.new).fault ≡ None
+        → IfSome (V.watched watch.old).recording IsNewRecording
+        → IfSome (V.watched watch.new).recording (HasRecordedSteps world.old world.new)) }
+    ensures history { OnOk result (HasHistoryLinesIfAny (V.watched watch.old).history
+        world.old.history
+        → HasHistoryLinesIfAny (V.watched watch.new).history world.new.history) }
+    ensures history_still { HasHistoryLinesIfAny (V.watched watch.old).history world.old.history
+        → MayHaveHistoryLines (V.watched watch.new).history world.new.history }
     ensures ended { (V.watched watch.new).has_ended ≡ true }
     ensures same { (V.watched watch.new).shows ≡ (V.watched watch.old).shows }
-    ensures turns { OnOk result ((V.watched watch.old).seen ≡ 0 → UpdatesDevices order.number world.old world.new (V.watched watch.new).seen) }
-    ensures lost { IfErr result (λ e. e ≡ JobFault.Edge EdgeFault.Frame → TellsLost world.new (map (λ l. l.tally.failures) links.new) (V.watched watch.new).lost) }
+    ensures turns { OnOk result ((V.watched watch.old).seen ≡ 0
+        → UpdatesDevices order.number world.old world.new (V.watched watch.new).seen) }
+    ensures lost { IfErr result (λ e. e ≡ JobFault.Edge EdgeFault.Frame
+        → TellsLost world.new (map (λ l. l.tally.failures) links.new) (V.watched watch.new).lost) }
     ensures none_lost { OnOk result ((V.watched watch.new).lost ≡ (V.watched watch.old).lost) }
     ensures fault { IfErr result (λ e. (e ≡ JobFault.Memory) ⊎ IsCaused order.number world.old world.new e (V.watched watch.new)) }
     ensures kept { OnOk result (map (λ l. l.tally.failures) links.new ≡ map (λ l. l.tally.failures) links.old) }
-    ensures failed { IfErr result (λ e. ReportsLinkFailures e (map (λ l. l.tally.failures) links.old) (map (λ l. l.tally.failures) links.new)) }
+    ensures failed { IfErr result (λ e. ReportsLinkFailures e
+        (map (λ l. l.tally.failures) links.old) (map (λ l. l.tally.failures) links.new)) }
     ensures sees { (V.watched watch.old).seen ≡ 0 → RunsStepsSeen order.number world.old world.new (V.watched watch.new).seen }
 {
     match update_observed(alloc, world, order.number, links, watch) {
@@ -194,12 +214,21 @@ fn update_over<B: Bank + Drop, L: Link + Drop, S: Wires<L>, V: Observer, W: Writ
 ) -> Result<Option<Undone>, JobFault>
     ensures updated { OnOk result (UpdateOk order.number world.old world.new) }
     ensures seen { OnOk result ((V.watched watch.new).fault ≡ None) }
-    ensures recorded { OnOk result (IfSome (V.watched watch.old).recording IsNewRecording → IfSome (V.watched watch.new).recording (HasRecordedSteps world.old world.new)) }
-    ensures recorded_still { IfErr result (λ e. IsBrokenRun e → (V.watched watch.new).fault ≡ None → IfSome (V.watched watch.old).recording IsNewRecording → IfSome (V.watched watch.new).recording (HasRecordedSteps world.old world.new)) }
-    ensures history { OnOk result (HasHistoryLinesIfAny (V.watched watch.old).history world.old.history → HasHistoryLinesIfAny (V.watched watch.new).history world.new.history) }
-    ensures history_still { IfErr result (λ e. IsBrokenRun e → HasHistoryLinesIfAny (V.watched watch.old).history world.old.history → MayHaveHistoryLines (V.watched watch.new).history world.new.history) }
+    ensures recorded { OnOk result (IfSome (V.watched watch.old).recording IsNewRecording
+        → IfSome (V.watched watch.new).recording (HasRecordedSteps world.old world.new)) }
+    ensures recorded_still { IfErr result (λ e. IsBrokenRun e
+        → (V.watched watch.new).fault ≡ None
+        → IfSome (V.watched watch.old).recording IsNewRecording
+        → IfSome (V.watched watch.new).recording (HasRecordedSteps world.old world.new)) }
+    ensures history { OnOk result (HasHistoryLinesIfAny (V.watched watch.old).history
+        world.old.history
+        → HasHistoryLinesIfAny (V.watched watch.new).history world.new.history) }
+    ensures history_still { IfErr result (λ e. IsBrokenRun e
+        → HasHistoryLinesIfAny (V.watched watch.old).history world.old.history
+        → MayHaveHistoryLines (V.watched watch.new).history world.new.history) }
     ensures let_end { OnOk result ((V.watched watch.new).has_ended ≡ true) }
-    ensures turns { OnOk result ((V.watched watch.old).seen ≡ 0 → UpdatesDevices order.number world.old world.new (V.watched watch.new).seen) }
+    ensures turns { OnOk result ((V.watched watch.old).seen ≡ 0
+        → UpdatesDevices order.number world.old world.new (V.watched watch.new).seen) }
     ensures lost { IfErr result (λ e. e ≡ JobFault.Edge EdgeFault.Frame → NamesLost world.new (V.watched watch.new).lost) }
     ensures none_lost { OnOk result ((V.watched watch.new).lost ≡ (V.watched watch.old).lost) }
     ensures unwritten { IfErr result (λ e. HasObserverFault e (V.watched watch.new).fault) }
@@ -208,7 +237,8 @@ fn update_over<B: Bank + Drop, L: Link + Drop, S: Wires<L>, V: Observer, W: Writ
     ensures undone { IfOk result (λ u. u ≡ undone_in world.new) }
     ensures reached { RunsSteps order.number world.old world.new }
     ensures sees { (V.watched watch.old).seen ≡ 0 → RunsStepsSeen order.number world.old world.new (V.watched watch.new).seen }
-    ensures fault { IfErr result (λ e. DrivingEnds order.number form (S.lacks wires.old folder.now) world.old world.new e (V.watched watch.new) output.old output.new) }
+    ensures fault { IfErr result (λ e. DrivingEnds order.number form (S.lacks wires.old folder.now)
+        world.old world.new e (V.watched watch.new) output.old output.new) }
 {
     let mut links = match open_all(alloc, world, folder, order.roughness, wires) {
         Ok(links) => links,
@@ -248,12 +278,19 @@ fn update_new<F: Files, B: Bank + Drop, L: Link + Drop, S: Wires<L>, V: Observer
     output: &mut Output<W>,
 ) -> Result<Option<Undone>, JobFault>
     requires { IsOpeningWorld world.old }
-    ensures ok { IfOk result (λ undone. (source : SourceOf) (named : IsNumberedSetup (F.holds files.now) source order.number world.old) → source.path ≡ config.now
+    ensures ok { IfOk result (λ undone. (source : SourceOf) (named : IsNumberedSetup
+        (F.holds files.now) source order.number world.old)
+        → source.path ≡ config.now
         → named.setup.config.packages ≡ map (λ p. string_bytes p) packages.now
-        → ReportsUpdate (F.holds files.now) source order.number (show_of show.entry) (V.watched watch.new) output.old output.new undone) }
-    ensures fault { IfErr result (λ e. (source : SourceOf) (named : IsNumberedSetup (F.holds files.now) source order.number world.old) → source.path ≡ config.now
+        → ReportsUpdate (F.holds files.now) source order.number (show_of show.entry)
+        (V.watched watch.new) output.old output.new undone) }
+    ensures fault { IfErr result (λ e. (source : SourceOf) (named : IsNumberedSetup
+        (F.holds files.now) source order.number world.old)
+        → source.path ≡ config.now
         → named.setup.config.packages ≡ map (λ p. string_bytes p) packages.now
-        → UpdateEnds (F.holds files.now) source order.number (show_of show.entry) (V.refuses watch.old) (S.lacks wires.old folder.now) e (V.watched watch.new) output.old output.new) }
+        → UpdateEnds (F.holds files.now) source order.number (show_of show.entry)
+        (V.refuses watch.old) (S.lacks wires.old folder.now) e (V.watched watch.new) output.old
+        output.new) }
     ensures untouched { IfErr result (λ e. (watch.new ≡ watch.old) ⊎ HasObserverFault e (V.watched watch.new).fault) }
     ensures stores { IfErr result (λ e. TellsStore e → ⊥) }
 {
@@ -304,8 +341,15 @@ pub fn update_files<
     watch: &mut V,
     output: &mut Output<W>,
 ) -> Result<Option<Undone>, JobFault>
-    ensures ok { IfOk result (λ undone. ReportsUpdate (F.holds files.now) (source_of (stores_in (T.is_known stores.now) (T.files stores.now)) (option_map (λ p. p.now) store.entry) config.now) order.number (show_of show.entry) (V.watched watch.new) output.old output.new undone) }
-    ensures fault { IfErr result (λ e. UpdateEnds (F.holds files.now) (source_of (stores_in (T.is_known stores.now) (T.files stores.now)) (option_map (λ p. p.now) store.entry) config.now) order.number (show_of show.entry) (V.refuses watch.old) (S.lacks wires.old folder.now) e (V.watched watch.new) output.old output.new) }
+    ensures ok { IfOk result (λ undone. ReportsUpdate (F.holds files.now)
+        (source_of (stores_in (T.is_known stores.now) (T.files stores.now))
+        (option_map (λ p. p.now) store.entry) config.now) order.number (show_of show.entry)
+        (V.watched watch.new) output.old output.new undone) }
+    ensures fault { IfErr result (λ e. UpdateEnds (F.holds files.now)
+        (source_of (stores_in (T.is_known stores.now) (T.files stores.now))
+        (option_map (λ p. p.now) store.entry) config.now) order.number (show_of show.entry)
+        (V.refuses watch.old) (S.lacks wires.old folder.now) e (V.watched watch.new) output.old
+        output.new) }
     ensures untouched { IfErr result (λ e. (watch.new ≡ watch.old) ⊎ HasObserverFault e (V.watched watch.new).fault) }
     ensures unopened { IfErr result (λ e. TellsStore e → (watch.new ≡ watch.old) × (wires.new ≡ wires.old)) }
 {

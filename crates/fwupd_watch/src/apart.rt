@@ -34,8 +34,14 @@ fn is_over<F: Files>(
     config: &str,
     packages: &[String],
 ) -> bool
-    ensures over { result ≡ true → IsOverUsed (F.holds files.now) (option_map (λ p. p.now) path.entry) (option_map (λ p. p.now) first.entry) (option_map (λ p. p.now) second.entry) (config.now ∷ map (λ p. string_bytes p) packages.now) }
-    ensures apart { result ≡ false → IsApartFromUsed (F.holds files.now) (option_map (λ p. p.now) path.entry) (option_map (λ p. p.now) first.entry) (option_map (λ p. p.now) second.entry) (config.now ∷ map (λ p. string_bytes p) packages.now) }
+    ensures over { result ≡ true
+        → IsOverUsed (F.holds files.now) (option_map (λ p. p.now) path.entry)
+        (option_map (λ p. p.now) first.entry) (option_map (λ p. p.now) second.entry)
+        (config.now ∷ map (λ p. string_bytes p) packages.now) }
+    ensures apart { result ≡ false
+        → IsApartFromUsed (F.holds files.now) (option_map (λ p. p.now) path.entry)
+        (option_map (λ p. p.now) first.entry) (option_map (λ p. p.now) second.entry)
+        (config.now ∷ map (λ p. string_bytes p) packages.now) }
 {
     let Some(path) = path else {
         return false;
@@ -56,8 +62,12 @@ fn is_in_store<F: Files>(
     path: Option<&str>,
     store: Option<&str>,
 ) -> Result<bool, AllocError>
-    ensures below { IfOk result (λ b. b ≡ true → IsInStore (F.holds files.now) (option_map (λ p. p.now) path.entry) (option_map (λ p. p.now) store.entry)) }
-    ensures outside { IfOk result (λ b. b ≡ false → IsOutOfStore (F.holds files.now) (option_map (λ p. p.now) path.entry) (option_map (λ p. p.now) store.entry)) }
+    ensures below { IfOk result (λ b. b ≡ true
+        → IsInStore (F.holds files.now) (option_map (λ p. p.now) path.entry)
+        (option_map (λ p. p.now) store.entry)) }
+    ensures outside { IfOk result (λ b. b ≡ false
+        → IsOutOfStore (F.holds files.now) (option_map (λ p. p.now) path.entry)
+        (option_map (λ p. p.now) store.entry)) }
 {
     match (path, store) {
         (Some(path), Some(store)) => files.is_below(alloc, path, store),
@@ -78,11 +88,17 @@ fn is_barred<F: Files>(
     store: Option<&str>,
 ) -> Result<bool, AllocError>
     ensures over { IfOk result (λ b. b ≡ true
-        → IsOverUsed (F.holds files.now) (option_map (λ p. p.now) path.entry) (option_map (λ p. p.now) first.entry) (option_map (λ p. p.now) second.entry) (config.now ∷ map (λ p. string_bytes p) packages.now)
-        ⊎ IsInStore (F.holds files.now) (option_map (λ p. p.now) path.entry) (option_map (λ p. p.now) store.entry)) }
+        → IsOverUsed (F.holds files.now) (option_map (λ p. p.now) path.entry)
+        (option_map (λ p. p.now) first.entry) (option_map (λ p. p.now) second.entry)
+        (config.now ∷ map (λ p. string_bytes p) packages.now)
+        ⊎ IsInStore (F.holds files.now) (option_map (λ p. p.now) path.entry)
+        (option_map (λ p. p.now) store.entry)) }
     ensures apart { IfOk result (λ b. b ≡ false
-        → IsApartFromUsed (F.holds files.now) (option_map (λ p. p.now) path.entry) (option_map (λ p. p.now) first.entry) (option_map (λ p. p.now) second.entry) (config.now ∷ map (λ p. string_bytes p) packages.now)
-        × IsOutOfStore (F.holds files.now) (option_map (λ p. p.now) path.entry) (option_map (λ p. p.now) store.entry)) }
+        → IsApartFromUsed (F.holds files.now) (option_map (λ p. p.now) path.entry)
+        (option_map (λ p. p.now) first.entry) (option_map (λ p. p.now) second.entry)
+        (config.now ∷ map (λ p. string_bytes p) packages.now)
+        × IsOutOfStore (F.holds files.now) (option_map (λ p. p.now) path.entry)
+        (option_map (λ p. p.now) store.entry)) }
 {
     if is_over(files, path, first, second, config, packages) {
         return Ok(true);
@@ -104,10 +120,12 @@ pub fn begin_apart<F: Files, V: Observer>(
     ensures anew { OnOk result (((V.watched watch.new).seen ≡ 0) × ((V.watched watch.new).lost ≡ None)) }
     ensures recording { OnOk result (IfSome (V.watched watch.new).recording IsNewRecording) }
     ensures history { OnOk result (IfSome (V.watched watch.new).history HasNoLines) }
-    ensures apart { OnOk result (IsApart (F.holds files.now) (show_of show.entry) (config.now ∷ map (λ p. string_bytes p) packages.now)) }
+    ensures apart { OnOk result (IsApart (F.holds files.now) (show_of show.entry)
+        (config.now ∷ map (λ p. string_bytes p) packages.now)) }
     ensures untouched { IfErr result (λ e. (watch.new ≡ watch.old) ⊎ HasObserverFault e (V.watched watch.new).fault) }
     ensures fault { IfErr result (λ e. (e ≡ JobFault.Memory)
-        ⊎ IsBarred (F.holds files.now) (V.refuses watch.old) (show_of show.entry) (config.now ∷ map (λ p. string_bytes p) packages.now) e (V.watched watch.new)) }
+        ⊎ IsBarred (F.holds files.now) (V.refuses watch.old) (show_of show.entry)
+        (config.now ∷ map (λ p. string_bytes p) packages.now) e (V.watched watch.new)) }
 {
     let store = show.store;
     match is_barred(

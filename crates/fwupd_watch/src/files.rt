@@ -276,7 +276,9 @@ pub fn is_same_file<F: Files>(files: &F, one: &str, other: &str) -> bool
 /// Returns whether an output, if there is one, may overwrite the file of another path.
 pub fn is_one_path<F: Files>(files: &F, path: Option<&str>, other: &str) -> bool
     ensures over { result ≡ true → IsSomeAnd (option_map (λ p. p.now) path.entry) (λ p. IsOver (F.holds files.now) p other.now) }
-    ensures apart { result ≡ false → IfSome (option_map (λ p. p.now) path.entry) (λ p. IsApartFrom (F.holds files.now) p other.now) }
+    ensures apart { result ≡ false
+        → IfSome (option_map (λ p. p.now) path.entry) (λ p. IsApartFrom (F.holds files.now) p
+        other.now) }
 {
     match path {
         Some(path) => is_same_file(files, other, path),
@@ -287,7 +289,9 @@ pub fn is_one_path<F: Files>(files: &F, path: Option<&str>, other: &str) -> bool
 /// Returns whether a path may name one of the other files.
 pub fn is_one_of<F: Files>(files: &F, path: &str, others: &[String]) -> bool
     ensures over { result ≡ true → IsOverOne (F.holds files.now) path.now (map (λ p. string_bytes p) others.now) }
-    ensures apart { result ≡ false → AllByRecursion (IsApartFrom (F.holds files.now) path.now) (map (λ p. string_bytes p) others.now) }
+    ensures apart { result ≡ false
+        → AllByRecursion (IsApartFrom (F.holds files.now) path.now)
+        (map (λ p. string_bytes p) others.now) }
 {
     for other in others {
         if is_same_file(files, other, path) {
@@ -300,7 +304,9 @@ pub fn is_one_of<F: Files>(files: &F, path: &str, others: &[String]) -> bool
 /// Returns whether a path may name an input of a run: its configuration, or one of its packages.
 pub fn is_read<F: Files>(files: &F, path: &str, config: &str, packages: &[String]) -> bool
     ensures over { result ≡ true → IsOverOne (F.holds files.now) path.now (config.now ∷ map (λ p. string_bytes p) packages.now) }
-    ensures apart { result ≡ false → AllByRecursion (IsApartFrom (F.holds files.now) path.now) (config.now ∷ map (λ p. string_bytes p) packages.now) }
+    ensures apart { result ≡ false
+        → AllByRecursion (IsApartFrom (F.holds files.now) path.now)
+        (config.now ∷ map (λ p. string_bytes p) packages.now) }
 {
     is_same_file(files, config, path) || is_one_of(files, path, packages)
 }
@@ -312,8 +318,12 @@ pub fn is_over_read<F: Files>(
     config: &str,
     packages: &[String],
 ) -> bool
-    ensures over { result ≡ true → IsSomeAnd (option_map (λ p. p.now) path.entry) (λ p. IsOverOne (F.holds files.now) p (config.now ∷ map (λ p. string_bytes p) packages.now)) }
-    ensures apart { result ≡ false → IfSome (option_map (λ p. p.now) path.entry) (λ p. AllByRecursion (IsApartFrom (F.holds files.now) p) (config.now ∷ map (λ p. string_bytes p) packages.now)) }
+    ensures over { result ≡ true
+        → IsSomeAnd (option_map (λ p. p.now) path.entry) (λ p. IsOverOne (F.holds files.now) p
+        (config.now ∷ map (λ p. string_bytes p) packages.now)) }
+    ensures apart { result ≡ false
+        → IfSome (option_map (λ p. p.now) path.entry) (λ p. AllByRecursion
+        (IsApartFrom (F.holds files.now) p) (config.now ∷ map (λ p. string_bytes p) packages.now)) }
 {
     match path {
         Some(path) => is_read(files, path, config, packages),

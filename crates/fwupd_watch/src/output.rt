@@ -91,7 +91,8 @@ impl<W: Write + Drop> Output<W> {
         endpoint: &Endpoint,
     ) -> Result<(), JobFault>
         ensures ok { OnOk result (AnswersAll endpoint.now (R.remaining reader.old) (R.remaining reader.new) self.old self.new) }
-        ensures fault { IfErr result (λ e. AnswerEnds endpoint.now (R.remaining reader.old) (R.remaining reader.new) e self.old self.new) }
+        ensures fault { IfErr result (λ e. AnswerEnds endpoint.now (R.remaining reader.old)
+            (R.remaining reader.new) e self.old self.new) }
     {
         if self.is_broken {
             return Err(JobFault::Answer(AnswerFault::Write));

@@ -96,7 +96,10 @@ impl<W: Write + Drop> Recording<W> {
     /// memory is refused.
     pub fn note(&mut self, steps: &[Step]) -> Result<(), ObserverFault>
         ensures fault { IfErr result (λ e. (e ≡ ObserverFault.Memory) ⊎ (e ≡ ObserverFault.Unrecorded)) }
-        ensures noted { (begun : Option (List ℕ)) → OnOk result (RecordsSteps (recording_of begun (writer_contents W.contents self.old.writer) self.old.text) (recording_of begun (writer_contents W.contents self.new.writer) self.new.text) steps.now) }
+        ensures noted { (begun : Option (List ℕ))
+            → OnOk result (RecordsSteps (recording_of begun (writer_contents W.contents
+            self.old.writer) self.old.text) (recording_of begun
+            (writer_contents W.contents self.new.writer) self.new.text) steps.now) }
     {
         if !are_said(steps) {
             return Err(ObserverFault::Unrecorded);
@@ -117,7 +120,10 @@ impl<W: Write + Drop> Recording<W> {
     /// `Unrecorded` if they can't be written, or `Memory` if memory is refused.
     pub fn end(&mut self) -> Result<(), ObserverFault>
         ensures fault { IfErr result (λ e. (e ≡ ObserverFault.Memory) ⊎ (e ≡ ObserverFault.Unrecorded)) }
-        ensures ended { (begun : Option (List ℕ)) → OnOk result (WritesHeldTicks (recording_of begun (writer_contents W.contents self.old.writer) self.old.text) (recording_of begun (writer_contents W.contents self.new.writer) self.new.text)) }
+        ensures ended { (begun : Option (List ℕ))
+            → OnOk result (WritesHeldTicks (recording_of begun
+            (writer_contents W.contents self.old.writer) self.old.text)
+            (recording_of begun (writer_contents W.contents self.new.writer) self.new.text)) }
         ensures all { OnOk result (writer_buffer self.new.writer ≡ []) }
     {
         let mut text = Vec::new(self.alloc);

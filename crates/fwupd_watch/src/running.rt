@@ -54,7 +54,8 @@ pub trait Observer {
         ensures recording { OnOk result (IfSome (watched self.new).recording IsNewRecording) }
         ensures history { OnOk result (IfSome (watched self.new).history HasNoLines) }
         ensures err { IfErr result (λ e. (watched self.new).fault ≡ Some e) }
-        ensures refused { IfErr result (λ e. e ≢ ObserverFault.Memory → MayRefuse (refuses self.old) (show_of show.entry) (job_fault_of_observer e)) };
+        ensures refused { IfErr result (λ e. e ≢ ObserverFault.Memory
+            → MayRefuse (refuses self.old) (show_of show.entry) (job_fault_of_observer e)) };
 
     /// Records the steps that were taken, if that is requested.
     ///
@@ -65,7 +66,9 @@ pub trait Observer {
         ensures ok { OnOk result ((watched self.new).fault ≡ None) }
         ensures err { IfErr result (λ e. (watched self.new).fault ≡ Some e) }
         ensures first { IfSome (watched self.old).fault (λ f. result ≡ Err f) }
-        ensures cause { IfErr result (λ e. (watched self.old).fault ≡ None → (e ≡ ObserverFault.Memory) ⊎ ((e ≡ ObserverFault.Unrecorded) × ((watched self.old).shows.is_recorded ≡ true))) }
+        ensures cause { IfErr result (λ e. (watched self.old).fault ≡ None
+            → (e ≡ ObserverFault.Memory)
+            ⊎ ((e ≡ ObserverFault.Unrecorded) × ((watched self.old).shows.is_recorded ≡ true))) }
         ensures noted { OnOk result (RecordsStepsIfAny (watched self.old).recording (watched self.new).recording steps.now) }
         ensures history { (watched self.new).history ≡ (watched self.old).history }
         ensures same { (watched self.new).shows ≡ (watched self.old).shows }
@@ -198,7 +201,9 @@ fn broken_off<B: Bank + Drop, V: Observer>(
     fault: EdgeFault,
 ) -> JobFault
     ensures told { result ≡ job_fault_of fault }
-    ensures noted { (V.watched watch.new).fault ≡ None → RecordsStepsIfAny (V.watched watch.old).recording (V.watched watch.new).recording steps.now }
+    ensures noted { (V.watched watch.new).fault ≡ None
+        → RecordsStepsIfAny (V.watched watch.old).recording (V.watched watch.new).recording
+        steps.now }
     ensures history_still { MayAppendToHistory (V.watched watch.old).history (V.watched watch.new).history world.now.history }
     ensures same { (V.watched watch.new).shows ≡ (V.watched watch.old).shows }
     ensures seen { CountsOne (V.watched watch.old).seen (V.watched watch.new).seen }
@@ -227,17 +232,27 @@ pub fn update_all<B: Bank + Drop, L: Link, V: Observer>(
     ensures reached { RunsSteps number world.old world.new }
     ensures fault { IfErr result MayEnd }
     ensures kept { OnOk result (map (λ l. (L.tally l).failures) links.new ≡ map (λ l. (L.tally l).failures) links.old) }
-    ensures failed { IfErr result (λ e. ReportsLinkFailures e (map (λ l. (L.tally l).failures) links.old) (map (λ l. (L.tally l).failures) links.new)) }
-    ensures step { IfErr result (λ e. e ≡ JobFault.Edge EdgeFault.Step → IsRefusedStart number world.old world.new ⊎ (world.new.now ≡ 2 ^ 32 - 1)) }
-    ensures sent { OnOk result (AllSent (packet_counts world.old.sites) (packet_counts world.new.sites) (map (λ l. (L.tally l).sent) links.old) (map (λ l. (L.tally l).sent) links.new)) }
+    ensures failed { IfErr result (λ e. ReportsLinkFailures e
+        (map (λ l. (L.tally l).failures) links.old) (map (λ l. (L.tally l).failures) links.new)) }
+    ensures step { IfErr result (λ e. e ≡ JobFault.Edge EdgeFault.Step
+        → IsRefusedStart number world.old world.new ⊎ (world.new.now ≡ 2 ^ 32 - 1)) }
+    ensures sent { OnOk result (AllSent (packet_counts world.old.sites)
+        (packet_counts world.new.sites) (map (λ l. (L.tally l).sent) links.old)
+        (map (λ l. (L.tally l).sent) links.new)) }
     ensures devices { length links.new ≡ length world.new.sites }
     ensures unwritten { IfErr result (λ e. HasObserverFault e (V.watched watch.new).fault) }
     ensures noted { OnOk result (RecordsRun world.old world.new (V.watched watch.old).recording (V.watched watch.new).recording) }
-    ensures noted_still { IfErr result (λ e. (V.watched watch.new).fault ≡ None → RecordsRun world.old world.new (V.watched watch.old).recording (V.watched watch.new).recording) }
-    ensures history { OnOk result (HasHistoryLinesIfAny (V.watched watch.old).history world.old.history → HasHistoryLinesIfAny (V.watched watch.new).history world.new.history) }
-    ensures history_still { HasHistoryLinesIfAny (V.watched watch.old).history world.old.history → MayHaveHistoryLines (V.watched watch.new).history world.new.history }
+    ensures noted_still { IfErr result (λ e. (V.watched watch.new).fault ≡ None
+        → RecordsRun world.old world.new (V.watched watch.old).recording
+        (V.watched watch.new).recording) }
+    ensures history { OnOk result (HasHistoryLinesIfAny (V.watched watch.old).history
+        world.old.history
+        → HasHistoryLinesIfAny (V.watched watch.new).history world.new.history) }
+    ensures history_still { HasHistoryLinesIfAny (V.watched watch.old).history world.old.history
+        → MayHaveHistoryLines (V.watched watch.new).history world.new.history }
     ensures same { (V.watched watch.new).shows ≡ (V.watched watch.old).shows }
-    ensures turns { OnOk result ((V.watched watch.old).seen ≡ 0 → UpdatesDevices number world.old world.new (V.watched watch.new).seen) }
+    ensures turns { OnOk result ((V.watched watch.old).seen ≡ 0
+        → UpdatesDevices number world.old world.new (V.watched watch.new).seen) }
     ensures sees { (V.watched watch.old).seen ≡ 0 → RunsStepsSeen number world.old world.new (V.watched watch.new).seen }
     ensures lost { (V.watched watch.new).lost ≡ (V.watched watch.old).lost }
 {
@@ -287,20 +302,30 @@ pub fn update_observed<B: Bank + Drop, L: Link, V: Observer>(
     ensures updated { OnOk result (UpdateOk number world.old world.new) }
     ensures reached { RunsSteps number world.old world.new }
     ensures seen { OnOk result ((V.watched watch.new).fault ≡ None) }
-    ensures recorded { OnOk result (IfSome (V.watched watch.old).recording IsNewRecording → IfSome (V.watched watch.new).recording (HasRecordedSteps world.old world.new)) }
-    ensures recorded_still { IfErr result (λ e. (V.watched watch.new).fault ≡ None → IfSome (V.watched watch.old).recording IsNewRecording → IfSome (V.watched watch.new).recording (HasRecordedSteps world.old world.new)) }
-    ensures history { OnOk result (HasHistoryLinesIfAny (V.watched watch.old).history world.old.history → HasHistoryLinesIfAny (V.watched watch.new).history world.new.history) }
-    ensures history_still { HasHistoryLinesIfAny (V.watched watch.old).history world.old.history → MayHaveHistoryLines (V.watched watch.new).history world.new.history }
+    ensures recorded { OnOk result (IfSome (V.watched watch.old).recording IsNewRecording
+        → IfSome (V.watched watch.new).recording (HasRecordedSteps world.old world.new)) }
+    ensures recorded_still { IfErr result (λ e. (V.watched watch.new).fault ≡ None
+        → IfSome (V.watched watch.old).recording IsNewRecording
+        → IfSome (V.watched watch.new).recording (HasRecordedSteps world.old world.new)) }
+    ensures history { OnOk result (HasHistoryLinesIfAny (V.watched watch.old).history
+        world.old.history
+        → HasHistoryLinesIfAny (V.watched watch.new).history world.new.history) }
+    ensures history_still { HasHistoryLinesIfAny (V.watched watch.old).history world.old.history
+        → MayHaveHistoryLines (V.watched watch.new).history world.new.history }
     ensures ended { (V.watched watch.new).has_ended ≡ true }
     ensures devices { length links.new ≡ length world.new.sites }
     ensures same { (V.watched watch.new).shows ≡ (V.watched watch.old).shows }
-    ensures turns { OnOk result ((V.watched watch.old).seen ≡ 0 → UpdatesDevices number world.old world.new (V.watched watch.new).seen) }
+    ensures turns { OnOk result ((V.watched watch.old).seen ≡ 0
+        → UpdatesDevices number world.old world.new (V.watched watch.new).seen) }
     ensures sees { (V.watched watch.old).seen ≡ 0 → RunsStepsSeen number world.old world.new (V.watched watch.new).seen }
     ensures lost { (V.watched watch.new).lost ≡ (V.watched watch.old).lost }
     ensures fault { IfErr result (λ e. (e ≡ JobFault.Memory) ⊎ IsCaused number world.old world.new e (V.watched watch.new)) }
     ensures kept { OnOk result (map (λ l. (L.tally l).failures) links.new ≡ map (λ l. (L.tally l).failures) links.old) }
-    ensures failed { IfErr result (λ e. ReportsLinkFailures e (map (λ l. (L.tally l).failures) links.old) (map (λ l. (L.tally l).failures) links.new)) }
-    ensures sent { OnOk result (AllSent (packet_counts world.old.sites) (packet_counts world.new.sites) (map (λ l. (L.tally l).sent) links.old) (map (λ l. (L.tally l).sent) links.new)) }
+    ensures failed { IfErr result (λ e. ReportsLinkFailures e
+        (map (λ l. (L.tally l).failures) links.old) (map (λ l. (L.tally l).failures) links.new)) }
+    ensures sent { OnOk result (AllSent (packet_counts world.old.sites)
+        (packet_counts world.new.sites) (map (λ l. (L.tally l).sent) links.old)
+        (map (λ l. (L.tally l).sent) links.new)) }
 {
     schedules_read_back();
     let end = update_all(alloc, world, number, links, watch);

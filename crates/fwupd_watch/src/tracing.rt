@@ -82,7 +82,8 @@ fn push_packet(
     number: usize,
     packet: &DatedPacket<'_>,
 ) -> Result<(), AllocError>
-    ensures text { OnOk result (AppendsText text.old.items text.new.items (packet_text form reader.old device number (sent_of packet.now))) }
+    ensures text { OnOk result (AppendsText text.old.items text.new.items
+        (packet_text form reader.old device number (sent_of packet.now))) }
     ensures after { OnOk result (reader.new ≡ reader_next form reader.old (sent_of packet.now)) }
 {
     match form {
@@ -147,11 +148,13 @@ fn write_pair<B: Bank + Drop, W: Write>(
     reader: &mut PacketReader,
     writer: &mut W,
 ) -> Result<usize, ObserverFault>
-    ensures lines { OnOk result (Appends (W.contents writer.old) (W.contents writer.new) (pair_text form (Some reader.old) (slice_get world.now.sites place) written)) }
+    ensures lines { OnOk result (Appends (W.contents writer.old) (W.contents writer.new)
+        (pair_text form (Some reader.old) (slice_get world.now.sites place) written)) }
     ensures read { OnOk result (reader.new ≡ reader_of_pair form reader.old (slice_get world.now.sites place) written) }
     ensures count { IfOk result (λ n. IfSome (slice_get world.now.sites place) (λ x. n ≡ length x.packets)) }
     ensures fault { IfErr result (λ e. (e ≡ ObserverFault.Memory) ⊎ (e ≡ ObserverFault.Unwritten)) }
-    ensures unwritten { IfErr result (λ e. e ≡ ObserverFault.Unwritten → reader.new ≡ reader_of_pair form reader.old (slice_get world.now.sites place) written) }
+    ensures unwritten { IfErr result (λ e. e ≡ ObserverFault.Unwritten
+        → reader.new ≡ reader_of_pair form reader.old (slice_get world.now.sites place) written) }
 {
     let (Some(node), Some(packets)) = (world.device_at(place), world.packets_at(place)) else {
         return Ok(0);
@@ -197,7 +200,8 @@ fn write_pairs<B: Bank + Drop, W: Write>(
     writer: &mut W,
 ) -> Result<ArrayVec<usize, 16>, ObserverFault>
     requires { length world.now.sites ≤ length readers.old }
-    ensures lines { OnOk result (Appends (W.contents writer.old) (W.contents writer.new) (pairs_text form readers.old written.now world.now.sites (length world.now.sites))) }
+    ensures lines { OnOk result (Appends (W.contents writer.old) (W.contents writer.new)
+        (pairs_text form readers.old written.now world.now.sites (length world.now.sites))) }
     ensures counts { IfOk result (λ counts. counts.items ≡ packet_counts world.now.sites) }
     ensures read { OnOk result (ReadOn form written.now world.now.sites (length world.now.sites) readers.old readers.new) }
     ensures fault { IfErr result (λ e. (e ≡ ObserverFault.Memory) ⊎ (e ≡ ObserverFault.Unwritten)) }
@@ -247,7 +251,8 @@ impl<W: Write + Drop> Trace<W> {
         ensures unread { IfOk result (λ t. t.readers.items ≡ []) }
         ensures form { IfOk result (λ t. t.form ≡ form) }
         ensures head { IfOk result (λ t. Appends (W.contents writer) (writer_contents W.contents t.writer) (head_of form)) }
-        ensures traced { IfOk result (λ t. HasTracedWorlds form [] t.written.items t.readers.items (W.contents writer) (writer_contents W.contents t.writer)) }
+        ensures traced { IfOk result (λ t. HasTracedWorlds form [] t.written.items t.readers.items
+            (W.contents writer) (writer_contents W.contents t.writer)) }
         ensures fault { IfErr result (λ e. (e ≡ ObserverFault.Memory) ⊎ (e ≡ ObserverFault.Unwritten)) }
     {
         let Ok(mut writer) = BufWriter::new(alloc, writer) else {
@@ -272,14 +277,22 @@ impl<W: Write + Drop> Trace<W> {
     /// # Errors
     /// `Unwritten` if they can't be written, or `Memory` if memory is refused.
     pub fn see<B: Bank + Drop>(&mut self, world: &World<'_, B>) -> Result<(), ObserverFault>
-        ensures lines { OnOk result (Appends (writer_contents W.contents self.old.writer) (writer_contents W.contents self.new.writer)
-            (pairs_text self.old.form (readers_for self.old.readers.items world.now) self.old.written.items world.now.sites (length world.now.sites))) }
+        ensures lines { OnOk result (Appends (writer_contents W.contents self.old.writer)
+            (writer_contents W.contents self.new.writer) (pairs_text self.old.form
+            (readers_for self.old.readers.items world.now) self.old.written.items world.now.sites
+            (length world.now.sites))) }
         ensures counts { OnOk result (self.new.written.items ≡ packet_counts world.now.sites) }
-        ensures read { OnOk result ((seen : List WorldOf) → HasReadWorlds self.old.form seen self.old.written.items self.old.readers.items → ContinuesPairsIfAny seen world.now
-            → HasReadWorlds self.old.form (world.now ∷ seen) self.new.written.items self.new.readers.items) }
+        ensures read { OnOk result ((seen : List WorldOf)
+            → HasReadWorlds self.old.form seen self.old.written.items self.old.readers.items
+            → ContinuesPairsIfAny seen world.now
+            → HasReadWorlds self.old.form (world.now ∷ seen) self.new.written.items
+            self.new.readers.items) }
         ensures traced { OnOk result ((seen : List WorldOf) (before : Option (List ℕ))
-            → HasTracedWorlds self.old.form seen self.old.written.items self.old.readers.items before (writer_contents W.contents self.old.writer) → ContinuesPairsIfAny seen world.now
-            → HasTracedWorlds self.old.form (world.now ∷ seen) self.new.written.items self.new.readers.items before (writer_contents W.contents self.new.writer)) }
+            → HasTracedWorlds self.old.form seen self.old.written.items self.old.readers.items
+            before (writer_contents W.contents self.old.writer)
+            → ContinuesPairsIfAny seen world.now
+            → HasTracedWorlds self.old.form (world.now ∷ seen) self.new.written.items
+            self.new.readers.items before (writer_contents W.contents self.new.writer)) }
         ensures form { self.new.form ≡ self.old.form }
         ensures fault { IfErr result (λ e. (e ≡ ObserverFault.Memory) ⊎ (e ≡ ObserverFault.Unwritten)) }
     {

@@ -16,7 +16,9 @@ use std::alloc::{AllocError, Global};
 
 /// Adds options and arguments to a command.
 fn with_args<'a>(command: Command<'a>, args: Vec<Arg<'a>>) -> Result<Command<'a>, AllocError>
-    ensures { are_simple (map rule_of args.entry.items) ≡ true → IfOk result (λ c. app_of c ≡ with_rules (app_of command.entry) (map rule_of args.entry.items)) }
+    ensures { are_simple (map rule_of args.entry.items) ≡ true
+        → IfOk result (λ c. app_of c ≡ with_rules (app_of command.entry)
+        (map rule_of args.entry.items)) }
 {
     command.args(args)
 }
@@ -232,7 +234,8 @@ fn program<'a>(alloc: Global) -> Command<'a>
 
 /// A command with one more subcommand.
 fn with_one<'a>(command: Command<'a>, one: Command<'a>) -> Result<Command<'a>, AllocError>
-    ensures { is_plain (app_of one.entry) ≡ true → IfOk result (λ c. app_of c ≡ with_one (app_of command.entry) (app_of one.entry)) }
+    ensures { is_plain (app_of one.entry) ≡ true
+        → IfOk result (λ c. app_of c ≡ with_one (app_of command.entry) (app_of one.entry)) }
 {
     command.subcommand(one)
 }

@@ -82,7 +82,8 @@ feed_outcome_for (Some cause) last m = outcomes.Dropped cause
 feed_outcome_for None true m = outcomes.Whole m
 feed_outcome_for None false m = outcomes.Open
 
--- the packets are held if the message isn't complete; in each other case nothing is held
+-- the packets are held if the last one isn't dropped and the message isn't complete; in each other
+-- case nothing is held
 abbrev pub held_as : Option DropCause → Bool → List PacketOf → Option Held
 held_as None false ps = Some (record { packets = ps; age = 0 })
 held_as _ last ps = None

@@ -40,9 +40,16 @@ impl Model for Assembly {
 
     ghost Value = { AssemblyOf };
 
-    ghost view = { λ a. record { unit = a.unit; held = held_of a.unit (record { dest = a.dest; source = a.source; to = a.to; tag = a.tag }) a.bytes.items a.pieces a.age } };
+    ghost view = { λ a. record {
+      unit = a.unit;
+      held = held_of a.unit (record { dest = a.dest; source = a.source; to = a.to; tag = a.tag })
+          a.bytes.items a.pieces a.age;
+    } };
 
-    ghost invariant = { λ a. (a.tag ≤ 7) × (a.age ≤ 8) × (a.pieces ≤ MAX_PACKETS) × (length a.bytes.items ≡ bytes_of a.unit * a.pieces) };
+    ghost invariant = { λ a. (a.tag ≤ 7)
+        × (a.age ≤ 8)
+        × (a.pieces ≤ MAX_PACKETS)
+        × (length a.bytes.items ≡ bytes_of a.unit * a.pieces) };
 }
 
 impl Assembly {
@@ -153,8 +160,15 @@ impl Assembly {
         requires tag { packet.now.head.tag ≤ 7 }
         requires same { (packet.now.head.som ≡ true) ⊎ IsOfHeldMessage (packets_of self.old.held) packet.now.head }
         ensures answer { result ≡ feed_outcome self.old.unit self.old.held (packet_of packet.now.head packet.now.body.now) }
-        ensures after { self.new ≡ record self.old { held = held_after self.old.unit self.old.held (packet_of packet.now.head packet.now.body.now) } }
-        ensures exact { (m : MessageOf) → IsMessage self.old.unit m → (result ≡ Fed.Whole m) ↔ (packets_with self.old.held (packet_of packet.now.head packet.now.body.now) ≡ pieces self.old.unit m) }
+        ensures after { self.new ≡ record self.old {
+          held = held_after self.old.unit self.old.held (packet_of packet.now.head
+              packet.now.body.now);
+        } }
+        ensures exact { (m : MessageOf)
+            → IsMessage self.old.unit m
+            → (result ≡ Fed.Whole m)
+            ↔ (packets_with self.old.held (packet_of packet.now.head packet.now.body.now)
+            ≡ pieces self.old.unit m) }
     {
         let mut whole = Message::blank();
         match self.take(packet, &mut whole) {
@@ -170,11 +184,18 @@ impl Assembly {
         requires body { (1 ≤ length packet.now.body.now) × (length packet.now.body.now ≤ bytes_of self.old.unit) }
         requires tag { packet.now.head.tag ≤ 7 }
         requires same { (packet.now.head.som ≡ true) ⊎ IsOfHeldMessage (packets_of self.old.held) packet.now.head }
-        ensures answer { fed_of result whole.new ≡ feed_outcome self.old.unit self.old.held (packet_of packet.now.head packet.now.body.now) }
+        ensures answer { fed_of result whole.new
+            ≡ feed_outcome self.old.unit self.old.held (packet_of packet.now.head
+            packet.now.body.now) }
         ensures whole { KeepsMessageUnlessWhole result whole.old whole.new }
-        ensures after { self.new ≡ record self.old { held = held_after self.old.unit self.old.held (packet_of packet.now.head packet.now.body.now) } }
+        ensures after { self.new ≡ record self.old {
+          held = held_after self.old.unit self.old.held (packet_of packet.now.head
+              packet.now.body.now);
+        } }
         ensures lawful { IsHeld self.old.unit self.old.held }
-        ensures joins { IfNone (cause_of self.old.unit self.old.held (packet_of packet.now.head packet.now.body.now)) (FollowsPackets (base_of self.old.held packet.now.head) packet.now.head) }
+        ensures joins { IfNone (cause_of self.old.unit self.old.held
+            (packet_of packet.now.head packet.now.body.now))
+            (FollowsPackets (base_of self.old.held packet.now.head) packet.now.head) }
     {
         let cause = self.cause(packet);
         if packet.head.som || cause.is_some() {
@@ -197,7 +218,8 @@ impl Assembly {
         requires room { length (packets_of self.old.held) < MAX_PACKETS }
         requires body { (1 ≤ length packet.now.body.now) × (length packet.now.body.now ≤ bytes_of self.old.unit) }
         requires tag { packet.now.head.tag ≤ 7 }
-        ensures whole { whole.new ≡ message_of packet.now.head (packets_of self.old.held ++ packet_of packet.now.head packet.now.body.now ∷ []) }
+        ensures whole { whole.new ≡ message_of packet.now.head
+            (packets_of self.old.held ++ packet_of packet.now.head packet.now.body.now ∷ []) }
         ensures empty { self.new ≡ record self.old { held = None } }
     {
         whole.dest = packet.head.dest;
@@ -218,7 +240,13 @@ impl Assembly {
         requires tag { packet.now.head.tag ≤ 7 }
         requires eom { packet.now.head.eom ≡ false }
         requires same { IsOfHeldMessage (packets_of self.old.held) packet.now.head }
-        ensures { self.new ≡ record self.old { held = Some (record { packets = packets_of self.old.held ++ packet_of packet.now.head packet.now.body.now ∷ []; age = 0 }) } }
+        ensures { self.new ≡ record self.old {
+          held = Some (record {
+            packets = packets_of self.old.held ++ packet_of packet.now.head packet.now.body.now
+                ∷ [];
+            age = 0;
+          });
+        } }
     {
         self.dest = packet.head.dest;
         self.source = packet.head.source;

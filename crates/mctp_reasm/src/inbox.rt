@@ -33,7 +33,14 @@ impl Model for Inbox {
 
     ghost view = { λ b. record { unit = b.unit; own = b.own; peer = b.peer; to = b.to; held = held_in b.places } };
 
-    ghost invariant = { λ b. IsInbox (record { unit = b.unit; own = b.own; peer = b.peer; to = b.to; held = held_in b.places }) × HaveUnit b.unit b.places };
+    ghost invariant = { λ b. IsInbox (record {
+      unit = b.unit;
+      own = b.own;
+      peer = b.peer;
+      to = b.to;
+      held = held_in b.places;
+    })
+        × HaveUnit b.unit b.places };
 }
 
 impl Inbox {
@@ -95,8 +102,12 @@ impl Inbox {
     #[tactic(auto, using(crate::proofs::Heard::heard))]
     pub fn accepts(&self, packet: &Packet<'_>) -> bool
         requires read { IsRead packet.now }
-        ensures heard { result ≡ true → packet_for self.now.unit self.now.own self.now.peer self.now.to (spelling packet.now) ≡ Some (packet_of packet.now.head packet.now.body.now) }
-        ensures other { result ≡ false → packet_for self.now.unit self.now.own self.now.peer self.now.to (spelling packet.now) ≡ None }
+        ensures heard { result ≡ true
+            → packet_for self.now.unit self.now.own self.now.peer self.now.to (spelling packet.now)
+            ≡ Some (packet_of packet.now.head packet.now.body.now) }
+        ensures other { result ≡ false
+            → packet_for self.now.unit self.now.own self.now.peer self.now.to (spelling packet.now)
+            ≡ None }
         ensures mine { result ≡ true → is_for self.now.own self.now.peer self.now.to packet.now.head ≡ true }
         ensures fits { result ≡ true → length packet.now.body.now ≤ bytes_of self.now.unit }
     {
@@ -113,9 +124,14 @@ impl Inbox {
         requires mine { is_for self.old.own self.old.peer self.old.to packet.now.head ≡ true }
         requires body { (1 ≤ length packet.now.body.now) × (length packet.now.body.now ≤ bytes_of self.old.unit) }
         requires tag { packet.now.head.tag ≤ 7 }
-        ensures answer { fed_of result whole.new ≡ feed_outcome_at self.old.unit self.old.held (packet_of packet.now.head packet.now.body.now) }
+        ensures answer { fed_of result whole.new
+            ≡ feed_outcome_at self.old.unit self.old.held (packet_of packet.now.head
+            packet.now.body.now) }
         ensures whole { KeepsMessageUnlessWhole result whole.old whole.new }
-        ensures after { self.new ≡ record self.old { held = held_with self.old.unit self.old.held (packet_of packet.now.head packet.now.body.now) } }
+        ensures after { self.new ≡ record self.old {
+          held = held_with self.old.unit self.old.held (packet_of packet.now.head
+              packet.now.body.now);
+        } }
     {
         feed_to(self.unit, &mut self.places, packet, whole)
     }
@@ -146,7 +162,9 @@ fn feed_to(unit: Unit, places: &mut [Assembly], packet: &Packet<'_>, whole: &mut
     requires body { (1 ≤ length packet.now.body.now) × (length packet.now.body.now ≤ bytes_of unit) }
     requires tag { packet.now.head.tag ≤ 7 }
     requires same { IsOfHeldMessage (packets_of (held_at (held_in places.old) packet.now.head.tag)) packet.now.head }
-    ensures answer { fed_of result whole.new ≡ feed_outcome_at unit (held_in places.old) (packet_of packet.now.head packet.now.body.now) }
+    ensures answer { fed_of result whole.new
+        ≡ feed_outcome_at unit (held_in places.old) (packet_of packet.now.head
+        packet.now.body.now) }
     ensures whole { KeepsMessageUnlessWhole result whole.old whole.new }
     ensures after { held_in places.new ≡ held_with unit (held_in places.old) (packet_of packet.now.head packet.now.body.now) }
     ensures unit { HaveUnit unit places.new }

@@ -26,7 +26,13 @@ impl Model for Message {
 
     ghost invariant = { λ m. (m.tag ≤ 7) × (1 ≤ length m.bytes.items) × (length m.bytes.items ≤ MAX_MESSAGE) };
 
-    ghost inverse = { λ v. record { dest = v.dest; source = v.source; to = v.to; tag = v.tag; bytes = record { items = v.bytes } } };
+    ghost inverse = { λ v. record {
+      dest = v.dest;
+      source = v.source;
+      to = v.to;
+      tag = v.tag;
+      bytes = record { items = v.bytes };
+    } };
 }
 
 /// Why bytes are no message.

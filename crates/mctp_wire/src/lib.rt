@@ -1,4 +1,5 @@
-//! Packets of MCTP (DSP0236): a head of four bytes and a body of 1 byte to the transmission unit, read and written exactly.
+//! Packets of MCTP (DSP0236): a head of four bytes and a body of 1 byte to the transmission unit,
+//! read and written exactly.
 #![tactic(auto)]
 
 mod codec;

@@ -9,7 +9,7 @@ use crate::layout::MAX_BODY;
 /// section 8.1), then all differ.
 pub const MAX_PACKETS: usize = 4;
 
-/// The most bytes of a message, with its type byte, at any transmission unit.
+/// The most bytes of a message, with its type byte, at the greatest transmission unit.
 pub const MAX_MESSAGE: usize = MAX_PACKETS * MAX_BODY;
 
 /// The transmission unit of a network: the most bytes of a packet's body, which all its nodes share

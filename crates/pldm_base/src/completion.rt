@@ -31,7 +31,8 @@ pub const INVALID_PLDM_TYPE_IN_REQUEST_DATA: u8 = 0x83;
 
 /// Returns all these codes, in the order of their values.
 pub fn completion_codes() -> [u8; 8]
-    ensures values { result ≡ success ∷ error ∷ invalid_data ∷ invalid_length ∷ not_ready ∷ unsupported_command ∷ invalid_pldm_type ∷ invalid_type_in_request ∷ [] }
+    ensures values { result ≡ success ∷ error ∷ invalid_data ∷ invalid_length ∷ not_ready
+        ∷ unsupported_command ∷ invalid_pldm_type ∷ invalid_type_in_request ∷ [] }
 {
     [
         SUCCESS,

@@ -28,7 +28,13 @@ impl Model for Asker {
 
     ghost Value = { AskingOf };
 
-    ghost view = { λ a. record { unit = a.inbox.unit; own = a.inbox.own; peer = a.inbox.peer; caller = a.caller; replies = a.inbox.held } };
+    ghost view = { λ a. record {
+      unit = a.inbox.unit;
+      own = a.inbox.own;
+      peer = a.inbox.peer;
+      caller = a.caller;
+      replies = a.inbox.held;
+    } };
 
     ghost invariant = { λ a. a.inbox.to ≡ false };
 }
@@ -127,8 +133,11 @@ impl Asker {
     #[tactic(auto, using(crate::proofs::SideRows::rows))]
     pub fn on_reply(&mut self, packet: &Packet<'_>, message: &mut Message) -> Option<u8>
         requires read { IsRead packet.now }
-        ensures learnt { option_map (λ command. reply_in_message command message.new) result ≡ reply_in_row (asking_row self.old (spelling packet.now)) }
-        ensures message { message.new ≡ message_after_packet self.old.unit self.old.replies (packet_for self.old.unit self.old.own self.old.peer false (spelling packet.now)) message.old }
+        ensures learnt { option_map (λ command. reply_in_message command message.new) result
+            ≡ reply_in_row (asking_row self.old (spelling packet.now)) }
+        ensures message { message.new ≡ message_after_packet self.old.unit self.old.replies
+            (packet_for self.old.unit self.old.own self.old.peer false (spelling packet.now))
+            message.old }
         ensures after { self.new ≡ asking_after self.old (asking_row self.old (spelling packet.now)) }
     {
         if !self.inbox.accepts(packet) {

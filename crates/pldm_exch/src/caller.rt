@@ -107,9 +107,23 @@ impl Model for Caller {
 
     ghost Value = { CallerState };
 
-    ghost view = { λ c. record { own = c.own; peer = c.peer; number = c.number; rests = c.rests; asked = option_map open_of c.asked; answered = c.answered } };
+    ghost view = { λ c. record {
+      own = c.own;
+      peer = c.peer;
+      number = c.number;
+      rests = c.rests;
+      asked = option_map open_of c.asked;
+      answered = c.answered;
+    } };
 
-    ghost invariant = { λ c. IsCaller (record { own = c.own; peer = c.peer; number = c.number; rests = c.rests; asked = option_map open_of c.asked; answered = c.answered }) };
+    ghost invariant = { λ c. IsCaller (record {
+      own = c.own;
+      peer = c.peer;
+      number = c.number;
+      rests = c.rests;
+      asked = option_map open_of c.asked;
+      answered = c.answered;
+    }) };
 }
 
 impl Caller {
@@ -227,9 +241,11 @@ impl Caller {
     /// changes nothing.
     #[tactic(auto, using(crate::proofs::Callers::callers))]
     pub fn on_answer<'m>(&mut self, message: &'m Message) -> Option<ReplyIn<'m>>
-        ensures answer { option_map (λ r. record { command = r.command; reply = r.reply.now }) result ≡ (answer_outcome self.old message.now).1 }
+        ensures answer { option_map (λ r. record { command = r.command; reply = r.reply.now })
+            result ≡ (answer_outcome self.old message.now).1 }
         ensures after { self.new ≡ (answer_outcome self.old message.now).0 }
-        ensures found { IfSome result (λ r. IsSomeAnd self.old.asked (λ o. IsAnswerTo o message.now r.reply.now × (r.command ≡ o.command))) }
+        ensures found { IfSome result (λ r. IsSomeAnd self.old.asked
+            (λ o. IsAnswerTo o message.now r.reply.now × (r.command ≡ o.command))) }
         ensures only { (body : List ℕ) → IsSomeAnd self.old.asked (λ o. IsAnswerTo o message.now body) → IsSome result }
     {
         let Some(open) = &self.asked else {

@@ -29,7 +29,13 @@ impl Model for Taker {
 
     ghost Value = { AnsweringOf };
 
-    ghost view = { λ t. record { unit = t.inbox.unit; own = t.inbox.own; peer = t.inbox.peer; kept = t.answerer; requests = t.inbox.held } };
+    ghost view = { λ t. record {
+      unit = t.inbox.unit;
+      own = t.inbox.own;
+      peer = t.inbox.peer;
+      kept = t.answerer;
+      requests = t.inbox.held;
+    } };
 
     ghost invariant = { λ t. t.inbox.to ≡ true };
 }
@@ -90,7 +96,9 @@ impl Taker {
     /// replaces the message.
     #[tactic(auto, using(crate::proofs::SideRows::rows))]
     fn read(&self, message: &mut Message) -> Received
-        ensures brought { received_of result message.new ≡ received_in (taker_read self.now.requests self.now.kept message.old (pldm_of message.old.bytes)) }
+        ensures brought { received_of result message.new
+            ≡ received_in (taker_read self.now.requests self.now.kept message.old
+            (pldm_of message.old.bytes)) }
         ensures message { (before : MessageOf) → IsReceived result before message.new }
     {
         let Ok((head, _)) = pldm_base::decode(message.bytes()) else {

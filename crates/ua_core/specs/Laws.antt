@@ -62,7 +62,7 @@ abbrev pub PlanHasKeysOnce : Type 0
 PlanHasKeysOnce = (p : PackageText) (j : JobOf) (n m : ℕ) → IsPlanned p j → Contains (map number_of j.plan) n → Contains (map number_of j.plan) m
     → key_of (component_at p n) ≡ key_of (component_at p m) → n ≡ m
 
--- a stage outside the steps of an update
+-- a stage in which a session has no plan: before the plan is made, or after an update
 abbrev pub IsOutsideUpdate : Stage → Type 0
 IsOutsideUpdate Stage.Idle = Unit {0}
 IsOutsideUpdate Stage.Query = Unit {0}

@@ -98,7 +98,8 @@ impl<'a> Lent<'a> {
     /// Returns the record for the device with these descriptors, and its components, or the cause
     /// if there is nothing to send.
     pub(crate) fn job_for(&self, descriptors: &DeviceDescriptors<'_>) -> Result<UpdateJob, Cause>
-        ensures { result_map_both (λ j. record { chosen = j.chosen; plan = j.plan.items }) (λ e. e) result ≡ job_for self.now descriptors.now }
+        ensures { result_map_both (λ j. record { chosen = j.chosen; plan = j.plan.items }) (λ e. e)
+            result ≡ job_for self.now descriptors.now }
     {
         let Some(package) = self.package else {
             return Err(Cause::NoRecord);
@@ -159,7 +160,8 @@ fn record_for(package: &Package<'_>, descriptors: &DeviceDescriptors<'_>) -> Opt
 /// Returns the components of a record, if there are some and they can be sent.
 fn planned(package: &Package<'_>, chosen: usize) -> Result<UpdateJob, Cause>
     requires { chosen < length «package».now.records }
-    ensures { result_map_both (λ j. record { chosen = j.chosen; plan = j.plan.items }) (λ e. e) result ≡ planned chosen (plan_of «package».now chosen) }
+    ensures { result_map_both (λ j. record { chosen = j.chosen; plan = j.plan.items }) (λ e. e)
+        result ≡ planned chosen (plan_of «package».now chosen) }
 {
     let Ok(plan) = package.plan(chosen) else {
         return Err(Cause::Plan);

@@ -38,7 +38,8 @@ pub struct Recorded {
 
 /// Removes and returns the first component of a list.
 pub fn take_first(list: &mut PlannedList) -> Option<Planned>
-    ensures { MatchOption result ((list.old.items ≡ []) × (list.new.items ≡ [])) (λ first. list.old.items ≡ first ∷ list.new.items) }
+    ensures { MatchOption result ((list.old.items ≡ []) × (list.new.items ≡ []))
+        (λ first. list.old.items ≡ first ∷ list.new.items) }
 {
     if list.is_empty() {
         return None;

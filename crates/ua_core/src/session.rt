@@ -57,15 +57,20 @@ impl Model for Session {
     ghost view = { λ s. record {
       session = record {
         unit = s.unit;
-        stage = stage_of s.position.state (record { chosen = s.job.chosen; plan = s.job.plan.items }) s.at_hand s.left.items s.todo.items s.made;
+        stage = stage_of s.position.state (record {
+          chosen = s.job.chosen;
+          plan = s.job.plan.items;
+        }) s.at_hand s.left.items s.todo.items s.made;
         number = s.«package»;
         records = s.records.items;
       };
       idle = s.position.idle;
     } };
 
-    ghost invariant = { λ s. (s.position.idle < 240) × (length s.left.items + length s.todo.items ≤ 7)
-        × HasRecordRoom s.position.state (length s.records.items) (length s.left.items + length s.todo.items) s.made (vec_capacity s.records) };
+    ghost invariant = { λ s. (s.position.idle < 240)
+        × (length s.left.items + length s.todo.items ≤ 7)
+        × HasRecordRoom s.position.state (length s.records.items)
+        (length s.left.items + length s.todo.items) s.made (vec_capacity s.records) };
 }
 
 impl Session {

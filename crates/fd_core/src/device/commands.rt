@@ -33,7 +33,8 @@ impl<B: Bank> Device<B> {
         request: &UpdateRequest<'_>,
         quiet: bool,
     ) -> Answer<'static>
-        ensures taken { IsTaken self.old self.new (answer_of result) (request_take self.old.device (update_request_of request.now) quiet) }
+        ensures taken { IsTaken self.old self.new (answer_of result)
+            (request_take self.old.device (update_request_of request.now) quiet) }
         ensures faults { self.new.faults ≡ self.old.faults }
         ensures writable { IsAnswerWritable (answer_of result) }
         ensures short { IsShort (answer_of result) }
@@ -101,7 +102,9 @@ impl<B: Bank> Device<B> {
         offer: &ComponentOffer<'_>,
         quiet: bool,
     ) -> Answer<'static>
-        ensures taken { IsTaken self.old self.new (answer_of result) (offer_take self.old.device (offer_of offer.now) quiet (answer_works (answer_of result))) }
+        ensures taken { IsTaken self.old self.new (answer_of result)
+            (offer_take self.old.device (offer_of offer.now) quiet
+            (answer_works (answer_of result))) }
         ensures worked { answer_works (answer_of result) ≡ true → self.new.faults ≡ self.old.faults }
         ensures failed { answer_works (answer_of result) ≡ false → CountsFailure self.old.faults self.new.faults }
         ensures writable { IsAnswerWritable (answer_of result) }
@@ -152,7 +155,8 @@ impl<B: Bank> Device<B> {
 
     /// ActivateFirmware.
     pub(super) fn activate_firmware(&mut self) -> Answer<'static>
-        ensures taken { IsTaken self.old self.new (answer_of result) (switch_take self.old.device (answer_works (answer_of result))) }
+        ensures taken { IsTaken self.old self.new (answer_of result)
+            (switch_take self.old.device (answer_works (answer_of result))) }
         ensures worked { answer_works (answer_of result) ≡ true → self.new.faults ≡ self.old.faults }
         ensures failed { answer_works (answer_of result) ≡ false → CountsFailure self.old.faults self.new.faults }
         ensures writable { IsAnswerWritable (answer_of result) }

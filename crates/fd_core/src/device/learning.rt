@@ -20,11 +20,17 @@ impl<B: Bank> Device<B> {
     /// leaves the pending command as it is, except that a failure counts as reported after any
     /// answer to its report.
     pub fn learn(&mut self, answer: Result<&Answer<'_>, Malformed>)
-        ensures after { self.new.device ≡ device_learn self.old.device (option_map (λ a. answer_of a.now) (result_ok answer.entry)) (not (has_failed self.new.device.phase)) }
-        ensures idle { self.new.idle ≡ idle_learnt self.old.idle self.old.device (option_map (λ a. answer_of a.now) (result_ok answer.entry)) (not (has_failed self.new.device.phase)) }
+        ensures after { self.new.device
+            ≡ device_learn self.old.device (option_map (λ a. answer_of a.now)
+            (result_ok answer.entry)) (not (has_failed self.new.device.phase)) }
+        ensures idle { self.new.idle
+            ≡ idle_learnt self.old.idle self.old.device (option_map (λ a. answer_of a.now)
+            (result_ok answer.entry)) (not (has_failed self.new.device.phase)) }
         ensures again { has_failed self.old.device.phase ≡ true → self.new.faults ≡ self.old.faults }
         ensures worked { has_failed self.new.device.phase ≡ false → self.new.faults ≡ self.old.faults }
-        ensures failed { has_failed self.old.device.phase ≡ false → has_failed self.new.device.phase ≡ true → CountsFailure self.old.faults self.new.faults }
+        ensures failed { has_failed self.old.device.phase ≡ false
+            → has_failed self.new.device.phase ≡ true
+            → CountsFailure self.old.faults self.new.faults }
     {
         match self.course.state {
             State::Download | State::Verify | State::Apply => {}
@@ -42,10 +48,16 @@ impl<B: Bank> Device<B> {
     /// Takes an answer while the work is in progress: in DOWNLOAD, the requested bytes.
     fn learn_piece(&mut self, answer: Result<&Answer<'_>, Malformed>)
         requires { progress_of self.old.device.phase ≡ Some InProgress }
-        ensures after { self.new.device ≡ device_learn self.old.device (option_map (λ a. answer_of a.now) (result_ok answer.entry)) (not (has_failed self.new.device.phase)) }
-        ensures idle { self.new.idle ≡ idle_learnt self.old.idle self.old.device (option_map (λ a. answer_of a.now) (result_ok answer.entry)) (not (has_failed self.new.device.phase)) }
+        ensures after { self.new.device
+            ≡ device_learn self.old.device (option_map (λ a. answer_of a.now)
+            (result_ok answer.entry)) (not (has_failed self.new.device.phase)) }
+        ensures idle { self.new.idle
+            ≡ idle_learnt self.old.idle self.old.device (option_map (λ a. answer_of a.now)
+            (result_ok answer.entry)) (not (has_failed self.new.device.phase)) }
         ensures worked { has_failed self.new.device.phase ≡ false → self.new.faults ≡ self.old.faults }
-        ensures failed { has_failed self.old.device.phase ≡ false → has_failed self.new.device.phase ≡ true → CountsFailure self.old.faults self.new.faults }
+        ensures failed { has_failed self.old.device.phase ≡ false
+            → has_failed self.new.device.phase ≡ true
+            → CountsFailure self.old.faults self.new.faults }
     {
         let (State::Download, Ok(Answer::RequestFirmwareData(bytes))) = (self.course.state, answer)
         else {
@@ -70,8 +82,12 @@ impl<B: Bank> Device<B> {
     /// Takes an answer to a report of success, which moves the device to the next state.
     fn learn_report(&mut self, answer: Result<&Answer<'_>, Malformed>)
         requires { progress_of self.old.device.phase ≡ Some Succeeded }
-        ensures after { self.new.device ≡ device_learn self.old.device (option_map (λ a. answer_of a.now) (result_ok answer.entry)) (not (has_failed self.new.device.phase)) }
-        ensures idle { self.new.idle ≡ idle_learnt self.old.idle self.old.device (option_map (λ a. answer_of a.now) (result_ok answer.entry)) (not (has_failed self.new.device.phase)) }
+        ensures after { self.new.device
+            ≡ device_learn self.old.device (option_map (λ a. answer_of a.now)
+            (result_ok answer.entry)) (not (has_failed self.new.device.phase)) }
+        ensures idle { self.new.idle
+            ≡ idle_learnt self.old.idle self.old.device (option_map (λ a. answer_of a.now)
+            (result_ok answer.entry)) (not (has_failed self.new.device.phase)) }
         ensures works { has_failed self.new.device.phase ≡ false }
         ensures faults { self.new.faults ≡ self.old.faults }
     {

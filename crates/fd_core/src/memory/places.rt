@@ -114,7 +114,11 @@ impl Place {
     ) -> Result<Place, AllocError>
         ensures shape { IfOk result (λ p. shape_of p ≡ record { key = key; areas = 3 }) }
         ensures numbers { IfOk result (λ p. numbers_by p ≡ record { key = key; active = 0; applied = None }) }
-        ensures row { IfOk result (λ p. row_by p ≡ record { key = key; active = record { label = label.now; bytes = image.now }; applied = None }) }
+        ensures row { IfOk result (λ p. row_by p ≡ record {
+          key = key;
+          active = record { label = label.now; bytes = image.now };
+          applied = None;
+        }) }
     {
         let mut bytes = Vec::new(alloc);
         let Ok(()) = bytes.extend_from_slice(image) else {
@@ -157,7 +161,8 @@ impl Place {
 
     /// Returns the applied image.
     pub(super) fn applied(&self) -> Option<(&Label, &[u8])>
-        ensures { option_map (λ r. record { label = r.0.now; bytes = r.1.now }) result ≡ option_map (image_at self.now.areas) self.now.applied }
+        ensures { option_map (λ r. record { label = r.0.now; bytes = r.1.now }) result
+            ≡ option_map (image_at self.now.areas) self.now.applied }
     {
         let area = &self.areas[self.applied?];
         Some(area.image())

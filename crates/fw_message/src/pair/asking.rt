@@ -17,7 +17,8 @@ impl<'a, B: Bank> Pair<'a, B> {
     /// The agent asks the session's pending command. False if none is pending or the cell isn't
     /// empty.
     pub fn ask_down(&mut self, packages: &'a [Package<'a>]) -> bool
-        ensures step { step_of packages.now self.old.node.pair StepOf.AskDown ≡ (if result then Some (step_without_entries self.new.node.pair) else None) }
+        ensures step { step_of packages.now self.old.node.pair StepOf.AskDown
+            ≡ (if result then Some (step_without_entries self.new.node.pair) else None) }
         ensures same { result ≡ false → self.new ≡ self.old }
         ensures eid { self.new.node.eid ≡ self.old.node.eid }
         ensures faults { self.new.faults ≡ self.old.faults }
@@ -30,7 +31,8 @@ impl<'a, B: Bank> Pair<'a, B> {
 
     /// The device asks its pending command. False if none is pending or the cell isn't empty.
     pub fn ask_up(&mut self, packages: &'a [Package<'a>]) -> bool
-        ensures step { step_of packages.now self.old.node.pair StepOf.AskUp ≡ (if result then Some (step_without_entries self.new.node.pair) else None) }
+        ensures step { step_of packages.now self.old.node.pair StepOf.AskUp
+            ≡ (if result then Some (step_without_entries self.new.node.pair) else None) }
         ensures same { result ≡ false → self.new ≡ self.old }
         ensures eid { self.new.node.eid ≡ self.old.node.eid }
         ensures faults { self.new.faults ≡ self.old.faults }
@@ -42,7 +44,8 @@ impl<'a, B: Bank> Pair<'a, B> {
     /// Empties the cell of the agent's commands. False unless it has a command that nobody waits
     /// for.
     pub fn drop_down(&mut self, packages: &'a [Package<'a>]) -> bool
-        ensures step { step_of packages.now self.old.node.pair (StepOf.Drop ways.Down) ≡ (if result then Some (step_without_entries self.new.node.pair) else None) }
+        ensures step { step_of packages.now self.old.node.pair (StepOf.Drop ways.Down)
+            ≡ (if result then Some (step_without_entries self.new.node.pair) else None) }
         ensures same { result ≡ false → self.new ≡ self.old }
         ensures eid { self.new.node.eid ≡ self.old.node.eid }
         ensures faults { self.new.faults ≡ self.old.faults }
@@ -52,7 +55,8 @@ impl<'a, B: Bank> Pair<'a, B> {
 
     /// Empties the cell of the device's commands, likewise.
     pub fn drop_up(&mut self, packages: &'a [Package<'a>]) -> bool
-        ensures step { step_of packages.now self.old.node.pair (StepOf.Drop ways.Up) ≡ (if result then Some (step_without_entries self.new.node.pair) else None) }
+        ensures step { step_of packages.now self.old.node.pair (StepOf.Drop ways.Up)
+            ≡ (if result then Some (step_without_entries self.new.node.pair) else None) }
         ensures same { result ≡ false → self.new ≡ self.old }
         ensures eid { self.new.node.eid ≡ self.old.node.eid }
         ensures faults { self.new.faults ≡ self.old.faults }
@@ -62,7 +66,8 @@ impl<'a, B: Bank> Pair<'a, B> {
 
     /// The agent no longer waits, and the session handles that there was no answer.
     pub fn give_up_down(&mut self, packages: &'a [Package<'a>]) -> bool
-        ensures step { step_of packages.now self.old.node.pair (StepOf.GiveUp ways.Down) ≡ (if result then Some (step_without_entries self.new.node.pair) else None) }
+        ensures step { step_of packages.now self.old.node.pair (StepOf.GiveUp ways.Down)
+            ≡ (if result then Some (step_without_entries self.new.node.pair) else None) }
         ensures same { result ≡ false → self.new ≡ self.old }
         ensures eid { self.new.node.eid ≡ self.old.node.eid }
         ensures faults { self.new.faults ≡ self.old.faults }
@@ -76,7 +81,8 @@ impl<'a, B: Bank> Pair<'a, B> {
 
     /// The device no longer waits.
     pub fn give_up_up(&mut self, packages: &'a [Package<'a>]) -> bool
-        ensures step { step_of packages.now self.old.node.pair (StepOf.GiveUp ways.Up) ≡ (if result then Some (step_without_entries self.new.node.pair) else None) }
+        ensures step { step_of packages.now self.old.node.pair (StepOf.GiveUp ways.Up)
+            ≡ (if result then Some (step_without_entries self.new.node.pair) else None) }
         ensures same { result ≡ false → self.new ≡ self.old }
         ensures eid { self.new.node.eid ≡ self.old.node.eid }
         ensures faults { self.new.faults ≡ self.old.faults }

@@ -23,9 +23,12 @@ impl<'a, B: Bank> Pair<'a, B> {
         packages: &'a [Package<'a>],
         number: usize,
     ) -> Result<(), MessageStepFault>
-        ensures step { OnOk result (step_of packages.now self.old.node.pair (StepOf.Start number) ≡ Some (step_without_entries self.new.node.pair)) }
-        ensures refused { IfErr result (λ e. ((e ≡ MessageStepFault.Memory) × (is_some (step_of packages.now self.old.node.pair (StepOf.Start number)) ≡ true))
-            ⊎ ((e ≡ MessageStepFault.Refused) × (step_of packages.now self.old.node.pair (StepOf.Start number) ≡ None))) }
+        ensures step { OnOk result (step_of packages.now self.old.node.pair (StepOf.Start number)
+            ≡ Some (step_without_entries self.new.node.pair)) }
+        ensures refused { IfErr result (λ e. ((e ≡ MessageStepFault.Memory)
+            × (is_some (step_of packages.now self.old.node.pair (StepOf.Start number)) ≡ true))
+            ⊎ ((e ≡ MessageStepFault.Refused)
+            × (step_of packages.now self.old.node.pair (StepOf.Start number) ≡ None))) }
         ensures same { OnErr result (self.new ≡ self.old) }
         ensures eid { self.new.node.eid ≡ self.old.node.eid }
         ensures faults { self.new.faults ≡ self.old.faults }
@@ -51,7 +54,8 @@ impl<'a, B: Bank> Pair<'a, B> {
 
     /// The operator activates the images. False if it isn't time for it.
     pub fn activate(&mut self, packages: &'a [Package<'a>]) -> bool
-        ensures step { step_of packages.now self.old.node.pair StepOf.Activate ≡ (if result then Some (step_without_entries self.new.node.pair) else None) }
+        ensures step { step_of packages.now self.old.node.pair StepOf.Activate
+            ≡ (if result then Some (step_without_entries self.new.node.pair) else None) }
         ensures same { result ≡ false → self.new ≡ self.old }
         ensures eid { self.new.node.eid ≡ self.old.node.eid }
         ensures faults { self.new.faults ≡ self.old.faults }
@@ -61,7 +65,8 @@ impl<'a, B: Bank> Pair<'a, B> {
 
     /// Restarts the session with the agent.
     pub fn restart_session(&mut self, packages: &'a [Package<'a>])
-        ensures step { step_of packages.now self.old.node.pair (StepOf.Restart sides.Agent) ≡ Some (step_without_entries self.new.node.pair) }
+        ensures step { step_of packages.now self.old.node.pair (StepOf.Restart sides.Agent)
+            ≡ Some (step_without_entries self.new.node.pair) }
         ensures eid { self.new.node.eid ≡ self.old.node.eid }
         ensures faults { self.new.faults ≡ self.old.faults }
     {
@@ -81,7 +86,8 @@ impl<'a, B: Bank> Pair<'a, B> {
     /// Restarts the device.
     #[tactic(auto, using(fd_core::proofs::Components::restart_components))]
     pub fn restart_device(&mut self, packages: &'a [Package<'a>])
-        ensures step { step_of packages.now self.old.node.pair (StepOf.Restart sides.Device) ≡ Some (step_without_entries self.new.node.pair) }
+        ensures step { step_of packages.now self.old.node.pair (StepOf.Restart sides.Device)
+            ≡ Some (step_without_entries self.new.node.pair) }
         ensures eid { self.new.node.eid ≡ self.old.node.eid }
         ensures faults { self.new.faults ≡ self.old.faults }
     {

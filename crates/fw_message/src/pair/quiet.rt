@@ -20,8 +20,11 @@ impl<'a, B: Bank> Pair<'a, B> {
         quiet: bool,
     ) -> Result<bool, MessageStepFault>
         requires { adds_entries (step_of packages.now self.old.node.pair (StepOf.TakeDown quiet true)) ≡ false }
-        ensures step { IfOk result (λ works. step_of packages.now self.old.node.pair (StepOf.TakeDown quiet works) ≡ Some (step_without_entries self.new.node.pair)) }
-        ensures refused { IfErr result (λ e. (e ≡ MessageStepFault.NotNow) × ((works : Bool) → step_of packages.now self.old.node.pair (StepOf.TakeDown quiet works) ≡ None)) }
+        ensures step { IfOk result (λ works. step_of packages.now self.old.node.pair
+            (StepOf.TakeDown quiet works) ≡ Some (step_without_entries self.new.node.pair)) }
+        ensures refused { IfErr result (λ e. (e ≡ MessageStepFault.NotNow)
+            × ((works : Bool)
+            → step_of packages.now self.old.node.pair (StepOf.TakeDown quiet works) ≡ None)) }
         ensures same { OnErr result (self.new ≡ self.old) }
         ensures worked { result ≡ Ok true → self.new.faults ≡ self.old.faults }
         ensures failed { result ≡ Ok false → CountsFailure self.old.faults self.new.faults }
@@ -38,8 +41,10 @@ impl<'a, B: Bank> Pair<'a, B> {
     #[tactic(auto, using(crate::proofs::Growing::quiet_step))]
     pub fn serve_quietly(&mut self, packages: &'a [Package<'a>]) -> Result<(), MessageStepFault>
         requires { adds_entries (step_of packages.now self.old.node.pair StepOf.TakeUp) ≡ false }
-        ensures step { OnOk result (step_of packages.now self.old.node.pair StepOf.TakeUp ≡ Some (step_without_entries self.new.node.pair)) }
-        ensures refused { IfErr result (λ e. (e ≡ MessageStepFault.NotNow) × (step_of packages.now self.old.node.pair StepOf.TakeUp ≡ None)) }
+        ensures step { OnOk result (step_of packages.now self.old.node.pair StepOf.TakeUp
+            ≡ Some (step_without_entries self.new.node.pair)) }
+        ensures refused { IfErr result (λ e. (e ≡ MessageStepFault.NotNow)
+            × (step_of packages.now self.old.node.pair StepOf.TakeUp ≡ None)) }
         ensures same { OnErr result (self.new ≡ self.old) }
         ensures eid { self.new.node.eid ≡ self.old.node.eid }
         ensures faults { self.new.faults ≡ self.old.faults }
@@ -59,8 +64,11 @@ impl<'a, B: Bank> Pair<'a, B> {
         verdict: Verdict,
     ) -> Result<bool, MessageStepFault>
         requires { adds_entries (step_of packages.now self.old.node.pair (StepOf.Judge verdict true)) ≡ false }
-        ensures step { IfOk result (λ works. step_of packages.now self.old.node.pair (StepOf.Judge verdict works) ≡ Some (step_without_entries self.new.node.pair)) }
-        ensures refused { IfErr result (λ e. (e ≡ MessageStepFault.Refused) × ((works : Bool) → step_of packages.now self.old.node.pair (StepOf.Judge verdict works) ≡ None)) }
+        ensures step { IfOk result (λ works. step_of packages.now self.old.node.pair
+            (StepOf.Judge verdict works) ≡ Some (step_without_entries self.new.node.pair)) }
+        ensures refused { IfErr result (λ e. (e ≡ MessageStepFault.Refused)
+            × ((works : Bool)
+            → step_of packages.now self.old.node.pair (StepOf.Judge verdict works) ≡ None)) }
         ensures same { OnErr result (self.new ≡ self.old) }
         ensures worked { result ≡ Ok true → self.new.faults ≡ self.old.faults }
         ensures failed { result ≡ Ok false → CountsFailure self.old.faults self.new.faults }

@@ -28,7 +28,11 @@ impl<'a, B: Bank> Pair<'a, B> {
     /// to be taken, else the session's record, if it made one.
     #[tactic(auto, unfolding(crate::specs::Pairs::up_taken), using(crate::proofs::Records::recorded_behind))]
     pub fn take_up(&mut self, packages: &'a [Package<'a>]) -> Option<Option<Recorded>>
-        ensures step { step_of packages.now self.old.node.pair StepOf.TakeUp ≡ option_map (λ r. record { after = self.new.node.pair; noted = map EntryOf.Recording (option_to_list r) }) result }
+        ensures step { step_of packages.now self.old.node.pair StepOf.TakeUp
+            ≡ option_map (λ r. record {
+              after = self.new.node.pair;
+              noted = map EntryOf.Recording (option_to_list r);
+            }) result }
         ensures same { result ≡ None → self.new ≡ self.old }
         ensures eid { self.new.node.eid ≡ self.old.node.eid }
         ensures faults { self.new.faults ≡ self.old.faults }
@@ -51,11 +55,14 @@ impl<'a, B: Bank> Pair<'a, B> {
     /// worked.
     #[tactic(auto, unfolding(crate::specs::Pairs::down_taken), using(fd_core::proofs::Components::take_components, fd_core::proofs::BankCalls::bank_calls))]
     pub fn take_down(&mut self, packages: &'a [Package<'a>], quiet: bool) -> Option<bool>
-        ensures step { IfSome result (λ works. step_of packages.now self.old.node.pair (StepOf.TakeDown quiet works) ≡ Some (record {
-          after = self.new.node.pair;
-          noted = map EntryOf.Activated (activated_down self.old.node.pair quiet works);
-        })) }
-        ensures none { IfNone result ((works : Bool) → step_of packages.now self.old.node.pair (StepOf.TakeDown quiet works) ≡ None) }
+        ensures step { IfSome result (λ works. step_of packages.now self.old.node.pair
+            (StepOf.TakeDown quiet works)
+            ≡ Some (record {
+              after = self.new.node.pair;
+              noted = map EntryOf.Activated (activated_down self.old.node.pair quiet works);
+            })) }
+        ensures none { IfNone result ((works : Bool)
+            → step_of packages.now self.old.node.pair (StepOf.TakeDown quiet works) ≡ None) }
         ensures same { result ≡ None → self.new ≡ self.old }
         ensures worked { result ≡ Some true → self.new.faults ≡ self.old.faults }
         ensures failed { result ≡ Some false → CountsFailure self.old.faults self.new.faults }
@@ -118,7 +125,8 @@ impl<'a, B: Bank> Pair<'a, B> {
           after = self.new.node.pair;
           noted = map EntryOf.Applied (applied_by self.old.node.pair.device verdict works);
         })) }
-        ensures none { IfNone result ((works : Bool) → step_of packages.now self.old.node.pair (StepOf.Judge verdict works) ≡ None) }
+        ensures none { IfNone result ((works : Bool)
+            → step_of packages.now self.old.node.pair (StepOf.Judge verdict works) ≡ None) }
         ensures same { result ≡ None → self.new ≡ self.old }
         ensures worked { result ≡ Some true → self.new.faults ≡ self.old.faults }
         ensures failed { result ≡ Some false → CountsFailure self.old.faults self.new.faults }
@@ -141,12 +149,14 @@ impl<'a, B: Bank> Pair<'a, B> {
         room: Vec<u8>,
     ) -> Option<(bool, Option<Image<'a>>)>
         requires empty { room.items ≡ [] }
-        requires room { verdict ≡ Verdict.ApplyOk → IfSome (staged_of self.old.node.pair.device.phase) (λ s. s.1 ≤ vec_capacity room) }
+        requires room { verdict ≡ Verdict.ApplyOk
+            → IfSome (staged_of self.old.node.pair.device.phase) (λ s. s.1 ≤ vec_capacity room) }
         ensures step { IfSome result (λ r. step_of packages.now self.old.node.pair (StepOf.Judge verdict r.0) ≡ Some (record {
           after = self.new.node.pair;
           noted = map EntryOf.Applied (map keyed_image_of (option_to_list r.1));
         })) }
-        ensures none { IfNone result ((works : Bool) → step_of packages.now self.old.node.pair (StepOf.Judge verdict works) ≡ None) }
+        ensures none { IfNone result ((works : Bool)
+            → step_of packages.now self.old.node.pair (StepOf.Judge verdict works) ≡ None) }
         ensures same { result ≡ None → self.new ≡ self.old }
         ensures worked { IfSome result (λ r. r.0 ≡ true → self.new.faults ≡ self.old.faults) }
         ensures failed { IfSome result (λ r. r.0 ≡ false → CountsFailure self.old.faults self.new.faults) }
@@ -167,7 +177,8 @@ impl<'a, B: Bank> Pair<'a, B> {
 
     /// The session learns the answer that it waits for. False if there is none.
     pub fn learn_down(&mut self, packages: &'a [Package<'a>]) -> bool
-        ensures step { step_of packages.now self.old.node.pair StepOf.LearnDown ≡ (if result then Some (step_without_entries self.new.node.pair) else None) }
+        ensures step { step_of packages.now self.old.node.pair StepOf.LearnDown
+            ≡ (if result then Some (step_without_entries self.new.node.pair) else None) }
         ensures same { result ≡ false → self.new ≡ self.old }
         ensures eid { self.new.node.eid ≡ self.old.node.eid }
         ensures faults { self.new.faults ≡ self.old.faults }
@@ -191,7 +202,8 @@ impl<'a, B: Bank> Pair<'a, B> {
     /// whether its bank worked.
     #[tactic(auto, using(fd_core::proofs::Components::learn_components, crate::proofs::Working::learns_failed, fd_core::proofs::BankCalls::bank_calls))]
     pub fn learn_up(&mut self, packages: &'a [Package<'a>]) -> Option<bool>
-        ensures step { IfSome result (λ works. step_of packages.now self.old.node.pair (StepOf.LearnUp works) ≡ Some (step_without_entries self.new.node.pair)) }
+        ensures step { IfSome result (λ works. step_of packages.now self.old.node.pair
+            (StepOf.LearnUp works) ≡ Some (step_without_entries self.new.node.pair)) }
         ensures none { IfNone result ((works : Bool) → step_of packages.now self.old.node.pair (StepOf.LearnUp works) ≡ None) }
         ensures same { result ≡ None → self.new ≡ self.old }
         ensures worked { result ≡ Some true → self.new.faults ≡ self.old.faults }

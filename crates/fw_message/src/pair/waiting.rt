@@ -14,7 +14,8 @@ use ua_core::{IDLE_LIMIT, Session};
 impl<'a, B: Bank> Pair<'a, B> {
     /// The session's wait times out. False if the session doesn't wait.
     pub fn time_out_session(&mut self, packages: &'a [Package<'a>]) -> bool
-        ensures step { step_of packages.now self.old.node.pair (StepOf.TimeOut sides.Agent) ≡ (if result then Some (step_without_entries self.new.node.pair) else None) }
+        ensures step { step_of packages.now self.old.node.pair (StepOf.TimeOut sides.Agent)
+            ≡ (if result then Some (step_without_entries self.new.node.pair) else None) }
         ensures same { result ≡ false → self.new ≡ self.old }
         ensures eid { self.new.node.eid ≡ self.old.node.eid }
         ensures faults { self.new.faults ≡ self.old.faults }
@@ -29,7 +30,8 @@ impl<'a, B: Bank> Pair<'a, B> {
     /// The device's wait times out. False if the device is idle.
     #[tactic(auto, using(fd_core::proofs::Components::timeout_components))]
     pub fn time_out_device(&mut self, packages: &'a [Package<'a>]) -> bool
-        ensures step { step_of packages.now self.old.node.pair (StepOf.TimeOut sides.Device) ≡ (if result then Some (step_without_entries self.new.node.pair) else None) }
+        ensures step { step_of packages.now self.old.node.pair (StepOf.TimeOut sides.Device)
+            ≡ (if result then Some (step_without_entries self.new.node.pair) else None) }
         ensures same { result ≡ false → self.new ≡ self.old }
         ensures eid { self.new.node.eid ≡ self.old.node.eid }
         ensures faults { self.new.faults ≡ self.old.faults }

@@ -199,7 +199,21 @@ impl Counter {
 }
 
 impl Observer for Counter {
-    ghost watched = { λ c. record { fault = c.fault; shows = record { is_quiet = c.is_quiet; traced = c.traced; is_logged = c.is_logged; is_recorded = c.is_recorded; has_history = c.has_history }; has_ended = c.has_ended; seen = c.turns; lost = c.lost; recording = None; history = None } };
+    ghost watched = { λ c. record {
+      fault = c.fault;
+      shows = record {
+        is_quiet = c.is_quiet;
+        traced = c.traced;
+        is_logged = c.is_logged;
+        is_recorded = c.is_recorded;
+        has_history = c.has_history;
+      };
+      has_ended = c.has_ended;
+      seen = c.turns;
+      lost = c.lost;
+      recording = None;
+      history = None;
+    } };
 
     ghost refuses = { λ c path. true };
 

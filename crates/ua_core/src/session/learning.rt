@@ -26,8 +26,12 @@ impl Session {
     /// the step before. In Cancelling any answer leads to Idle. Any other unexpected answer fails
     /// the update. A session without a pending command ignores the answer.
     pub fn learn(&mut self, answer: Result<&Answer<'_>, Malformed>, lent: &Lent<'_>)
-        ensures session { self.new.session ≡ agent_learn lent.now self.old.session (result_map_both (λ a. answer_of a.now) (λ e. e) answer.entry) }
-        ensures idle { self.new.idle ≡ learn_idle lent.now self.old.session self.old.idle (result_map_both (λ a. answer_of a.now) (λ e. e) answer.entry) }
+        ensures session { self.new.session
+            ≡ agent_learn lent.now self.old.session (result_map_both (λ a. answer_of a.now) (λ e. e)
+            answer.entry) }
+        ensures idle { self.new.idle
+            ≡ learn_idle lent.now self.old.session self.old.idle
+            (result_map_both (λ a. answer_of a.now) (λ e. e) answer.entry) }
     {
         match self.position.state {
             SessionState::Query => self.learn_query(answer, lent),
@@ -45,7 +49,9 @@ impl Session {
     /// The device's descriptors: the record that they choose, and its components.
     fn learn_query(&mut self, answer: Result<&Answer<'_>, Malformed>, lent: &Lent<'_>)
         requires { state_of self.old.session.stage ≡ SessionState.Query }
-        ensures session { self.new.session ≡ agent_learn lent.now self.old.session (result_map_both (λ a. answer_of a.now) (λ e. e) answer.entry) }
+        ensures session { self.new.session
+            ≡ agent_learn lent.now self.old.session (result_map_both (λ a. answer_of a.now) (λ e. e)
+            answer.entry) }
         ensures idle { self.new.idle ≡ 0 }
     {
         let Ok(Answer::QueryDeviceIdentifiers(descriptors)) = answer else {
@@ -64,7 +70,9 @@ impl Session {
     /// The device's components: takes their indexes.
     fn learn_params(&mut self, answer: Result<&Answer<'_>, Malformed>, lent: &Lent<'_>)
         requires { state_of self.old.session.stage ≡ SessionState.Params }
-        ensures session { self.new.session ≡ agent_learn lent.now self.old.session (result_map_both (λ a. answer_of a.now) (λ e. e) answer.entry) }
+        ensures session { self.new.session
+            ≡ agent_learn lent.now self.old.session (result_map_both (λ a. answer_of a.now) (λ e. e)
+            answer.entry) }
         ensures idle { self.new.idle ≡ 0 }
     {
         let Ok(Answer::GetFirmwareParameters(devices)) = answer else {
@@ -78,7 +86,9 @@ impl Session {
     /// The device's answer about an earlier update: it ended one, or had none.
     fn learn_clear(&mut self, answer: Result<&Answer<'_>, Malformed>)
         requires { state_of self.old.session.stage ≡ SessionState.ClearOld }
-        ensures session { self.new.session ≡ agent_learn no_package self.old.session (result_map_both (λ a. answer_of a.now) (λ e. e) answer.entry) }
+        ensures session { self.new.session
+            ≡ agent_learn no_package self.old.session (result_map_both (λ a. answer_of a.now)
+            (λ e. e) answer.entry) }
         ensures idle { self.new.idle ≡ 0 }
     {
         match answer {
@@ -93,8 +103,12 @@ impl Session {
     /// Whether the update began. If the device isn't ready, the command is sent again.
     fn learn_request(&mut self, answer: Result<&Answer<'_>, Malformed>)
         requires { state_of self.old.session.stage ≡ SessionState.Request }
-        ensures session { self.new.session ≡ agent_learn no_package self.old.session (result_map_both (λ a. answer_of a.now) (λ e. e) answer.entry) }
-        ensures idle { self.new.idle ≡ learn_idle no_package self.old.session self.old.idle (result_map_both (λ a. answer_of a.now) (λ e. e) answer.entry) }
+        ensures session { self.new.session
+            ≡ agent_learn no_package self.old.session (result_map_both (λ a. answer_of a.now)
+            (λ e. e) answer.entry) }
+        ensures idle { self.new.idle
+            ≡ learn_idle no_package self.old.session self.old.idle
+            (result_map_both (λ a. answer_of a.now) (λ e. e) answer.entry) }
     {
         match answer {
             Ok(Answer::RequestUpdate) => self.pass_first(),
@@ -106,7 +120,9 @@ impl Session {
     /// The device's response about the component that was passed.
     fn learn_pass(&mut self, answer: Result<&Answer<'_>, Malformed>, lent: &Lent<'_>)
         requires { state_of self.old.session.stage ≡ SessionState.Pass }
-        ensures session { self.new.session ≡ agent_learn lent.now self.old.session (result_map_both (λ a. answer_of a.now) (λ e. e) answer.entry) }
+        ensures session { self.new.session
+            ≡ agent_learn lent.now self.old.session (result_map_both (λ a. answer_of a.now) (λ e. e)
+            answer.entry) }
         ensures idle { self.new.idle ≡ 0 }
     {
         let Ok(Answer::PassComponentTable(response)) = answer else {
@@ -135,8 +151,12 @@ impl Session {
     /// step, the command is sent again.
     fn learn_update(&mut self, answer: Result<&Answer<'_>, Malformed>)
         requires { state_of self.old.session.stage ≡ SessionState.Update }
-        ensures session { self.new.session ≡ agent_learn no_package self.old.session (result_map_both (λ a. answer_of a.now) (λ e. e) answer.entry) }
-        ensures idle { self.new.idle ≡ learn_idle no_package self.old.session self.old.idle (result_map_both (λ a. answer_of a.now) (λ e. e) answer.entry) }
+        ensures session { self.new.session
+            ≡ agent_learn no_package self.old.session (result_map_both (λ a. answer_of a.now)
+            (λ e. e) answer.entry) }
+        ensures idle { self.new.idle
+            ≡ learn_idle no_package self.old.session self.old.idle
+            (result_map_both (λ a. answer_of a.now) (λ e. e) answer.entry) }
     {
         match answer {
             Ok(Answer::UpdateComponent(response)) if response.compatibility == CAN_BE_UPDATED => {
@@ -153,8 +173,12 @@ impl Session {
     /// again.
     fn learn_activate(&mut self, answer: Result<&Answer<'_>, Malformed>)
         requires { state_of self.old.session.stage ≡ SessionState.Activate }
-        ensures session { self.new.session ≡ agent_learn no_package self.old.session (result_map_both (λ a. answer_of a.now) (λ e. e) answer.entry) }
-        ensures idle { self.new.idle ≡ learn_idle no_package self.old.session self.old.idle (result_map_both (λ a. answer_of a.now) (λ e. e) answer.entry) }
+        ensures session { self.new.session
+            ≡ agent_learn no_package self.old.session (result_map_both (λ a. answer_of a.now)
+            (λ e. e) answer.entry) }
+        ensures idle { self.new.idle
+            ≡ learn_idle no_package self.old.session self.old.idle
+            (result_map_both (λ a. answer_of a.now) (λ e. e) answer.entry) }
     {
         match answer {
             Ok(Answer::ActivateFirmware { .. }) => self.position.go(SessionState::Done),

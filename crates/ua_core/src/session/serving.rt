@@ -35,7 +35,8 @@ impl Session {
     #[tactic(auto, using(crate::proofs::Answering::answers_read, crate::proofs::Fitting::answers_fit))]
     pub fn take(&mut self, command: &Command<'_>, lent: &Lent<'_>) -> Reply
         ensures answer { result.items ≡ answer_bytes (agent_answer lent.now self.old.session (command_of command.now)) }
-        ensures reads { answer_in (command_code (command_of command.now)) result.items ≡ Some (agent_answer lent.now self.old.session (command_of command.now)) }
+        ensures reads { answer_in (command_code (command_of command.now)) result.items
+            ≡ Some (agent_answer lent.now self.old.session (command_of command.now)) }
         ensures fits { length result.items ≤ reply_limit self.old.session.unit }
         ensures after { self.new.session ≡ agent_after lent.now self.old.session (command_of command.now) }
         ensures idle { self.new.idle ≡ agent_idle lent.now self.old.session self.old.idle (command_of command.now) }
@@ -51,9 +52,12 @@ impl Session {
 
     /// Serves a piece of the image of the component being updated.
     fn data(&mut self, offset: u32, length: u32, lent: &Lent<'_>) -> Reply
-        ensures answer { result.items ≡ answer_bytes (agent_answer lent.now self.old.session (CommandOf.RequestFirmwareData offset length)) }
+        ensures answer { result.items ≡ answer_bytes (agent_answer lent.now self.old.session
+            (CommandOf.RequestFirmwareData offset length)) }
         ensures after { self.new.session ≡ self.old.session }
-        ensures idle { self.new.idle ≡ agent_idle lent.now self.old.session self.old.idle (CommandOf.RequestFirmwareData offset length) }
+        ensures idle { self.new.idle
+            ≡ agent_idle lent.now self.old.session self.old.idle
+            (CommandOf.RequestFirmwareData offset length) }
     {
         match self.position.state {
             SessionState::Download => {}

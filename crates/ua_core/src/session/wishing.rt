@@ -64,7 +64,12 @@ fn flag_at(left: usize, count: usize) -> TransferFlag
 /// Returns the component table entry of a component.
 fn entry<'a>(lent: &Lent<'a>, planned: Planned, flag: TransferFlag) -> TableEntry<'a>
     ensures spoken { CommandRoundTrips (CommandOf.PassComponentTable (table_entry_of result)) }
-    ensures value { table_entry_of result ≡ record { flag = flag; key = key_of (component_at lent.now planned.component); index = planned.index; version = sent_version (component_at lent.now planned.component) } }
+    ensures value { table_entry_of result ≡ record {
+      flag = flag;
+      key = key_of (component_at lent.now planned.component);
+      index = planned.index;
+      version = sent_version (component_at lent.now planned.component);
+    } }
 {
     let component = lent.component(planned.component);
     TableEntry {
