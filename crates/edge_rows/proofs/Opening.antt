@@ -9,7 +9,7 @@ use Rattle.fd_core.specs.Components.{HasComponents}
 use Rattle.fd_core.specs.States.{DeviceOf, Phase}
 use Rattle.fw_message.specs.Laws.{IsUnapplied}
 use Rattle.fw_node.specs.Nodes.{new_device_node}
-use Rattle.fw_steps.specs.Headline.{IsNewNode}
+use Rattle.fw_steps.specs.Opening.{IsNewNode}
 
 pub new_node : (u : «Unit») (endpoint : Endpoint) (agent : ℕ) (d : DeviceOf) → d.device.unit ≡ u → HasComponents d.device → d.device.phase ≡ Phase.Idle → AllByRecursion IsUnapplied d.device.rows → IsEid endpoint.eid
     → IsNewNode u agent (new_device_node endpoint agent d)

@@ -3,7 +3,7 @@ use Rattle.std.proofs.Common.{◌≡◌, ◌≤◌, ◌+◌, ◌&&◌, ℕ, List
 use Rattle.std.specs.Prelude.{IsSomeAnd}
 use Rattle.std.proofs.lemmas.Bool.{ltb-false}
 use Rattle.exch_lane.specs.Lanes.{Sent, item_numbered}
-use Rattle.fw_steps.specs.Headline.{Run, is_device, is_node, may_step, packet_fault, where_known}
+use Rattle.fw_steps.specs.Steps.{Run, is_device, is_node, may_step, packet_fault, where_known}
 use Rattle.fw_steps.specs.Worlds.{WorldOf, packets_of}
 use Rattle.fw_steps.specs.declared.step.Step.{Step}
 use Rattle.fw_steps.specs.declared.step.Step.TheVariants as steps

@@ -5,7 +5,7 @@ use Rattle.std.proofs.lemmas.Bool.{eq-eqb}
 use Rattle.std.proofs.lemmas.Bool.Decides.{nat_tests}
 use Rattle.std.proofs.Math.Bool.{or-true}
 use Rattle.exch_lane.specs.Lanes.{Sent, item_numbered}
-use Rattle.fw_steps.specs.Headline.{is_device, is_node, may_step, packet_fault, where_known}
+use Rattle.fw_steps.specs.Steps.{is_device, is_node, may_step, packet_fault, where_known}
 use Rattle.fw_steps.specs.Worlds.{SiteOf, WorldOf, packets_at, packets_of, site_for}
 use Rattle.fw_steps.specs.declared.step.Step.TheVariants as steps
 use Rattle.fw_edge.specs.Hearing.{IsHeard, IsLiving, LivesWith}

@@ -8,7 +8,8 @@ use Rattle.fd_core.specs.declared.states.Verdict.{Verdict}
 use Rattle.fw_node.specs.Agents.{half_after_activate, half_at, half_for, place_of as half_place, ready_for, ready_in}
 use Rattle.fw_node.specs.Halves.{HalfOf}
 use Rattle.ua_core.specs.Session.{SessionOf, TimedOf}
-use Rattle.fw_steps.specs.Headline.{AreDifferent, StepsTo, Run}
+use Rattle.fw_steps.specs.Opening.{AreDifferent}
+use Rattle.fw_steps.specs.Steps.{StepsTo, Run}
 use Rattle.fw_steps.specs.Worlds.{SiteOf, WorldOf, activates_on, eids_of, place_of, site_for}
 use Rattle.fw_steps.specs.declared.step.Step.{Step}
 use Rattle.fw_steps.specs.declared.step.Step.TheVariants as steps

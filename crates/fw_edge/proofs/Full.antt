@@ -2,7 +2,7 @@
 use Rattle.std.proofs.Common.{◌≡◌, ◌<◌, ◌-◌, ◌^◌, true, List, [], ◌∷◌, None, refl}
 use Rattle.std.proofs.lemmas.Bool.{lt-ltb}
 use Rattle.std.specs.List.{list_all}
-use Rattle.fw_steps.specs.Headline.{may_site_beat, may_step}
+use Rattle.fw_steps.specs.Steps.{may_site_beat, may_step}
 use Rattle.fw_steps.specs.Worlds.{SiteOf, WorldOf, full_tick}
 
 all_may : (xs : List SiteOf) → list_all (may_site_beat []) xs ≡ true

@@ -10,7 +10,7 @@ use Rattle.fw_node.specs.Halves.{half_ticks}
 use Rattle.fw_node.specs.Nodes.{device_on_packet, device_on_verdict, device_restarts}
 use Rattle.fw_node.specs.Packets.{all_packets}
 use Rattle.ua_core.specs.Session.{SessionOf}
-use Rattle.fw_steps.specs.Headline.{StepsTo, Run, world_after}
+use Rattle.fw_steps.specs.Steps.{StepsTo, Run, world_after}
 use Rattle.fw_steps.specs.Worlds.{SiteOf, WorldOf, activates_on, agent_pass_sends, world_after_log_request, at_agent, at_device, counts, world_after_deliver, world_after_verdict, node_becomes, packets_of, place_for, place_of, post, post_at, posts, world_after_restart, sent_now, site_at, site_for, site_after_tick, site_passes, site_restarts, world_after_tick}
 use Rattle.fw_steps.specs.declared.step.Step.{Step}
 use Rattle.fw_steps.specs.declared.step.Step.TheVariants as steps

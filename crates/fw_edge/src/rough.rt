@@ -115,10 +115,7 @@ fn pass<L: Link>(
         Fate::Lost => Ok(()),
         Fate::Once(wait) => pass_copy(link, held, turn, side, packet, wait),
         Fate::Twice(first, second) => {
-            match pass_copy(link, held, turn, side, packet, first) {
-                Ok(()) => {}
-                Err(fault) => return Err(fault),
-            }
+            pass_copy(link, held, turn, side, packet, first)?;
             pass_copy(link, held, turn, side, packet, second)
         }
     }
@@ -164,10 +161,7 @@ fn release<L: Link>(
     ensures refused { OnErr result (CountsOne (L.tally link.old).failures (L.tally link.new).failures) }
     ensures kept { OnErr result (held.new ≡ held.old) }
 {
-    match send_due(link, held.as_slice(), turn) {
-        Ok(()) => {}
-        Err(fault) => return Err(fault),
-    }
+    send_due(link, held.as_slice(), turn)?;
     let_go(held, turn);
     Ok(())
 }

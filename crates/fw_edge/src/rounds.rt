@@ -7,7 +7,7 @@ ghost use Rattle.fw_edge.specs.Drives.{Drives, DrivesCounted};
 ghost use Rattle.fw_edge.specs.Hearing.{IsHeard, IsKnown};
 ghost use Rattle.fw_edge.specs.Ledgers.{NoCountFalls, packet_counts};
 ghost use Rattle.fw_edge.specs.Outcomes.{LinkReadOk, LinkReadErr, PartOk, PartErr, RoundOk, RoundErr, StepErr};
-ghost use Rattle.fw_steps.specs.Headline.{may_step};
+ghost use Rattle.fw_steps.specs.Steps.{may_step};
 ghost use Rattle.fw_steps.specs.Worlds.{eids_of};
 ghost use Rattle.fw_steps.specs.declared.step.Step.{Step};
 
@@ -101,10 +101,7 @@ fn hand_over<B: Bank + Drop>(
         });
     };
     let node = node_at(world, device, end);
-    match take(world, steps, Step::Deliver(device, number, node)) {
-        Ok(()) => {}
-        Err(fault) => return Err(fault),
-    }
+    take(world, steps, Step::Deliver(device, number, node))?;
     Ok(Frames {
         known: 1,
         foreign: 0,

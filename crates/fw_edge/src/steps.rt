@@ -6,7 +6,7 @@ ghost use Rattle.fw_edge.specs.Ledgers.{packet_counts};
 ghost use Rattle.fw_edge.specs.Outcomes.{LacksMemory, SentNone, StepErr, StepsErr};
 ghost use Rattle.fw_edge.specs.Turns.{TakesAll, TakesIf, activation_for, all_due, awaited_in, due_at, verdict_for};
 ghost use Rattle.fw_node.specs.Agents.{half_for, ready_for};
-ghost use Rattle.fw_steps.specs.Headline.{StepsTo, may_step};
+ghost use Rattle.fw_steps.specs.Steps.{StepsTo, may_step};
 ghost use Rattle.fw_steps.specs.Worlds.{eids_of, full_tick, site_for};
 ghost use Rattle.fw_steps.specs.declared.step.Step.{Step};
 

@@ -7,7 +7,7 @@ use Rattle.fwup_wire.specs.declared.values.Key.{Key}
 use Rattle.fd_core.specs.Images.{ImageOf, KeyedImage}
 use Rattle.ua_core.specs.Lent.{package_at}
 use Rattle.ua_core.specs.declared.planned.Recorded.{Recorded}
-use Rattle.fw_message.specs.History.{ActivationOf, EntryOf, IsFrom, IsNamedComponent, IsOfOnePackage, WasApplied, activations, applied_count, read_along, recorded_count}
+use Rattle.fw_message.specs.Headline.{ActivationOf, EntryOf, IsFrom, IsNamedComponent, IsOfOnePackage, WasApplied, activations, applied_count, read_along, recorded_count}
 use Rattle.fw_message.specs.Cases.{HistoriesAreJudged, SafeRefuses, TiedAccepts, TiedRefuses, activates, applies, bank, board, boot, fabric, image, is_safe, is_tied, new_boot, new_fabric, old_boot, packages, keyed_image, recorded_component, records, worked_update}
 
 -- THE WORKED UPDATE

@@ -7,6 +7,7 @@
 -- - `Running`: runs of a world by its named steps.
 -- - `Moments`: any two moments of a run: the history only grows, the devices stay, and the running
 --   images and the records change by the entries between.
+-- - `Showing`: what two worlds show of a device that either may lack.
 -- - `Cases`: the histories by hand, judged.
 -- - `WorldCases`: the worlds by hand, judged.
 --
@@ -56,6 +57,7 @@ mod Rising
 mod Running
 pub mod Safety
 pub mod Sealing
+pub mod Showing
 mod Stepping
 mod WorldCases
 pub mod Working

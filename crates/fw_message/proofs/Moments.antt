@@ -6,16 +6,17 @@ use Rattle.std.proofs.Common.{refl, sym, ap, subst, ◌∙◌, append_assoc, app
 use Rattle.std.proofs.Math.Seq.{drop-append_seam}
 use Rattle.fw_package.specs.Package.{PackageText}
 use Rattle.fd_core.specs.Images.{KeyedImage}
-use Rattle.fw_message.specs.History.{EntryOf, recorded_in, image_or_replacement, running_image, running_after}
-use Rattle.fw_message.specs.Laws.{IsSafeAndTied}
+use Rattle.fw_message.specs.Headline.{EntryOf, IsSafeAndTied, recorded_in, image_or_replacement, running_image, running_after}
+use Rattle.fw_message.specs.Laws.{shown_pair}
 use Rattle.fw_message.specs.Pairs.{PairOf, StepOf, Stepped, pair_after}
 use Rattle.fw_message.specs.Replays.{CountedWorldOf, MessageRun}
 use Rattle.fw_message.specs.RunLaws.{GrowsMessageHistory, IsMessageWorldTiedBetween, IsPairTiedFrom, MessageRunsGrow, MessageRunsJoin, MessageRunsStayTied, message_entries_added}
-use Rattle.fw_message.specs.WorldLaws.{IsSafeMessageWorld, WorldsAreSafe, history_of, run_of}
+use Rattle.fw_message.specs.WorldLaws.{IsSafeMessageWorld, WorldsAreSafe, history_of}
 use Rattle.fw_message.specs.Worlds.{NodeOf, NotedOf, MessageWorldOf, WorldStepOf, agent_restarted, node_at, noted_of, step_at, went_on, with_pair, message_world_after, world_along}
 use Rattle.fw_message.specs.declared.step.MessageStep.{MessageStep}
 use Rattle.fw_message.proofs.Running.{Along, run_append, run_safe, taken_along}
 use Rattle.fw_message.proofs.Safety.Worlds.{history_more, restarted_node}
+use Rattle.fw_message.proofs.Showing.{IsSafeNode, pairs_shown}
 
 -- no device is added or removed
 same_if : (b : Bool) (x y : NodeOf) (o p : Option NodeOf) → is_some o ≡ is_some p → is_some (if b then Some x else o) ≡ is_some (if b then Some y else p)
@@ -108,35 +109,41 @@ recorded_on (EntryOf.Applied p ∷ es) xs = recorded_on es xs
 recorded_on (EntryOf.Recording r ∷ es) xs = ap (λ rs. r ∷ rs) (recorded_on es xs)
 recorded_on (EntryOf.Activated p ∷ es) xs = recorded_on es xs
 
-tied_from : (ps : List PackageText) (first n m : NodeOf) (es more : List EntryOf) → IsSafeAndTied ps (run_of first []) (run_of n es)
-    → IsSafeAndTied ps (run_of first []) (run_of m (es ++ more)) → IsPairTiedFrom n m more
-tied_from ps first n m es more g h = record {
+tied_from : (ps : List PackageText) (first n m : NodeOf) (b es more : List EntryOf) → IsSafeNode ps b first es n
+    → IsSafeNode ps b first (es ++ more) m → IsPairTiedFrom n m more
+tied_from ps first n m b es more g h = record {
   active = h.tied.active ∙ running_on (map running_image first.pair.device.rows) es more ∙ ap (λ rs. running_after rs more) (sym g.tied.active);
   records = h.tied.records ∙ recorded_on es more ∙ ap (λ rs. rs ++ recorded_in more) (sym g.tied.records);
 }
 
 -- the same for the node of an identifier
-tied_new : (ps : List PackageText) (first n : NodeOf) (o : Option NodeOf) (es more all : List EntryOf) → all ≡ es ++ more
-    → IsSafeAndTied ps (run_of first []) (run_of n es) → IsSomeAnd o (λ m. IsSafeAndTied ps (run_of first []) (run_of m all)) → IsSomeAnd o (λ m. IsPairTiedFrom n m more)
-tied_new ps first n None es more all e g h = h
-tied_new ps first n (Some m) es more all e g h =
-    let now : IsSafeAndTied ps (run_of first []) (run_of m (es ++ more)) = subst (λ (xs : List EntryOf). IsSafeAndTied ps (run_of first []) (run_of m xs)) e h in
-    tied_from ps first n m es more g now
+tied_new : (ps : List PackageText) (first n : NodeOf) (o : Option NodeOf) (b es more all : List EntryOf) → all ≡ es ++ more
+    → IsSafeNode ps b first es n → IsSomeAnd o (IsSafeNode ps b first all) → IsSomeAnd o (λ m. IsPairTiedFrom n m more)
+tied_new ps first n None b es more all e g h = h
+tied_new ps first n (Some m) b es more all e g h =
+    let now : IsSafeNode ps b first (es ++ more) m = subst (λ (xs : List EntryOf). IsSafeNode ps b first xs m) e h in
+    tied_from ps first n m b es more g now
 
-tied_at : (ps : List PackageText) (f o p : Option NodeOf) (es more all : List EntryOf) → all ≡ es ++ more → is_some o ≡ is_some f
-    → IfSome f (λ first. IsSomeAnd o (λ n. IsSafeAndTied ps (run_of first []) (run_of n es)))
-    → IfSome f (λ first. IsSomeAnd p (λ m. IsSafeAndTied ps (run_of first []) (run_of m all)))
+tied_at : (ps : List PackageText) (f o p : Option NodeOf) (b es more all : List EntryOf) → all ≡ es ++ more → is_some o ≡ is_some f
+    → IfSome f (λ first. IsSomeAnd o (IsSafeNode ps b first es))
+    → IfSome f (λ first. IsSomeAnd p (IsSafeNode ps b first all))
     → IfSome o (λ n. IsSomeAnd p (λ m. IsPairTiedFrom n m more))
-tied_at ps f None p es more all e there g h = tt
-tied_at ps None (Some n) p es more all e there g h = absurd (cc)
-tied_at ps (Some first) (Some n) p es more all e there g h = tied_new ps first n p es more all e g h
+tied_at ps f None p b es more all e there g h = tt
+tied_at ps None (Some n) p b es more all e there g h = absurd (cc)
+tied_at ps (Some first) (Some n) p b es more all e there g h = tied_new ps first n p b es more all e g h
 
 tied_between : (opening old new : MessageWorldOf) → Later opening old → Later old new → IsSafeMessageWorld opening old → IsSafeMessageWorld opening new → IsMessageWorldTiedBetween old new
 tied_between opening old new before after g h eid =
     let all : history_of eid new.history ≡ history_of eid old.history ++ history_of eid (message_entries_added old new) =
     ap (history_of eid) (grown old new after) ∙ history_more eid old.history (message_entries_added old new) in
-    tied_at opening.packages (node_at opening.nodes eid) (node_at old.nodes eid) (node_at new.nodes eid) (history_of eid old.history) (history_of eid (message_entries_added old new)) (history_of eid new.history)
-    all (before.there eid) (g eid) (h eid)
+    tied_at opening.packages (node_at opening.nodes eid) (node_at old.nodes eid) (node_at new.nodes eid) (history_of eid opening.history) (history_of eid old.history) (history_of eid (message_entries_added old new)) (history_of eid new.history)
+    all (before.there eid) (shown old g) (shown new h)
+  where
+    shown : (w : MessageWorldOf) → IsSafeMessageWorld opening w
+        → IfSome (node_at opening.nodes eid) (λ first. IsSomeAnd (node_at w.nodes eid) (IsSafeNode opening.packages (history_of eid opening.history) first (history_of eid w.history)))
+    shown w k =
+        pairs_shown (λ n. shown_pair n.pair (history_of eid opening.history)) (λ m. shown_pair m.pair (history_of eid w.history))
+        (node_at opening.nodes eid) (node_at w.nodes eid) (IsSafeAndTied opening.packages) (k eid)
 
 pub runs_stay_tied : WorldsAreSafe → MessageRunsStayTied
 runs_stay_tied law opening old new before steps begins to_old to_new =

@@ -6,7 +6,7 @@ use Rattle.fw_package.specs.Package.{ComponentOf, DescriptorOf, PackageText, Rec
 use Rattle.fwup_wire.specs.declared.values.Key.{Key}
 use Rattle.fd_core.specs.Images.{ImageOf, KeyedImage, RowOf}
 use Rattle.ua_core.specs.declared.planned.Recorded.{Recorded}
-use Rattle.fw_message.specs.History.{EntryOf, IsSafe, IsTied}
+use Rattle.fw_message.specs.Headline.{EntryOf, IsSafe, IsTied}
 
 -- a device of one descriptor, and two of its components
 abbrev pub board : List DescriptorOf

@@ -5,8 +5,8 @@ use Rattle.fd_core.specs.Images.{RowOf}
 use Rattle.fd_core.specs.States.{Phase}
 use Rattle.ua_core.specs.Calls.{new_session}
 use Rattle.ua_core.specs.Lent.{package_descriptor}
-use Rattle.fw_message.specs.History.{IsSafe, IsTied}
-use Rattle.fw_message.specs.Pairs.{PairRun, StepOf, message_along}
+use Rattle.fw_message.specs.Headline.{EntryOf, IsSafeAndTied, ShownDevice}
+use Rattle.fw_message.specs.Pairs.{PairOf, PairRun, StepOf, message_along}
 
 -- nothing is applied
 abbrev pub IsUnapplied : RowOf → Type 0
@@ -22,12 +22,18 @@ pub record IsOpening (r : PairRun) : Type 0 where
   pub up : r.pair.up ≡ None
   pub entries : r.entries ≡ []
 
--- the history is safe, and tied with the first running images
-pub record IsSafeAndTied (packages : List PackageText) (opening r : PairRun) : Type 0 where
-  pub safe : IsSafe packages (map package_descriptor opening.pair.device.descriptors) r.entries
-  pub tied : IsTied opening.pair.device.rows r.pair.device.rows r.pair.session.records r.entries
+-- what a device and the agent's session for it show, with this history
+abbrev pub shown_pair : PairOf → List EntryOf → ShownDevice
+shown_pair m es =
+    record { descriptors = map package_descriptor m.device.descriptors; components = m.device.rows; records = m.session.records; entries = es }
+
+abbrev pub shown_run : PairRun → ShownDevice
+shown_run r = shown_pair r.pair r.entries
+
+abbrev pub StaysSafeAndTied : List PackageText → (opening r : PairRun) → Type 0
+StaysSafeAndTied packages opening r = IsSafeAndTied packages (shown_run opening) (shown_run r)
 
 -- Message safety: every run of messages keeps the history of a device safe and tied.
 abbrev pub MessagesAreSafe : Type 0
 MessagesAreSafe = (packages : List PackageText) (opening : PairRun) (steps : List StepOf) → IsOpening opening
-    → IfSome (message_along packages (Some opening) steps) (IsSafeAndTied packages opening)
+    → IfSome (message_along packages (Some opening) steps) (StaysSafeAndTied packages opening)

@@ -2,7 +2,7 @@ pub mod BankCalls
 pub mod Cases
 pub mod Cells
 pub mod Entries
-pub mod History
+pub mod Headline
 pub mod Laws
 pub mod Lending
 pub mod Names

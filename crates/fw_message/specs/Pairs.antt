@@ -15,7 +15,7 @@ use Rattle.ua_core.specs.Learn.{agent_learn}
 use Rattle.ua_core.specs.Serve.{agent_after, agent_answer, recorded_by}
 use Rattle.ua_core.specs.Session.{SessionOf}
 use Rattle.ua_core.specs.Wish.{agent_wish}
-use Rattle.fw_message.specs.History.{EntryOf}
+use Rattle.fw_message.specs.Headline.{EntryOf}
 use Rattle.ua_core.specs.Lent.{package_at}
 use Rattle.fwup_wire.specs.Same.{same_command}
 use Rattle.fw_message.specs.declared.side.Side.{Side}

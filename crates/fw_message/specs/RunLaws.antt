@@ -1,6 +1,6 @@
 -- The laws of any two moments of a run.
 use Rattle.std.specs.Prelude.{ℕ, ◌≡◌, ◌++◌, List, drop, length, map, IfSome, IsSomeAnd}
-use Rattle.fw_message.specs.History.{EntryOf, recorded_in, running_image, running_after}
+use Rattle.fw_message.specs.Headline.{EntryOf, recorded_in, running_image, running_after}
 use Rattle.fw_message.specs.Replays.{CountedWorldOf, MessageRun}
 use Rattle.fw_message.specs.WorldLaws.{IsOpeningMessageWorld, history_of}
 use Rattle.fw_message.specs.Worlds.{NodeOf, NotedOf, MessageWorldOf, node_at}

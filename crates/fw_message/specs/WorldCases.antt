@@ -9,7 +9,7 @@ use Rattle.fd_core.specs.declared.states.Verdict.TheVariants as verdicts
 use Rattle.ua_core.specs.declared.planned.Recorded.{Recorded}
 use Rattle.fw_message.specs.BankCalls.{message_step_calls_bank}
 use Rattle.fw_message.specs.Cases.{activates, bank, boot, image, new_boot, old_boot, packages, recorded_component, records, worked_update}
-use Rattle.fw_message.specs.History.{EntryOf}
+use Rattle.fw_message.specs.Headline.{EntryOf}
 use Rattle.fw_message.specs.Pairs.{PairOf, Stepped, step_without_entries}
 use Rattle.fw_message.specs.RunLaws.{IsMessageWorldTiedBetween}
 use Rattle.fw_message.specs.Worlds.{NodeOf, NotedOf, MessageWorldOf, needs_memory, noted_of}

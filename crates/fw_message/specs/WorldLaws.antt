@@ -1,10 +1,11 @@
 -- The laws of every run of messages between an agent and its devices.
-use Rattle.std.specs.Prelude.{ℕ, ◌≡◌, ◌==◌, if◌then◌else◌, List, [], ◌∷◌, All, None, Some, IfSome, IsSomeAnd}
+use Rattle.std.specs.Prelude.{ℕ, ◌≡◌, ◌==◌, if◌then◌else◌, List, [], ◌∷◌, All, None, Some, IfSome}
+use Rattle.std.specs.Option.{option_map}
 use Rattle.fd_core.specs.States.{DeviceState}
 use Rattle.fd_core.specs.Steps.{device_restart}
 use Rattle.ua_core.specs.Calls.{new_session}
-use Rattle.fw_message.specs.History.{EntryOf}
-use Rattle.fw_message.specs.Laws.{IsOpening, IsSafeAndTied}
+use Rattle.fw_message.specs.Headline.{EntryOf, HeadlineHolds, Shown}
+use Rattle.fw_message.specs.Laws.{IsOpening, shown_pair}
 use Rattle.fw_message.specs.Pairs.{PairRun}
 use Rattle.fw_message.specs.Worlds.{NodeOf, NotedOf, MessageWorldOf, WorldStepOf, node_at, world_along}
 
@@ -33,11 +34,17 @@ new_node eid device =
       pair = record { device = device_restart device; session = (new_session device.unit).session; down = None; up = None };
     }
 
--- each device of the earlier world is in the later one, and its history is safe, and tied with its
--- first running images
+-- what a world shows
+abbrev pub shown_messages : MessageWorldOf → Shown
+shown_messages w =
+    record {
+      packages = w.packages;
+      device = λ eid. option_map (λ n. shown_pair n.pair (history_of eid w.history)) (node_at w.nodes eid);
+    }
+
+-- the headline of worlds of messages
 abbrev pub IsSafeMessageWorld : MessageWorldOf → MessageWorldOf → Type 0
-IsSafeMessageWorld opening w = (eid : ℕ) → IfSome (node_at opening.nodes eid)
-    (λ n. IsSomeAnd (node_at w.nodes eid) (λ m. IsSafeAndTied opening.packages (run_of n []) (run_of m (history_of eid w.history))))
+IsSafeMessageWorld opening w = HeadlineHolds (shown_messages opening) (shown_messages w)
 
 -- Message safety: every run of messages keeps the history of each device safe and tied.
 abbrev pub WorldsAreSafe : Type 0

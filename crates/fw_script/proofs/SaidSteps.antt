@@ -16,7 +16,7 @@ use Rattle.exch_lane.specs.Lanes.{IsEid}
 use Rattle.fd_core.specs.declared.states.Verdict.{Verdict}
 use Rattle.fd_core.specs.declared.states.Verdict.TheVariants as verdicts
 use Rattle.fw_text.specs.Printing.{data_text}
-use Rattle.fw_steps.specs.Headline.{AreDifferent}
+use Rattle.fw_steps.specs.Opening.{AreDifferent}
 use Rattle.fw_steps.specs.Worlds.{full_tick}
 use Rattle.fw_steps.specs.declared.step.Step.{Step}
 use Rattle.fw_steps.specs.declared.step.Step.TheVariants as steps

@@ -14,7 +14,7 @@ use Rattle.fd_core.specs.Codes.{longest_image}
 use Rattle.fwup_wire.specs.Descriptors.{descriptor_size, descriptors_bytes}
 use Rattle.fwup_wire.specs.Values.{DeviceDescriptorOf}
 use Rattle.fwup_wire.specs.declared.values.Key.{Key}
-use Rattle.fw_steps.specs.Headline.{AreDifferent}
+use Rattle.fw_steps.specs.Opening.{AreDifferent}
 use Rattle.fw_script.specs.declared.faults.ScriptCause.{ScriptCause}
 use Rattle.fw_script.specs.declared.faults.ScriptCause.TheVariants as causes
 use Rattle.fw_script.specs.declared.config.Numbers.{Numbers}

@@ -5,7 +5,7 @@ use Rattle.std.specs.List.{AllByRecursion}
 use Rattle.exch_lane.specs.Lanes.{IsEid}
 use Rattle.fd_core.specs.Banks.{has_key}
 use Rattle.fw_script.specs.Configs.{ComponentConfigOf, DeviceConfigOf}
-use Rattle.fw_steps.specs.Headline.{AreDifferent}
+use Rattle.fw_steps.specs.Opening.{AreDifferent}
 use Rattle.fwup_wire.specs.declared.values.Key.{Key}
 
 -- each key differs from the keys before it

@@ -250,10 +250,7 @@ impl Draft {
         if self.agent.is_none() || !self.packages.is_empty() {
             return Err(ScriptCause::Order);
         }
-        let endpoint = match read_node(eid, uuid) {
-            Ok(endpoint) => endpoint,
-            Err(cause) => return Err(cause),
-        };
+        let endpoint = read_node(eid, uuid)?;
         if self.has_node(endpoint.eid) {
             return Err(ScriptCause::Duplicate);
         }
@@ -320,10 +317,7 @@ impl Draft {
         if self.agent.is_none() {
             return Err(ScriptCause::Order);
         }
-        let path = match read_path(alloc, path) {
-            Ok(path) => path,
-            Err(cause) => return Err(cause),
-        };
+        let path = read_path(alloc, path)?;
         let Ok(()) = self.packages.push(path) else {
             return Err(ScriptCause::Memory);
         };

@@ -229,10 +229,7 @@ fn sel(alloc: Global, fields: &[&[u8]]) -> Result<Step, ScriptCause>
     let [digits] = fields else {
         return Err(ScriptCause::Fields);
     };
-    let bytes = match bytes(alloc, digits) {
-        Ok(bytes) => bytes,
-        Err(cause) => return Err(cause),
-    };
+    let bytes = bytes(alloc, digits)?;
     if bytes.len() > MAX_REQUEST {
         return Err(ScriptCause::Limit);
     }
@@ -391,10 +388,7 @@ pub fn read_lines(alloc: Global, text: &[u8]) -> Result<Vec<ScheduleLine>, Scrip
 pub fn read_schedule(alloc: Global, text: &[u8]) -> Result<Vec<Step>, ScriptFault>
     ensures { ReadsAs (λ steps. steps.items) result (script_of text.now) }
 {
-    let lines = match read_lines(alloc, text) {
-        Ok(lines) => lines,
-        Err(fault) => return Err(fault),
-    };
+    let lines = read_lines(alloc, text)?;
     match steps_of_all(alloc, lines) {
         Ok(steps) => Ok(steps),
         Err(_) => Err(ScriptFault {

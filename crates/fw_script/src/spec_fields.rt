@@ -153,10 +153,7 @@ fn rising_uses(alloc: Global, words: &[&[u8]]) -> Result<Vec<u16>, ScriptCause>
     let mut uses = Vec::new(alloc);
     let mut least = 1;
     for word in words {
-        let number = match number_in(word, least, MAX_USE) {
-            Ok(number) => number,
-            Err(cause) => return Err(cause),
-        };
+        let number = number_in(word, least, MAX_USE)?;
         let Ok(()) = uses.push(number.saturating_sub(1) as u16) else {
             return Err(ScriptCause::Memory);
         };

@@ -126,10 +126,7 @@ impl SpecRecord {
         ensures { AnswersUnlessMemory (λ _. spec_record_of self.new) result
             (record_with_descriptor word.now digits.now (spec_record_of self.old)) }
     {
-        let (kind, bytes) = match with_bytes(alloc, kind(word), digits) {
-            Ok(read) => read,
-            Err(cause) => return Err(cause),
-        };
+        let (kind, bytes) = with_bytes(alloc, kind(word), digits)?;
         if self.descriptors.len() >= MAX_DESCRIPTORS {
             return Err(ScriptCause::Limit);
         }
@@ -268,10 +265,7 @@ impl SpecDraft {
         if !self.components.is_empty() {
             return Err(ScriptCause::Order);
         }
-        let said = match read_record(alloc, line, flags, text, uses) {
-            Ok(said) => said,
-            Err(cause) => return Err(cause),
-        };
+        let said = read_record(alloc, line, flags, text, uses)?;
         if self.record_count() >= MAX_RECORDS {
             return Err(ScriptCause::Limit);
         }
@@ -366,10 +360,7 @@ impl SpecDraft {
         let Some(directive) = directive_of(name) else {
             return Err(ScriptCause::Directive);
         };
-        let fields = match all_fields(alloc, rest) {
-            Ok(fields) => fields,
-            Err(cause) => return Err(cause),
-        };
+        let fields = all_fields(alloc, rest)?;
         self.say(alloc, number, directive, fields.as_slice())
     }
 

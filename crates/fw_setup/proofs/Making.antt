@@ -16,7 +16,7 @@ use Rattle.fw_script.specs.Whole.{AreNew, AreWhole, IsDevice, eids_of, keys_of}
 use Rattle.fw_script.specs.Seen.{component_of, device_of}
 use Rattle.fw_script.specs.declared.config.ComponentConfig.{ComponentConfig}
 use Rattle.fw_script.specs.declared.config.DeviceConfig.{DeviceConfig}
-use Rattle.fw_steps.specs.Headline.{AreDifferent, AreNewNodes, IsNewNode, unit_of}
+use Rattle.fw_steps.specs.Opening.{AreDifferent, AreNewNodes, IsNewNode, unit_of}
 use Rattle.fw_setup.specs.Nodes.{device_made, node_made, nodes_made, row_made}
 
 pub keys_made : (cs : List ComponentConfigOf) → map key_of (map row_made cs) ≡ map (λ c. c.key) (map (λ c. c.component) cs)

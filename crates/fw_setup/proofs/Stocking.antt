@@ -15,7 +15,7 @@ use Rattle.fw_script.specs.declared.config.DeviceConfig.{DeviceConfig}
 use Rattle.fw_store.specs.Kept.{KeptOf, all_running, image_for}
 use Rattle.fw_store.specs.declared.faults.OpenFault.{OpenFault}
 use Rattle.fw_store.specs.declared.faults.OpenFault.TheVariants as reasons
-use Rattle.fw_steps.specs.Headline.{AreDifferent}
+use Rattle.fw_steps.specs.Opening.{AreDifferent}
 use Rattle.fw_setup.specs.Nodes.{row_made}
 use Rattle.fw_setup.specs.Stocks.{HaveStoredImages, CanOpen, IsFaulty, HasStoredImages, IsUnmade, IsUnopened, StoresOf, image_configured, images_configured, component_with_kept, stocked_by, stocked_device}
 use Rattle.fw_setup.specs.declared.stores.Unopened.{Unopened}

@@ -5,7 +5,7 @@ ghost use Rattle.std.specs.List.{AllByRecursion};
 ghost use Rattle.fd_core.specs.Components.{HasComponents};
 ghost use Rattle.fw_script.specs.Seen.{component_of, device_of};
 ghost use Rattle.fw_script.specs.Whole.{AreWhole, IsDevice};
-ghost use Rattle.fw_steps.specs.Headline.{AreNewNodes, IsNewNode, IsOpeningWorld, new_world};
+ghost use Rattle.fw_steps.specs.Opening.{AreNewNodes, IsNewNode, IsOpeningWorld, new_world};
 ghost use Rattle.fw_setup.specs.Nodes.{device_made, node_made, nodes_made};
 
 use crate::banks::{Banks, BanksFault, MemBanks};

@@ -162,10 +162,7 @@ fn open_device<F: Folder + Drop, S: Stores<F>>(
         Ok(folder) => folder,
         Err(_) => return Err(OpenFault::Memory),
     };
-    let store = match open_over(alloc, folder, device.components.as_slice()) {
-        Ok(store) => store,
-        Err(fault) => return Err(fault),
-    };
+    let store = open_over(alloc, folder, device.components.as_slice())?;
     match stock(alloc, device, store.images()) {
         Ok(()) => Ok(store),
         Err(_) => Err(OpenFault::Memory),
@@ -187,10 +184,7 @@ fn read_device<F: Folder + Drop, S: Stores<F>>(
     let Ok(folder) = stores.at(alloc, root, device.endpoint.eid) else {
         return Err(OpenFault::Memory);
     };
-    let store = match read_over(alloc, &folder, device.components.as_slice()) {
-        Ok(store) => store,
-        Err(fault) => return Err(fault),
-    };
+    let store = read_over(alloc, &folder, device.components.as_slice())?;
     match stock(alloc, device, store.images()) {
         Ok(()) => Ok(()),
         Err(_) => Err(OpenFault::Memory),

@@ -10,7 +10,7 @@ use Rattle.fwup_wire.proofs.SameCommands.{bytes_means, bytes_self}
 use Rattle.fwup_wire.specs.declared.values.Key.{Key}
 use Rattle.fd_core.specs.Images.{ImageOf, KeyedImage, RowOf, active_of, row_of, same_key}
 use Rattle.fw_node.specs.Nodes.{DeviceNodeOf}
-use Rattle.fw_message.specs.History.{EntryOf, same_image}
+use Rattle.fw_message.specs.Headline.{EntryOf, same_image}
 use Rattle.fw_message.specs.Worlds.{NotedOf, noted_of}
 use Rattle.fw_script.specs.Configs.{ComponentConfigOf, DeviceConfigOf}
 use Rattle.fw_steps.specs.Worlds.{SiteOf, WorldOf, site_for}

@@ -1,6 +1,6 @@
 -- A run continues.
 use Rattle.std.proofs.Common.{◌≡◌, ◌++◌, List, [], ◌∷◌, refl, subst, sym}
-use Rattle.fw_steps.specs.Headline.{StepsTo, Run}
+use Rattle.fw_steps.specs.Steps.{StepsTo, Run}
 use Rattle.fw_steps.specs.Worlds.{WorldOf}
 use Rattle.fw_steps.specs.declared.step.Step.{Step}
 use Rattle.fw_edge.proofs.Going.{run_append}

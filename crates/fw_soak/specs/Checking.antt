@@ -5,7 +5,7 @@ use Rattle.std.specs.List.{list_all}
 use Rattle.fw_package.specs.Package.{PackageText}
 use Rattle.fd_core.specs.Images.{ImageOf, KeyedImage, RowOf, active_of, row_of}
 use Rattle.ua_core.specs.Lent.{package_descriptor}
-use Rattle.fw_message.specs.History.{EntryOf, same_image}
+use Rattle.fw_message.specs.Headline.{EntryOf, same_image}
 use Rattle.fw_message.specs.Worlds.{NotedOf}
 use Rattle.fw_steps.specs.Worlds.{SiteOf, WorldOf, site_for}
 use Rattle.fw_script.specs.Configs.{ComponentConfigOf, DeviceConfigOf}

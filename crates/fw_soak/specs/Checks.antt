@@ -8,7 +8,7 @@ use Rattle.fwup_wire.specs.declared.values.Key.{Key}
 use Rattle.fd_core.specs.Images.{KeyedImage, RowOf, active_of, row_of, same_key}
 use Rattle.ua_core.specs.Lent.{key_of, package_at, package_descriptor}
 use Rattle.ua_core.specs.declared.planned.Recorded.{Recorded}
-use Rattle.fw_message.specs.History.{EntryOf}
+use Rattle.fw_message.specs.Headline.{EntryOf}
 use Rattle.fw_message.specs.Worlds.{NotedOf, noted_of}
 use Rattle.fw_steps.specs.Worlds.{SiteOf, WorldOf, site_for}
 use Rattle.fw_script.specs.Configs.{ComponentConfigOf, DeviceConfigOf}

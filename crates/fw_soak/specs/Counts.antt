@@ -1,7 +1,7 @@
 -- The counts of a run.
 use Rattle.std.specs.Prelude.{ℕ, ◌+◌, ◌-◌, ◌^◌, ◌==◌, Bool, true, false, if◌then◌else◌, nat_lt, not, List, [], ◌∷◌, Option, Some, None, filter, length, map, min, option_map, replicate, slice_set}
 use Rattle.std.specs.List.{sum_by}
-use Rattle.fw_message.specs.History.{EntryOf}
+use Rattle.fw_message.specs.Headline.{EntryOf}
 use Rattle.fw_message.specs.Worlds.{NotedOf}
 use Rattle.fw_steps.specs.Worlds.{SiteOf, WorldOf}
 use Rattle.fw_steps.specs.declared.step.Step.{Step}

@@ -5,7 +5,8 @@ use Rattle.mctp_wire.specs.declared.unit.Unit.{«Unit»}
 use Rattle.fw_package.specs.Package.{PackageText}
 use Rattle.fw_script.specs.Configs.{DeviceConfigOf}
 use Rattle.fw_setup.specs.Nodes.{nodes_made}
-use Rattle.fw_steps.specs.Headline.{Run, new_world}
+use Rattle.fw_steps.specs.Opening.{new_world}
+use Rattle.fw_steps.specs.Steps.{Run}
 use Rattle.fw_steps.specs.Worlds.{WorldOf}
 use Rattle.fw_steps.specs.declared.step.Step.{Step}
 

@@ -3,7 +3,7 @@
 ghost use Rattle.std.specs.Prelude.{◌≡◌, IfOk, map};
 ghost use Rattle.fw_script.specs.Seen.{device_of};
 ghost use Rattle.fw_script.specs.Whole.{AreWhole};
-ghost use Rattle.fw_steps.specs.Headline.{IsOpeningWorld};
+ghost use Rattle.fw_steps.specs.Opening.{IsOpeningWorld};
 ghost use Rattle.fw_soak.specs.Courses.{opening_of};
 ghost use Rattle.fw_soak.specs.Setups.{setup_of};
 

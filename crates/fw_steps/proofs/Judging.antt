@@ -10,7 +10,7 @@ use Rattle.fd_core.specs.declared.states.Progress.TheVariants as progress
 use Rattle.fd_core.specs.declared.states.Verdict.{Verdict}
 use Rattle.fd_core.specs.declared.states.Verdict.TheVariants as verdicts
 use Rattle.fwup_wire.specs.declared.values.Key.{Key}
-use Rattle.fw_message.specs.History.{EntryOf}
+use Rattle.fw_message.specs.Headline.{EntryOf}
 use Rattle.fw_message.specs.Worlds.{NotedOf, noted_of}
 use Rattle.fw_message.proofs.Sealing.{applies}
 use Rattle.fw_message.proofs.Working.{applies_nothing, is_apply_ok}

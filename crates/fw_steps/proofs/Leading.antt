@@ -10,7 +10,7 @@ use Rattle.fd_core.specs.Steps.{applied_by}
 use Rattle.fd_core.specs.declared.states.Verdict.{Verdict}
 use Rattle.fw_package.specs.Package.{PackageText}
 use Rattle.ua_core.specs.Session.{SessionOf}
-use Rattle.fw_message.specs.History.{EntryOf}
+use Rattle.fw_message.specs.Headline.{EntryOf}
 use Rattle.fw_message.specs.Worlds.{NotedOf, noted_of}
 use Rattle.fw_node.specs.Agents.{AgentOf, half_after_activate, agent_becomes, agent_restarts, half_after_cancel, ready_for, half_after_start}
 use Rattle.fw_node.specs.BankCalls.{packet_calls_bank}
@@ -19,7 +19,7 @@ use Rattle.fw_node.specs.Nodes.{device_on_packet, device_on_verdict}
 use Rattle.fw_node.specs.Packets.{all_packets}
 use Rattle.fw_steps.specs.BankCalls.{delivery_calls_bank, judgement_calls_bank, receipt_calls_bank, step_calls_bank}
 use Rattle.fw_steps.specs.Deliveries.{DeliversToDevice, GivesVerdict}
-use Rattle.fw_steps.specs.Headline.{StepsTo, faults_before, faults_of, has_session, is_package, may_step, ready_fault, start_fault, tick_fault, world_after}
+use Rattle.fw_steps.specs.Steps.{StepsTo, faults_before, faults_of, has_session, is_package, may_step, ready_fault, start_fault, tick_fault, world_after}
 use Rattle.fw_steps.specs.Worlds.{SiteOf, WorldOf, activated_at, activates_on, world_after_log_request, at_agent, at_device, world_after_call, world_after_packet, world_after_deliver, world_after_verdict, node_becomes, packets_of, place_of, sent_now, site_at, site_for, site_restarts, world_after_tick}
 use Rattle.fw_steps.specs.declared.step.Step.{Step}
 use Rattle.fw_steps.specs.declared.step.Step.TheVariants as steps

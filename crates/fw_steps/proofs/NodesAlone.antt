@@ -10,7 +10,7 @@ use Rattle.ua_core.specs.Session.{SessionOf}
 use Rattle.fw_node.specs.Agents.{AgentOf, agent_on_packet, ready_for}
 use Rattle.fw_node.specs.Nodes.{DeviceNodeOf, device_restarts}
 use Rattle.fw_steps.specs.Alone.{AgentCall, AgentIsAlone, DeviceCall, DevicesAreAlone, agent_after_activation, agent_after_call, agent_after_calls, agent_after_log_request, agent_step_calls, agent_run_calls, agent_receipt, device_after_call, device_after_calls, device_step_calls, device_run_calls, device_receipt}
-use Rattle.fw_steps.specs.Headline.{StepsTo, Run, world_after}
+use Rattle.fw_steps.specs.Steps.{StepsTo, Run, world_after}
 use Rattle.fw_steps.specs.Worlds.{SiteOf, WorldOf, activates_on, agent_pass_sends, agent_passes, world_after_log_request, at_agent, at_device, counts, world_after_deliver, packets_of, place_of, posts, site_for, site_after_tick, site_passes, world_after_tick}
 use Rattle.fw_steps.specs.declared.step.Step.{Step}
 use Rattle.fw_steps.specs.declared.step.Step.TheVariants as steps

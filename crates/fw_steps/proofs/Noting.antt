@@ -2,7 +2,7 @@
 use Rattle.std.proofs.Common.{◌≡◌, ◌∙◌, ◌++◌, ◌&&◌, ℕ, Bool, true, false, List, [], ◌∷◌, map, ap, refl, sym}
 use Rattle.fd_core.specs.Images.{KeyedImage, applied_keyed_images}
 use Rattle.fw_node.specs.Nodes.{device_on_packet}
-use Rattle.fw_message.specs.History.{EntryOf}
+use Rattle.fw_message.specs.Headline.{EntryOf}
 use Rattle.fw_message.specs.Worlds.{NotedOf, noted_of}
 use Rattle.fw_steps.specs.Sites.{HandlesPacketAtSite, NotesPacketAtSite, is_activated, is_ready}
 use Rattle.fw_steps.specs.Worlds.{SiteOf, activated_at}

@@ -11,7 +11,7 @@ use Rattle.fw_message.specs.Laws.{IsUnapplied}
 use Rattle.fd_core.specs.Components.{HasComponents}
 use Rattle.fw_node.specs.Nodes.{DeviceNodeOf, new_device_node}
 use Rattle.fw_package.specs.Package.{PackageText}
-use Rattle.fw_steps.specs.Headline.{AreNewNodes, IsNewNode, IsOpeningWorld, new_site, new_world, unit_of}
+use Rattle.fw_steps.specs.Opening.{AreNewNodes, IsNewNode, IsOpeningWorld, new_site, new_world, unit_of}
 use Rattle.fw_steps.specs.Widths.{HasDeviceWidths, HavePackageWidths, HasWidthsAsNew}
 use Rattle.fw_steps.specs.Sites.{SiteWithRoom, sites_of}
 use Rattle.fw_steps.specs.Worlds.{WorldOf}

@@ -9,7 +9,7 @@ use Rattle.fd_core.specs.declared.states.Verdict.{Verdict}
 use Rattle.fw_node.specs.Agents.{AgentOf, agent_on_packet, ready_for}
 use Rattle.fw_node.specs.Nodes.{device_restarts}
 use Rattle.fw_steps.specs.Alone.{AgentCall, DeviceCall, PacketsAreTheirs, agent_step_calls, agent_receipt, agent_step_packets, device_step_calls, device_receipt, device_call_packets, site_step_packets, is_for, pair_step_packets, pair_run_packets, step_date}
-use Rattle.fw_steps.specs.Headline.{StepsTo, Run, world_after}
+use Rattle.fw_steps.specs.Steps.{StepsTo, Run, world_after}
 use Rattle.fw_steps.specs.Worlds.{SiteOf, WorldOf, agent_pass_sends, at_agent, at_device, counts, world_after_deliver, packets_of, place_of, posts, sent_now, site_for, site_after_tick, site_passes, world_after_tick}
 use Rattle.fw_steps.specs.declared.step.Step.{Step}
 use Rattle.fw_steps.specs.declared.step.Step.TheVariants as steps

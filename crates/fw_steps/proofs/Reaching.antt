@@ -2,7 +2,10 @@
 use Rattle.std.proofs.Common.{◌≡◌, ◌++◌, ◌∙◌, List, [], ◌∷◌, map, refl, sym, ap, subst}
 use Rattle.std.specs.Prelude.{Result, Ok, Err, OnOk, OnErr}
 use Rattle.fw_node.specs.Nodes.{DeviceNodeOf}
-use Rattle.fw_steps.specs.Headline.{AreDifferent, IsOpeningWorld, IsPromised, IsReached, StepsTo, PacketsAreMessages, PacketsAreSafe, Run, RunsStayTied, new_site}
+use Rattle.fw_steps.specs.Clocks.{RunsKeepTime}
+use Rattle.fw_steps.specs.Opening.{AreDifferent, IsOpeningWorld, new_site}
+use Rattle.fw_steps.specs.Promises.{IsPromised, IsReached, PacketsAreMessages, PacketsAreSafe, RunsArePromised, RunsGrow, RunsStayTied}
+use Rattle.fw_steps.specs.Steps.{StepsTo, Run}
 use Rattle.fw_steps.specs.Worlds.{WorldOf, eids_of}
 use Rattle.fw_steps.specs.declared.step.Step.{Step}
 use Rattle.fw_steps.specs.declared.step.StepFault.{StepFault}
@@ -31,12 +34,27 @@ new_eids (n ∷ nodes) = ap (λ es. n.endpoint.eid ∷ es) (new_eids nodes)
 pub opening_apart : (w : WorldOf) → IsOpeningWorld w → AreDifferent (eids_of w.sites)
 opening_apart w o = subst AreDifferent (sym (ap (λ x. eids_of x.sites) o.is ∙ new_eids o.nodes)) o.are.apart.1
 
-pub promised : (w : WorldOf) → PacketsAreSafe → RunsStayTied → PacketsAreMessages → IsReached w → IsPromised w
-promised w safe tied messages r = record {
-  reached = r;
-  devices = run_eids r.opening w r.before r.run;
+-- The laws of runs.
+pub record LawsOfRuns : Type 0 where
+  pub safe : PacketsAreSafe
+  pub grow : RunsGrow
+  pub tied : RunsStayTied
+  pub messages : PacketsAreMessages
+  pub time : RunsKeepTime
+
+pub promised_since : LawsOfRuns → RunsArePromised
+promised_since laws opening w steps opens run = record {
+  devices = run_eids opening w steps run;
+  safe = laws.safe opening w steps opens run;
+  grown = laws.grow opening w steps run;
+  tied = laws.tied opening opening w [] steps opens refl run;
+  messages = laws.messages opening w steps opens run;
+  clocks = laws.time opening opening w [] steps opens refl run;
+}
+
+pub promised : (w : WorldOf) → RunsArePromised → IsReached w → IsPromised w
+promised w law r = record {
   apart = subst AreDifferent (sym (run_eids r.opening w r.before r.run)) (opening_apart r.opening r.opens);
-  safe = safe r.opening w r.before r.opens r.run;
-  tied = tied r.opening r.opening w [] r.before r.opens refl r.run;
-  messages = messages r.opening w r.before r.opens r.run;
+  reached = r;
+  since = λ opening steps opens run. law opening w steps opens run;
 }

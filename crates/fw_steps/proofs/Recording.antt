@@ -2,7 +2,7 @@
 use Rattle.std.proofs.Common.{◌≡◌, ◌∙◌, ◌++◌, ℕ, IfSome, List, map, Option, Some, None, ap, refl, sym}
 use Rattle.std.specs.Prelude.{option_to_list}
 use Rattle.ua_core.specs.declared.planned.Recorded.{Recorded}
-use Rattle.fw_message.specs.History.{EntryOf}
+use Rattle.fw_message.specs.Headline.{EntryOf}
 use Rattle.fw_message.specs.Worlds.{NotedOf, noted_of}
 use Rattle.fw_node.specs.Agents.{AgentOf, half_for}
 use Rattle.fw_steps.specs.Worlds.{record_count_of, record_after, recorded_from}

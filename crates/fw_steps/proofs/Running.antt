@@ -1,6 +1,6 @@
 -- Runs of the world, one after another.
 use Rattle.std.proofs.Common.{◌++◌, List, [], ◌∷◌, subst}
-use Rattle.fw_steps.specs.Headline.{Run}
+use Rattle.fw_steps.specs.Steps.{Run}
 use Rattle.fw_steps.specs.Worlds.{WorldOf}
 use Rattle.fw_steps.specs.declared.step.Step.{Step}
 

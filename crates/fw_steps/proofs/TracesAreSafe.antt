@@ -3,11 +3,12 @@
 use Rattle.std.proofs.Common.{◌≡◌, ◌==◌, ◌∷◌, ℕ, Bool, true, false, if◌then◌else◌, List, [], Option, Some, None, IfSome, IsSomeAnd, refl, sym, ap, subst}
 use Rattle.std.specs.Option.{option_map}
 use Rattle.fw_package.specs.Package.{PackageText}
-use Rattle.fw_message.specs.Laws.{IsSafeAndTied}
+use Rattle.fw_message.specs.Headline.{IsSafeAndTied}
 use Rattle.fw_message.specs.Pairs.{PairOf}
 use Rattle.fw_message.specs.WorldLaws.{history_of}
 use Rattle.fw_steps.specs.Alone.{pair_of_nodes}
-use Rattle.fw_steps.specs.Headline.{PacketsAreSafe, pair_run}
+use Rattle.fw_message.specs.Laws.{shown_pair}
+use Rattle.fw_steps.specs.Promises.{PacketsAreSafe}
 use Rattle.fw_steps.specs.Plays.{EndsSafely, DeviceProcess, IsRun, device_process_after}
 use Rattle.fw_steps.specs.Traces.{Act, AreSafeProcesses, DeviceAct, IsPlay, ProcessesOf, TracesAreSafe, processes_after_act, processes_after, device_process_after_act, new_process, processes_of, processes_at, acts_until}
 use Rattle.fw_steps.specs.Worlds.{SiteOf, WorldOf, pair_for, site_for}
@@ -30,10 +31,10 @@ safe_by opening ps p r none safe = record {
   run = r;
   safe = λ eid. pair_by (pair_for opening eid) _ _
       (λ m h. device_by (site_for opening.sites eid) (ps.device eid)
-      (λ q. IsSomeAnd (pair_of_nodes ps.agent.node eid q.node) (λ n. IsSafeAndTied opening.packages (pair_run m []) (pair_run n (history_of eid r.world.history))))
+      (λ q. IsSomeAnd (pair_of_nodes ps.agent.node eid q.node) (λ n. IsSafeAndTied opening.packages (shown_pair m []) (shown_pair n (history_of eid r.world.history))))
       (λ x. device_process_after eid x.node p.play) (p.devices eid) (none eid)
       (subst (λ a. IfSome (site_for opening.sites eid) (λ x. IsSomeAnd (pair_of_nodes a.node eid (device_process_after eid x.node p.play).node)
-      (λ n. IsSafeAndTied opening.packages (pair_run m []) (pair_run n (history_of eid r.world.history))))) p.agent h)) (safe eid);
+      (λ n. IsSafeAndTied opening.packages (shown_pair m []) (shown_pair n (history_of eid r.world.history))))) p.agent h)) (safe eid);
 }
 
 -- There are no processes of devices that aren't there.

@@ -14,16 +14,17 @@ use Rattle.fd_core.specs.Steps.{applied_by}
 use Rattle.fd_core.specs.declared.states.Verdict.{Verdict}
 use Rattle.sel_core.specs.Log.{sel_after}
 use Rattle.ua_core.specs.Session.{SessionOf}
-use Rattle.fw_message.specs.History.{EntryOf}
+use Rattle.fw_message.specs.Headline.{EntryOf, IsSafeAndTied}
 use Rattle.fw_node.specs.Agents.{AgentOf, half_after_activate, agent_becomes, agent_on_packet, agent_restarts, agent_tick_sends, agent_ticks, half_after_cancel, half_for, ready_for, half_after_start}
 use Rattle.fw_node.specs.Cores.{device_core}
 use Rattle.fw_node.specs.Halves.{half_ticks}
 use Rattle.fw_node.specs.Nodes.{DeviceNodeOf, device_on_packet, device_on_verdict, device_restarts}
 use Rattle.fw_node.specs.Packets.{all_packets}
-use Rattle.fw_message.specs.Laws.{IsSafeAndTied}
 use Rattle.fw_message.specs.Pairs.{PairOf}
 use Rattle.fw_message.specs.WorldLaws.{history_of}
-use Rattle.fw_steps.specs.Headline.{IsOpeningWorld, Run, pair_run}
+use Rattle.fw_message.specs.Laws.{shown_pair}
+use Rattle.fw_steps.specs.Opening.{IsOpeningWorld}
+use Rattle.fw_steps.specs.Steps.{Run}
 use Rattle.fw_steps.specs.Worlds.{SiteOf, WorldOf, activated_at, counts, node_becomes, packets_of, pair_for, pair_with, sent_now, site_for}
 use Rattle.fw_steps.specs.declared.step.Step.{Step}
 use Rattle.fw_steps.specs.declared.step.Step.TheVariants as steps
@@ -179,7 +180,7 @@ ProcessesAreSafe =
     → IsOpeningWorld opening → AreRunCalls opening v ss run eid of_agent of_device
     → IfSome (pair_for opening eid) (λ m. IfSome (site_for opening.sites eid)
     (λ x. IsSomeAnd (pair_of_nodes (agent_after_calls opening.packages opening.agent of_agent) eid (device_after_calls x.node of_device))
-    (λ n. IsSafeAndTied opening.packages (pair_run m []) (pair_run n (history_of eid v.history)))))
+    (λ n. IsSafeAndTied opening.packages (shown_pair m []) (shown_pair n (history_of eid v.history)))))
 
 -- PACKETS
 

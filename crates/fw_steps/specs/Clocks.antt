@@ -1,7 +1,8 @@
 -- The law of clocks: the ticks that a node counts while units of time pass, from the steps alone.
 use Rattle.std.specs.Prelude.{ℕ, ◌≡◌, ◌≤◌, ◌+◌, true, if◌then◌else◌, List, [], ◌∷◌}
 use Rattle.exch_lane.specs.Clocks.{late}
-use Rattle.fw_steps.specs.Headline.{IsOpeningWorld, Run, is_node}
+use Rattle.fw_steps.specs.Opening.{IsOpeningWorld}
+use Rattle.fw_steps.specs.Steps.{Run, is_node}
 use Rattle.fw_steps.specs.Worlds.{WorldOf, counts}
 use Rattle.fw_steps.specs.declared.step.Step.{Step}
 use Rattle.fw_steps.specs.declared.step.Step.TheVariants as steps

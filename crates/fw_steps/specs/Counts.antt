@@ -1,7 +1,8 @@
 -- The law of the banks' counts of failures.
 use Rattle.std.specs.Prelude.{ℕ, ◌≡◌, IfSome, false}
 use Rattle.fw_steps.specs.BankCalls.{step_calls_bank}
-use Rattle.fw_steps.specs.Headline.{IsReached, StepsTo}
+use Rattle.fw_steps.specs.Promises.{IsReached}
+use Rattle.fw_steps.specs.Steps.{StepsTo}
 use Rattle.fw_steps.specs.Isolation.{faults_at}
 use Rattle.fw_steps.specs.Worlds.{WorldOf, pair_for}
 use Rattle.fw_steps.specs.declared.step.Step.{Step}

@@ -3,12 +3,13 @@ use Rattle.std.specs.Prelude.{ℕ, ◌≡◌, ◌≢◌, ◌≤◌, ◌-◌, ◌
 use Rattle.std.specs.List.{filter}
 use Rattle.exch_lane.specs.Lanes.{Sent}
 use Rattle.ua_core.specs.Session.{TimedOf}
-use Rattle.fw_message.specs.History.{EntryOf}
+use Rattle.fw_message.specs.Headline.{EntryOf}
 use Rattle.fw_message.specs.WorldLaws.{history_of}
 use Rattle.fw_node.specs.Agents.{half_for}
 use Rattle.fw_node.specs.Halves.{HalfOf}
 use Rattle.fw_node.specs.Nodes.{DeviceNodeOf}
-use Rattle.fw_steps.specs.Headline.{IsReached, Run, faults_of}
+use Rattle.fw_steps.specs.Promises.{IsReached}
+use Rattle.fw_steps.specs.Steps.{Run, faults_of}
 use Rattle.fw_steps.specs.Worlds.{SiteOf, WorldOf, counts, site_for}
 use Rattle.fw_steps.specs.declared.step.Step.{Step}
 use Rattle.fw_steps.specs.declared.step.Step.TheVariants as steps

@@ -8,7 +8,6 @@ pub mod Counts
 pub mod Dead
 pub mod Deliveries
 pub mod Faults
-pub mod Headline
 pub mod Isolation
 pub mod Joins
 pub mod Lanes
@@ -18,12 +17,15 @@ pub mod LinksAreMessages
 pub mod Messages
 pub mod MessagesRoundTrip
 pub mod Moments
+pub mod Opening
 pub mod Packets
 pub mod Plays
+pub mod Promises
 pub mod Replays
 pub mod Sites
 pub mod StepCases
-pub mod Widths
+pub mod Steps
 pub mod Traces
+pub mod Widths
 pub mod WorldCases
 pub mod Worlds

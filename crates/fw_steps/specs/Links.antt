@@ -14,7 +14,7 @@ use Rattle.fd_core.specs.declared.states.Verdict.{Verdict}
 use Rattle.ua_core.specs.Calls.{agent_activated}
 use Rattle.ua_core.specs.Serve.{recorded_by}
 use Rattle.ua_core.specs.Session.{SessionOf, TimedOf}
-use Rattle.fw_message.specs.History.{EntryOf}
+use Rattle.fw_message.specs.Headline.{EntryOf}
 use Rattle.fw_message.specs.Pairs.{may_start}
 use Rattle.fw_message.specs.declared.side.Side.{Side}
 use Rattle.fw_message.specs.declared.side.Side.TheVariants as sides

@@ -4,7 +4,7 @@ use Rattle.std.specs.Prelude.{◌≡◌, ◌∷◌, [], ℕ, List, Some}
 use Rattle.std.specs.List.{AllByRecursion}
 use Rattle.exch_lane.specs.Cells.{Cell}
 use Rattle.fw_package.specs.Package.{PackageText}
-use Rattle.fw_message.specs.History.{EntryOf}
+use Rattle.fw_message.specs.Headline.{EntryOf}
 use Rattle.fw_message.specs.Names.{HasName}
 use Rattle.fw_message.specs.Pairs.{PairOf, StepOf, message_along, history_with}
 use Rattle.fw_message.specs.declared.side.Side.TheVariants as sides

@@ -11,7 +11,8 @@ use Rattle.fw_node.specs.Agents.{half_for}
 use Rattle.fw_node.specs.Cores.{TimedDevice, device_core, session_core}
 use Rattle.fw_node.specs.Halves.{HalfOf, half_on_packet, half_ticks}
 use Rattle.fw_node.specs.Nodes.{TakenAnswerRoundTrips}
-use Rattle.fw_steps.specs.Headline.{IsOpeningWorld, Run, is_device}
+use Rattle.fw_steps.specs.Opening.{IsOpeningWorld}
+use Rattle.fw_steps.specs.Steps.{Run, is_device}
 use Rattle.fw_steps.specs.Worlds.{WorldOf, site_for}
 use Rattle.fw_steps.specs.declared.step.Step.{Step}
 

@@ -2,7 +2,7 @@
 -- images, the applied images and the agent's records of a device at the later moment are those of
 -- the earlier moment, changed by the entries between.
 use Rattle.std.specs.Prelude.{ℕ, ◌≡◌, ◌++◌, List, drop, length, map, All, IfSome, IsSomeAnd}
-use Rattle.fw_message.specs.History.{EntryOf, WasApplied, recorded_in, running_image, running_after}
+use Rattle.fw_message.specs.Headline.{EntryOf, WasApplied, recorded_in, running_image, running_after}
 use Rattle.fw_message.specs.Pairs.{PairOf}
 use Rattle.fw_message.specs.WorldLaws.{history_of}
 use Rattle.fw_message.specs.Worlds.{NotedOf}

@@ -13,16 +13,17 @@ use Rattle.fd_core.specs.BankCalls.{verdict_calls_bank}
 use Rattle.fd_core.specs.Banks.{CountsFailure}
 use Rattle.fd_core.specs.Steps.{device_verdict}
 use Rattle.fd_core.specs.declared.states.Verdict.{Verdict}
-use Rattle.fw_message.specs.History.{EntryOf}
+use Rattle.fw_message.specs.Headline.{EntryOf, IsSafeAndTied}
 use Rattle.fw_message.specs.Worlds.{NotedOf}
-use Rattle.fw_message.specs.Laws.{IsSafeAndTied}
 use Rattle.fw_message.specs.WorldLaws.{history_of}
 use Rattle.fw_node.specs.Agents.{AgentOf, agent_on_packet, any_packet, free_for, half_for, ready_for}
 use Rattle.fw_node.specs.BankCalls.{packet_calls_bank}
 use Rattle.fw_node.specs.Cores.{device_core}
 use Rattle.fw_node.specs.Nodes.{DeviceNodeOf}
 use Rattle.fw_steps.specs.Alone.{AgentCall, AreRunCalls, DeviceCall, agent_after_calls, agent_step_packets, device_after_calls, device_step_packets, device_call_entries, is_for, pair_of_nodes}
-use Rattle.fw_steps.specs.Headline.{IsOpeningWorld, Run, is_device, is_package, pair_run, ready_fault, start_fault}
+use Rattle.fw_message.specs.Laws.{shown_pair}
+use Rattle.fw_steps.specs.Opening.{IsOpeningWorld}
+use Rattle.fw_steps.specs.Steps.{Run, is_device, is_package, ready_fault, start_fault}
 use Rattle.fw_steps.specs.Worlds.{WorldOf, pair_for, recorded_from, sender_of, sent_now, site_for}
 use Rattle.fw_steps.specs.declared.step.Step.{Step}
 
@@ -223,7 +224,7 @@ abbrev pub EndsSafely : (opening : WorldOf) → (play : List PlayStep) → (worl
 EndsSafely opening play world =
     (eid : ℕ) → IfSome (pair_for opening eid) (λ m. IfSome (site_for opening.sites eid)
     (λ x. IsSomeAnd (pair_of_nodes (agent_process_after opening play).node eid (device_process_after eid x.node play).node)
-    (λ n. IsSafeAndTied opening.packages (pair_run m []) (pair_run n (history_of eid world.history)))))
+    (λ n. IsSafeAndTied opening.packages (shown_pair m []) (shown_pair n (history_of eid world.history)))))
 
 -- So the headline holds for the processes of a play.
 abbrev pub PlaysAreSafe : Type 0

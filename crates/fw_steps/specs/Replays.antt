@@ -1,6 +1,6 @@
 -- The reason why a step isn't taken, which stops a replay; and the steps that need memory.
 use Rattle.std.specs.Prelude.{◌≡◌, ◌⊎◌, Bool, true, false, Some, None}
-use Rattle.fw_steps.specs.Headline.{may_step}
+use Rattle.fw_steps.specs.Steps.{may_step}
 use Rattle.fd_core.specs.declared.states.Verdict.{Verdict}
 use Rattle.fd_core.specs.declared.states.Verdict.TheVariants as verdicts
 use Rattle.fw_steps.specs.Worlds.{WorldOf}

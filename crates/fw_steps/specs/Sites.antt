@@ -7,7 +7,7 @@ use Rattle.fd_core.specs.Images.{KeyedImage, RowOf, applied_of, applied_keyed_im
 use Rattle.fwup_wire.specs.declared.values.Key.{Key}
 use Rattle.fd_core.specs.Steps.{applied_by, device_verdict}
 use Rattle.fd_core.specs.declared.states.Verdict.{Verdict}
-use Rattle.fw_message.specs.History.{EntryOf}
+use Rattle.fw_message.specs.Headline.{EntryOf}
 use Rattle.fw_message.specs.Worlds.{NotedOf, noted_of}
 use Rattle.fw_node.specs.BankCalls.{packet_calls_bank}
 use Rattle.fw_node.specs.Cores.{device_core}

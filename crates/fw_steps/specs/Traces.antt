@@ -18,10 +18,11 @@ use Rattle.exch_lane.specs.Lanes.{Sent}
 use Rattle.exch_lane.specs.Steps.{sent_at}
 use Rattle.fw_package.specs.Package.{PackageText}
 use Rattle.fd_core.specs.declared.states.Verdict.{Verdict}
-use Rattle.fw_message.specs.Laws.{IsSafeAndTied}
+use Rattle.fw_message.specs.Headline.{IsSafeAndTied}
 use Rattle.fw_message.specs.WorldLaws.{history_of}
 use Rattle.fw_steps.specs.Alone.{AgentCall, DeviceCall, agent_after_call, agent_call_packets, device_after_call, device_call_packets, is_for, pair_of_nodes}
-use Rattle.fw_steps.specs.Headline.{IsOpeningWorld, pair_run}
+use Rattle.fw_message.specs.Laws.{shown_pair}
+use Rattle.fw_steps.specs.Opening.{IsOpeningWorld}
 use Rattle.fw_steps.specs.Plays.{AgentMayCall, AgentProcess, EachMayFollow, DeviceMayCall, DeviceProcess, PlayStep, IsRun, agent_process_after, device_process_after}
 use Rattle.fw_steps.specs.Worlds.{SiteOf, WorldOf, pair_for, sent_now, site_for}
 
@@ -213,7 +214,7 @@ pub record AreSafeProcesses (opening : WorldOf) (ps : ProcessesOf) : Type 0 wher
   pub play : IsPlay opening ps
   pub run : IsRun opening play.play
   pub safe : (eid : ℕ) → IfSome (pair_for opening eid) (λ m. IfSome (ps.device eid)
-      (λ q. IsSomeAnd (pair_of_nodes ps.agent.node eid q.node) (λ n. IsSafeAndTied opening.packages (pair_run m []) (pair_run n (history_of eid run.world.history)))))
+      (λ q. IsSomeAnd (pair_of_nodes ps.agent.node eid q.node) (λ n. IsSafeAndTied opening.packages (shown_pair m []) (shown_pair n (history_of eid run.world.history)))))
 
 -- The headline of separate processes: for any acts of them, each by its own clock, they are safe at
 -- the end of each unit that all of them have reached.

@@ -18,7 +18,7 @@ use Rattle.pldm_exch.specs.Caller.{is_quiet}
 use Rattle.sel_core.specs.Log.{sel_after, sel_reply}
 use Rattle.ua_core.specs.Session.{SessionOf, TimedOf}
 use Rattle.ua_core.specs.declared.planned.Recorded.{Recorded}
-use Rattle.fw_message.specs.History.{EntryOf}
+use Rattle.fw_message.specs.Headline.{EntryOf}
 use Rattle.fw_message.specs.Pairs.{PairOf}
 use Rattle.fw_message.specs.Worlds.{NotedOf, noted_of}
 use Rattle.fw_node.specs.Agents.{AgentOf, half_after_activate, agent_becomes, agent_on_packet, agent_restarts, any_packet, agent_tick_sends, agent_ticks, half_for}

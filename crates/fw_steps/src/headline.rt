@@ -1,7 +1,7 @@
 //! The laws of the packet world.
 
 ghost use Rattle.fw_steps.specs.Clocks.{RunsKeepTime};
-ghost use Rattle.fw_steps.specs.Headline.{PacketsAreMessages, PacketsAreSafe, RunsGrow, RunsJoin, RunsStayTied};
+ghost use Rattle.fw_steps.specs.Promises.{PacketsAreMessages, PacketsAreSafe, RunsArePromised, RunsGrow, RunsJoin, RunsStayTied};
 
 use crate::links::{links_are_lanes, links_are_messages};
 
@@ -43,6 +43,16 @@ pub fn packets_are_messages()
     exch_lane::lane_is_a_cell();
     links_are_lanes();
     links_are_messages();
+}
+
+/// All that is promised of every run from an opening world, in one record.
+pub fn runs_are_promised()
+    ensures law { RunsArePromised }
+{
+    packets_are_safe();
+    moments_are_tied();
+    packets_are_messages();
+    clocks_keep_time();
 }
 
 /// Between any two moments of a run a node counts at most as many ticks as units of time pass. The

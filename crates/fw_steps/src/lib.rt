@@ -23,7 +23,9 @@ pub use fw_message::{
     CellContent, Entry, HistoryEvent, Image, MessageStep, MessageStepFault, MessageWorld, Side,
     Way, message_replay, messages_are_safe, runs_stay_tied, worlds_are_safe,
 };
-pub use headline::{clocks_keep_time, moments_are_tied, packets_are_messages, packets_are_safe};
+pub use headline::{
+    clocks_keep_time, moments_are_tied, packets_are_messages, packets_are_safe, runs_are_promised,
+};
 pub use isolation::{agreement_sees_the_pair, counts_need_calls, devices_are_isolated};
 pub use links::{links_are_lanes, links_are_messages, messages_round_trip};
 pub use packets::{DatedPacket, SentPackets};

@@ -209,10 +209,7 @@ impl Packets {
         ensures same { self.new.packets ≡ self.old.packets }
     {
         let count = usize::from(count);
-        match self.places.reserve(count) {
-            Ok(()) => {}
-            Err(error) => return Err(error),
-        }
+        self.places.reserve(count)?;
         self.bytes.reserve(count * MAX_PACKET)
     }
 

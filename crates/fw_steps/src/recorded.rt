@@ -3,7 +3,7 @@
 ghost use Rattle.std.specs.Prelude.{[], ◌≡◌, ◌≤◌, ◌+◌, ◌++◌, IfSome, None, map, option_to_list};
 ghost use Rattle.std.specs.Vec.{vec_capacity, vec_len};
 ghost use Rattle.fw_message.specs.Entries.{entry_of};
-ghost use Rattle.fw_message.specs.History.{EntryOf};
+ghost use Rattle.fw_message.specs.Headline.{EntryOf};
 ghost use Rattle.fw_message.specs.Worlds.{noted_of};
 ghost use Rattle.fw_node.specs.Agents.{agent_on_packet, any_packet, half_for};
 ghost use Rattle.fw_steps.specs.Worlds.{record_count_of, record_after, recorded_from, sender_of};

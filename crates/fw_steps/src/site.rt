@@ -7,7 +7,7 @@ ghost use Rattle.exch_lane.specs.Steps.{sent_at};
 ghost use Rattle.fd_core.specs.Components.{HasComponents};
 ghost use Rattle.fw_node.specs.Nodes.{device_restarts};
 ghost use Rattle.fw_steps.specs.Dead.{AreDead, dead_count};
-ghost use Rattle.fw_steps.specs.Headline.{may_site_beat, packet_fault, verdict_fault};
+ghost use Rattle.fw_steps.specs.Steps.{may_site_beat, packet_fault, verdict_fault};
 ghost use Rattle.fw_steps.specs.Replays.{adds_entry};
 ghost use Rattle.fw_steps.specs.Sites.{HandlesPacketAtSite, NotesPacketAtSite, IsCopyOf, HandlesVerdictAtSite, NotesVerdictAtSite, is_activated, is_ready};
 ghost use Rattle.fw_steps.specs.Worlds.{site_after_tick, site_ticks};
@@ -16,7 +16,7 @@ ghost use Rattle.fd_core.specs.States.{staged_of};
 ghost use Rattle.fd_core.specs.Steps.{device_verdict};
 ghost use Rattle.fd_core.specs.Wishes.{has_failed};
 ghost use Rattle.fw_message.specs.Entries.{entry_of, keyed_image_of};
-ghost use Rattle.fw_message.specs.History.{EntryOf};
+ghost use Rattle.fw_message.specs.Headline.{EntryOf};
 ghost use Rattle.fw_message.specs.Worlds.{noted_of};
 
 use crate::dead::{FirstDead, first_dead};
@@ -344,10 +344,7 @@ impl<'a, B: Bank> Site<'a, B> {
             Verdict::ApplyOk => {}
             _ => return Ok(Vec::new(alloc)),
         }
-        match history.reserve(1) {
-            Ok(()) => {}
-            Err(error) => return Err(error),
-        }
+        history.reserve(1)?;
         Vec::with_capacity(alloc, room_for(self.node.device(), verdict))
     }
 

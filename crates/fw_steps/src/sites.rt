@@ -4,7 +4,8 @@ ghost use Rattle.std.specs.Prelude.{[], ◌≡◌, ◌≤◌, ◌<◌, ◌+◌, 
 ghost use Rattle.std.specs.List.{AllByRecursion, list_all};
 ghost use Rattle.fd_core.specs.Components.{HasComponents};
 ghost use Rattle.fw_message.specs.Entries.{entry_of};
-ghost use Rattle.fw_steps.specs.Headline.{may_site_beat, new_site, unit_of, verdict_fault};
+ghost use Rattle.fw_steps.specs.Opening.{new_site, unit_of};
+ghost use Rattle.fw_steps.specs.Steps.{may_site_beat, verdict_fault};
 ghost use Rattle.fw_steps.specs.Replays.{adds_entry};
 ghost use Rattle.fw_steps.specs.Sites.{HaveRoom, NotesPacketAtPlace, NotesVerdictAtPlace, HasFullSite, sites_of};
 ghost use Rattle.fw_steps.specs.Worlds.{place_for, place_of, post, posts, site_for, site_after_tick, site_restarts};

@@ -3,11 +3,13 @@
 ghost use Rattle.std.specs.Prelude.{◌≡◌, ◌≤◌, IfErr, IfOk, OnErr, OnOk, length, map, option_map, slice_get};
 ghost use Rattle.fw_message.specs.Entries.{entry_of};
 ghost use Rattle.fw_steps.specs.Dead.{AreDead, dead_count};
-ghost use Rattle.fw_steps.specs.Headline.{AreNewNodes, IsOpeningWorld, IsPromised, StepsTo, new_world};
+ghost use Rattle.fw_steps.specs.Opening.{AreNewNodes, IsOpeningWorld, new_world};
+ghost use Rattle.fw_steps.specs.Promises.{IsPromised};
+ghost use Rattle.fw_steps.specs.Steps.{StepsTo};
 ghost use Rattle.fw_steps.specs.Replays.{RefusesStep};
 ghost use Rattle.fw_steps.specs.Worlds.{packets_of, site_for};
 
-use crate::headline::{moments_are_tied, packets_are_messages, packets_are_safe};
+use crate::headline::runs_are_promised;
 use crate::packets::SentPackets;
 use crate::state::State;
 use crate::step::{Step, StepFault};
@@ -29,7 +31,7 @@ pub struct World<'a, B: Bank + Drop> {
 }
 
 impl<'a, B: Bank + Drop> Model for World<'a, B> {
-    ghost use Rattle.fw_steps.specs.Headline.{IsReached};
+    ghost use Rattle.fw_steps.specs.Promises.{IsReached};
     ghost use Rattle.fw_steps.specs.Worlds.{WorldOf};
 
     ghost Value = { WorldOf };
@@ -150,9 +152,7 @@ impl<'a, B: Bank + Drop> World<'a, B> {
         ensures { IsPromised self.now }
     {
         let _ = &self.state;
-        packets_are_safe();
-        moments_are_tied();
-        packets_are_messages();
+        runs_are_promised();
     }
 
     /// Takes a step, or leaves the world unchanged.

@@ -1,7 +1,8 @@
 -- A replay keeps time over the steps that it took.
 use Rattle.std.proofs.Common.{◌≡◌, ◌<◌, ℕ, true, length, List, slice_get, take, IfErr, IfSome, OnOk, Result, Ok, Err}
 use Rattle.fw_steps.specs.Clocks.{KeepsTime, RunsKeepTime}
-use Rattle.fw_steps.specs.Headline.{IsReached, Run, is_node}
+use Rattle.fw_steps.specs.Promises.{IsReached}
+use Rattle.fw_steps.specs.Steps.{Run, is_node}
 use Rattle.fw_steps.specs.Replays.{RefusesStep}
 use Rattle.fw_steps.specs.Worlds.{WorldOf}
 use Rattle.fw_steps.specs.declared.step.Step.{Step}

@@ -1,7 +1,7 @@
 //! Two replays in two worlds: the state between the agent and a device depends on no other device.
 
 ghost use Rattle.std.specs.Prelude.{◌≡◌, ◌<◌, IfErr, IfSome, IsOk, OnOk, length, slice_get, take};
-ghost use Rattle.fw_steps.specs.Headline.{Run};
+ghost use Rattle.fw_steps.specs.Steps.{Run};
 ghost use Rattle.fw_steps.specs.Isolation.{AgreeIn, IsUnfailed, steps_of};
 ghost use Rattle.fw_steps.specs.Replays.{RefusesStep};
 

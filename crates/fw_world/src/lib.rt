@@ -11,7 +11,7 @@ pub use fw_steps::{
     MessageStepFault, MessageWorld, Missed, Refusal, SentPackets, Side, Step, StepFault, Way,
     World, agreement_sees_the_pair, clocks_keep_time, devices_are_isolated, links_are_lanes,
     links_are_messages, message_replay, messages_are_safe, moments_are_tied, packets_are_messages,
-    packets_are_safe, runs_stay_tied, worlds_are_safe,
+    packets_are_safe, runs_are_promised, runs_stay_tied, worlds_are_safe,
 };
 pub use isolation::replay_two;
 pub use replays::replay;

@@ -2,7 +2,9 @@
 
 ghost use Rattle.std.specs.Prelude.{◌≡◌, ◌<◌, IfErr, IfSome, List, OnOk, length, slice_get, take, true, ℕ};
 ghost use Rattle.fw_steps.specs.Clocks.{KeepsTime};
-ghost use Rattle.fw_steps.specs.Headline.{IsAfterSteps, IsOpeningWorld, IsPromised, IsSafeWorld, Run, is_node};
+ghost use Rattle.fw_steps.specs.Opening.{IsOpeningWorld};
+ghost use Rattle.fw_steps.specs.Promises.{IsPromised, IsSafeWorld};
+ghost use Rattle.fw_steps.specs.Steps.{IsAfterSteps, Run, is_node};
 ghost use Rattle.fw_steps.specs.Moments.{GrowsHistory, IsTiedBetween};
 ghost use Rattle.fw_steps.specs.Replays.{RefusesStep};
 ghost use Rattle.fw_steps.specs.Worlds.{WorldOf};

@@ -1,7 +1,7 @@
 -- Two runs of the same steps without failed calls end in the same world.
 use Rattle.std.proofs.Common.{◌≡◌, ◌∙◌, List, [], ◌∷◌, Ok, ap, subst, sym, true}
 use Rattle.fw_json.specs.Forms.{report_in}
-use Rattle.fw_steps.specs.Headline.{StepsTo, Run, world_after}
+use Rattle.fw_steps.specs.Steps.{StepsTo, Run, world_after}
 use Rattle.fw_steps.specs.Worlds.{WorldOf}
 use Rattle.fw_steps.specs.declared.step.Step.{Step}
 use Rattle.fwupd_jobs.specs.Recorded.{AllWork, RecordsReplay}

@@ -5,7 +5,7 @@ use Rattle.std.proofs.lemmas.List.{length-drop, take_all, take_more}
 use Rattle.std.proofs.lemmas.Option.{slice_get_read}
 use Rattle.fw_edge.proofs.Going.{run_append}
 use Rattle.fw_edge.specs.Links.{CountsOne}
-use Rattle.fw_steps.specs.Headline.{StepsTo, Run}
+use Rattle.fw_steps.specs.Steps.{StepsTo, Run}
 use Rattle.fw_steps.specs.Worlds.{WorldOf}
 use Rattle.fw_steps.specs.Replays.{RefusesStep}
 use Rattle.fw_steps.specs.declared.step.Step.{Step}

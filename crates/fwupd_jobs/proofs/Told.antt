@@ -8,17 +8,18 @@ use Rattle.fw_script.specs.Configs.{ConfigOf, config_of}
 use Rattle.fw_script.specs.Schedules.{script_of}
 use Rattle.fw_edge.proofs.Going.{run_append}
 use Rattle.fw_steps.specs.Clocks.{RunsKeepTime}
-use Rattle.fw_steps.specs.Headline.{IsOpeningWorld, IsSafeWorld, PacketsAreSafe, Run, RunsGrow, RunsStayTied}
+use Rattle.fw_steps.specs.Opening.{IsOpeningWorld}
+use Rattle.fw_steps.specs.Promises.{RunsArePromised, RunsStayTied}
+use Rattle.fw_steps.specs.Steps.{Run}
 use Rattle.fw_steps.specs.Worlds.{WorldOf}
 use Rattle.fw_steps.specs.declared.step.Step.{Step}
 use Rattle.fw_steps.specs.declared.step.StepFault.{StepFault}
 use Rattle.fwupd_jobs.specs.Replayed.{IsReplayed, IsReport, LeavesWorld, ReplayEnds, Reports, ReportsReplay, steps_taken}
 use Rattle.fwupd_watch.specs.Histories.{MayHaveHistoryLines}
 use Rattle.fwupd_watch.specs.Outputs.{FailsToWriteOutput, OutputOf, WritesOutput}
-use Rattle.fwupd_jobs.specs.Promises.{IsSafeSince}
 use Rattle.fwupd_watch.specs.Recordings.{HasRecordedSteps}
 use Rattle.fwupd_watch.specs.declared.running.ObserverFault.{ObserverFault}
-use Rattle.fwupd_jobs.specs.Updated.{DrivingEnds, IsUnlinked, IsObservedSetup, LacksLink, LacksTrace, NamesLost, UpdateEnds}
+use Rattle.fwupd_jobs.specs.Updated.{DrivingEnds, IsPromisedUpdate, IsUnlinked, IsObservedSetup, LacksLink, LacksTrace, NamesLost, UpdateEnds}
 use Rattle.fwupd_watch.specs.Apart.{IsApart, IsBarred}
 use Rattle.fwupd_watch.specs.Running.{IsBrokenRun, ShowOf, RunsSteps, RunsStepsSeen, ObserverOf, shown_of, starts_of, job_fault_of_observer}
 use Rattle.fwupd_watch.specs.Files.{FileOf}
@@ -28,8 +29,11 @@ use Rattle.fwupd_watch.specs.declared.faults.JobFault.{JobFault}
 use Rattle.fwupd_watch.specs.declared.faults.JobFault.TheVariants as faults
 
 -- the world after the steps is safe
-pub safe_reached : (number : ℕ) (w v : WorldOf) → PacketsAreSafe → IsOpeningWorld w → RunsSteps number w v → IsSafeSince w v
-safe_reached number w v law opens h = record { begins = opens; safe = law w v (starts_of number (take h.started w.sites) ++ h.steps) opens h.run }
+pub safe_reached : (number : ℕ) (w v : WorldOf) → RunsArePromised → IsOpeningWorld w → RunsSteps number w v → IsPromisedUpdate number w v
+safe_reached number w v law opens h = record {
+  reached = h;
+  promised = record { begins = opens; promised = law w v (starts_of number (take h.started w.sites) ++ h.steps) opens h.run };
+}
 
 -- a replay is a run of the steps that were taken
 run_left : (w v : WorldOf) (steps : List Step) (fault : Option (ℕ × StepFault)) → LeavesWorld w steps fault v → Run w (steps_taken steps fault) v
@@ -38,8 +42,7 @@ run_left w v steps (Some f) h = h.1
 
 -- The laws of runs from an opening world.
 pub record LawsOfRuns : Type 0 where
-  pub safe : PacketsAreSafe
-  pub grow : RunsGrow
+  pub promised : RunsArePromised
   pub tied : RunsStayTied
   pub time : RunsKeepTime
 
@@ -51,12 +54,9 @@ replayed_by w x v steps fault form text is opens laws left report =
     subst (λ z. IsReplayed z steps fault form text) is (record {
       world = v;
       left = left;
-      promised = record { begins = opens; safe = laws.safe x v (steps_taken steps fault) opens run };
-      grown = laws.grow x v (steps_taken steps fault) run;
-      tied = laws.tied x x v [] (steps_taken steps fault) opens refl run;
-      clocks = laws.time x x v [] (steps_taken steps fault) opens refl run;
+      promised = record { begins = opens; promised = laws.promised x v (steps_taken steps fault) opens run };
       moments = λ earlier later before between first second. (
-        laws.safe x later (before ++ between) opens (run_append x earlier later before between first second),
+        (laws.promised x later (before ++ between) opens (run_append x earlier later before between first second)).safe,
         laws.tied x earlier later before between opens first second,
       );
       time = λ earlier later before between first second. laws.time x earlier later before between opens first second;
@@ -80,14 +80,14 @@ unopened files source number show refuses lacks w told watched begins (inr u) = 
 
 -- a run over links that failed
 pub update_ends : (files : List ℕ → FileOf) (source : SourceOf) (number : ℕ) (show : ShowOf) (refuses : List ℕ → Bool) (lacks : ℕ → Bool) (w v : WorldOf) (told : JobFault) (watched : ObserverOf) (before now : OutputOf)
-    → IsObservedSetup files source number show w → watched.shows ≡ shown_of show → RunsSteps number w v → IsSafeSince w v → RunsStepsSeen number w v watched.seen → (told ≡ faults.Edge edges.Frame → NamesLost v watched.lost)
+    → IsObservedSetup files source number show w → watched.shows ≡ shown_of show → IsPromisedUpdate number w v → RunsStepsSeen number w v watched.seen → (told ≡ faults.Edge edges.Frame → NamesLost v watched.lost)
     → (IsBrokenRun told → watched.fault ≡ None → IfSome watched.recording (HasRecordedSteps w v)) → (IsBrokenRun told → MayHaveHistoryLines watched.history v.history) → DrivingEnds number show.form lacks w v told watched before now
     → UpdateEnds files source number show refuses lacks told watched before now
-update_ends files source number show refuses lacks w v told watched before now begins shown reached promised sees lost recorded kept (inl h) =
-    inl (record { world = w; begins = begins; shown = shown; left = v; reached = reached; promised = promised; caused = h.0; sees = sees; lost = lost; recorded = recorded h.0.broken; kept_up = kept h.0.broken; written = h.1 })
-update_ends files source number show refuses lacks w v told watched before now begins shown reached promised sees lost recorded kept (inr (inl h)) =
-    inr (inl (record { is = h.0; world = w; begins = begins; left = v; reached = reached; promised = promised; begun = h.1 }))
-update_ends files source number show refuses lacks w v told watched before now begins shown reached promised sees lost recorded kept (inr (inr h)) =
+update_ends files source number show refuses lacks w v told watched before now begins shown promised sees lost recorded kept (inl h) =
+    inl (record { world = w; begins = begins; shown = shown; left = v; promised = promised; caused = h.0; sees = sees; lost = lost; recorded = recorded h.0.broken; kept_up = kept h.0.broken; written = h.1 })
+update_ends files source number show refuses lacks w v told watched before now begins shown promised sees lost recorded kept (inr (inl h)) =
+    inr (inl (record { is = h.0; world = w; begins = begins; left = v; promised = promised; begun = h.1 }))
+update_ends files source number show refuses lacks w v told watched before now begins shown promised sees lost recorded kept (inr (inr h)) =
     inr (inr (record { kept = h.1; cause = unopened files source number show refuses lacks w told watched begins h.0 }))
 
 -- the store of a device can't be opened

@@ -4,7 +4,7 @@ use Rattle.fw_json.specs.Forms.{report_in}
 use Rattle.fwupd_base.specs.declared.forms.Form.{Form}
 use Rattle.fw_script.specs.ScheduleTexts.{schedule_text}
 use Rattle.fw_script.specs.Schedules.{script_of}
-use Rattle.fw_steps.specs.Headline.{Run}
+use Rattle.fw_steps.specs.Steps.{Run}
 use Rattle.fw_steps.specs.Worlds.{WorldOf}
 use Rattle.fw_steps.specs.declared.step.Step.{Step}
 use Rattle.fwupd_watch.specs.Recordings.{HasRecordedSteps, RecordingOf}

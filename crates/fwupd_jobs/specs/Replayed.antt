@@ -5,14 +5,15 @@ use Rattle.fw_script.specs.Schedules.{script_of}
 use Rattle.fw_json.specs.Forms.{report_in}
 use Rattle.fwupd_base.specs.declared.forms.Form.{Form}
 use Rattle.fw_steps.specs.Clocks.{KeepsTime}
-use Rattle.fw_steps.specs.Headline.{IsSafeWorld, Run, is_node}
-use Rattle.fw_steps.specs.Moments.{GrowsHistory, IsTiedBetween}
+use Rattle.fw_steps.specs.Promises.{IsSafeWorld}
+use Rattle.fw_steps.specs.Steps.{Run, is_node}
+use Rattle.fw_steps.specs.Moments.{IsTiedBetween}
 use Rattle.fw_steps.specs.Replays.{RefusesStep}
 use Rattle.fw_steps.specs.Worlds.{WorldOf}
 use Rattle.fw_steps.specs.declared.step.Step.{Step}
 use Rattle.fw_steps.specs.declared.step.StepFault.{StepFault}
 use Rattle.fwupd_watch.specs.Outputs.{FailsToWriteOutput, OutputOf, WritesOutput}
-use Rattle.fwupd_jobs.specs.Promises.{IsSafeSince}
+use Rattle.fwupd_jobs.specs.Promises.{IsPromisedRun}
 use Rattle.fwupd_watch.specs.Apart.{IsApart, IsBarred}
 use Rattle.fwupd_watch.specs.Running.{ShowOf, ObserverOf, shown_of, job_fault_of_observer}
 use Rattle.fwupd_watch.specs.Files.{FileOf}
@@ -35,16 +36,13 @@ taken_of steps (Some f) = f.0
 abbrev pub steps_taken : List Step → Option (ℕ × StepFault) → List Step
 steps_taken steps fault = take (taken_of steps fault) steps
 
--- The report is of the last world, which is safe. The history has only grown, the running images,
--- the applied images and the records are those of the first world, changed by the entries since,
--- and each node kept time. So it is between any two moments of a run from the first world.
+-- The report is of the last world, of which is promised what is of every run of the steps that were
+-- taken. Any two moments of any run from the first world are tied, and each node keeps time between
+-- them.
 pub record IsReplayed (w : WorldOf) (steps : List Step) (fault : Option (ℕ × StepFault)) (form : Form) (text : List ℕ) : Type 0 where
   pub world : WorldOf
   pub left : LeavesWorld w steps fault world
-  pub promised : IsSafeSince w world
-  pub grown : GrowsHistory w world
-  pub tied : IsTiedBetween w world
-  pub clocks : (eid : ℕ) → is_node w eid ≡ true → KeepsTime eid (steps_taken steps fault)
+  pub promised : IsPromisedRun w (steps_taken steps fault) world
   pub moments : (earlier later : WorldOf) (before between : List Step) → Run w before earlier → Run earlier between later
       → IsSafeWorld w later × IsTiedBetween earlier later
   pub time : (earlier later : WorldOf) (before between : List Step) → Run w before earlier → Run earlier between later

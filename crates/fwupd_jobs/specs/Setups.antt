@@ -9,7 +9,7 @@ use Rattle.fw_script.specs.Configs.{ConfigOf, DeviceConfigOf, config_of}
 use Rattle.fw_script.specs.declared.faults.ScriptCause.{ScriptCause}
 use Rattle.fw_script.specs.declared.faults.ScriptCause.TheVariants as causes
 use Rattle.fw_script.specs.declared.faults.ScriptFault.{ScriptFault}
-use Rattle.fw_steps.specs.Headline.{new_world}
+use Rattle.fw_steps.specs.Opening.{new_world}
 use Rattle.fw_steps.specs.Worlds.{WorldOf}
 use Rattle.fw_setup.specs.Nodes.{nodes_made}
 use Rattle.fw_setup.specs.Stocks.{HaveStoredImages, IsUnopened, StoresOf}

@@ -1,5 +1,5 @@
 -- The result of an update over links, and its output.
-use Rattle.std.specs.Prelude.{ℕ, suc, ◌≡◌, ◌≤◌, ◌⊎◌, Bool, true, List, [], ◌∷◌, Option, None, Some, IfSome, length, slice_get, take}
+use Rattle.std.specs.Prelude.{ℕ, suc, ◌≡◌, ◌≤◌, ◌⊎◌, Bool, true, List, [], ◌∷◌, ◌++◌, Option, None, Some, IfSome, length, slice_get, take}
 use Rattle.std.specs.List.{AllByRecursion}
 use Rattle.fw_edge.specs.declared.driving.EdgeFault.TheVariants as edges
 use Rattle.fwupd_base.specs.declared.roughness.Roughness.{Roughness}
@@ -11,11 +11,11 @@ use Rattle.rand_pcg.specs.Lcg.{Lcg, increment_of, started}
 use Rattle.rand_pcg.specs.Pcg.{multiplier_64}
 use Rattle.fwupd_watch.specs.Histories.{HasHistoryLinesIfAny, MayHaveHistoryLines}
 use Rattle.fwupd_watch.specs.Outputs.{FailsToWriteOutput, OutputOf, WritesOutput}
-use Rattle.fwupd_jobs.specs.Promises.{IsSafeSince}
+use Rattle.fwupd_jobs.specs.Promises.{IsPromisedRun}
 use Rattle.fwupd_watch.specs.Recordings.{HasRecordedSteps}
 use Rattle.fwupd_jobs.specs.Sessions.{undone_in}
 use Rattle.fwupd_watch.specs.Files.{FileOf}
-use Rattle.fwupd_watch.specs.Running.{IsCaused, UpdateOk, ShowOf, RunsSteps, RunsStepsSeen, UpdatesDevices, ObserverOf, shown_of}
+use Rattle.fwupd_watch.specs.Running.{IsCaused, UpdateOk, ShowOf, RunsSteps, RunsStepsSeen, UpdatesDevices, ObserverOf, shown_of, starts_of}
 use Rattle.fwupd_watch.specs.Apart.{IsApart, IsBarred}
 use Rattle.fwupd_jobs.specs.Setups.{IsSetup, LacksPackage, NumberedSetupFails, SourceOf, StoresFail}
 use Rattle.fwupd_watch.specs.declared.faults.JobFault.{JobFault}
@@ -82,6 +82,12 @@ pub record IsObservedSetup (files : List ℕ → FileOf) (config : SourceOf) (nu
   pub named : IsNumberedSetup files config number w
   pub apart : IsApart files show (config.path ∷ named.setup.config.packages)
 
+-- The updates of the first devices were started, the run took steps, and of the world is promised
+-- what is of every run of these steps.
+pub record IsPromisedUpdate (number : ℕ) (w v : WorldOf) : Type 0 where
+  pub reached : RunsSteps number w v
+  pub promised : IsPromisedRun w (starts_of number (take reached.started w.sites) ++ reached.steps) v
+
 -- The report of an update of the world of a configuration's file is written. The observer showed
 -- the requested outputs, saw each turn, had no fault, got no failed link, and has ended. `undone`
 -- is the first session of that world that isn't Done, if any.
@@ -91,7 +97,7 @@ pub record ReportsUpdate (files : List ℕ → FileOf) (config : SourceOf) (numb
   pub shown : watched.shows ≡ shown_of show
   pub left : WorldOf
   pub updated : UpdateOk number world left
-  pub promised : IsSafeSince world left
+  pub promised : IsPromisedUpdate number world left
   pub seen : watched.fault ≡ None
   pub turns : UpdatesDevices number world left watched.seen
   pub none_lost : watched.lost ≡ None
@@ -108,8 +114,7 @@ pub record ReportsReached (files : List ℕ → FileOf) (config : SourceOf) (num
   pub begins : IsObservedSetup files config number show world
   pub shown : watched.shows ≡ shown_of show
   pub left : WorldOf
-  pub reached : RunsSteps number world left
-  pub promised : IsSafeSince world left
+  pub promised : IsPromisedUpdate number world left
   pub caused : IsCaused number world left told watched
   pub sees : RunsStepsSeen number world left watched.seen
   pub lost : told ≡ faults.Edge edges.Frame → NamesLost left watched.lost
@@ -123,8 +128,7 @@ pub record BreaksReport (files : List ℕ → FileOf) (config : SourceOf) (numbe
   pub world : WorldOf
   pub begins : IsObservedSetup files config number show world
   pub left : WorldOf
-  pub reached : RunsSteps number world left
-  pub promised : IsSafeSince world left
+  pub promised : IsPromisedUpdate number world left
   pub begun : FailsToWriteOutput before now (report_in show.form left)
 
 -- The observer doesn't begin, before a link is opened.

@@ -108,10 +108,7 @@ fn all_descriptors<'a>(
 {
     let mut lent = Vec::new(alloc);
     for said in records {
-        let descriptors = match lent_descriptors(alloc, said.descriptors.as_slice()) {
-            Ok(descriptors) => descriptors,
-            Err(fault) => return Err(fault),
-        };
+        let descriptors = lent_descriptors(alloc, said.descriptors.as_slice())?;
         let Ok(()) = lent.push(descriptors) else {
             return Err(JobFault::Memory);
         };
@@ -255,18 +252,9 @@ fn header_of(
     ensures fault { IfErr result (λ e. (e ≡ JobFault.Memory)
         ⊎ IsBuildFault path.now (spec_seen spec.now) (map (λ i. i.items) images.now) e) }
 {
-    let descriptors = match all_descriptors(alloc, spec.records.as_slice()) {
-        Ok(descriptors) => descriptors,
-        Err(fault) => return Err(fault),
-    };
-    let records = match lent_records(alloc, spec.records.as_slice(), descriptors.as_slice()) {
-        Ok(records) => records,
-        Err(fault) => return Err(fault),
-    };
-    let components = match lent_components(alloc, spec.components.as_slice(), images) {
-        Ok(components) => components,
-        Err(fault) => return Err(fault),
-    };
+    let descriptors = all_descriptors(alloc, spec.records.as_slice())?;
+    let records = lent_records(alloc, spec.records.as_slice(), descriptors.as_slice())?;
+    let components = lent_components(alloc, spec.components.as_slice(), images)?;
     let asked = asked_package(spec, records.as_slice(), components.as_slice());
     match asked.write_header(header) {
         Ok(()) => Ok(()),

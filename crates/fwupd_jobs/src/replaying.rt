@@ -5,7 +5,8 @@ ghost use Rattle.fw_edge.specs.Links.{CountsOne};
 ghost use Rattle.fw_script.specs.ScheduleLines.{all_steps, step_of_next};
 ghost use Rattle.fw_script.specs.Seen.{device_of};
 ghost use Rattle.fw_script.specs.Whole.{AreWhole};
-ghost use Rattle.fw_steps.specs.Headline.{StepsTo, Run, new_world};
+ghost use Rattle.fw_steps.specs.Opening.{new_world};
+ghost use Rattle.fw_steps.specs.Steps.{StepsTo, Run};
 ghost use Rattle.fw_steps.specs.Replays.{RefusesStep};
 ghost use Rattle.fw_steps.specs.Worlds.{full_tick};
 ghost use Rattle.fw_setup.specs.Nodes.{nodes_made};
@@ -23,7 +24,7 @@ use fw_script::{Config, DeviceConfig, LineSteps, NextStep, ScheduleLine};
 use fw_setup::{Stores, opening_world};
 use fw_store::Folder;
 use fw_world::{
-    Missed, Step, StepFault, World, clocks_keep_time, moments_are_tied, packets_are_safe, replay,
+    Missed, Step, StepFault, World, clocks_keep_time, moments_are_tied, replay, runs_are_promised,
 };
 use fwupd_base::Form;
 use fwupd_watch::{
@@ -150,7 +151,7 @@ pub fn replayed<'a, V: Observer>(
         → (V.watched watch.old).seen ≡ 0
         → (V.watched watch.new).seen ≡ taken_of (all_steps lines.now) r.fault) }
 {
-    packets_are_safe();
+    runs_are_promised();
     moments_are_tied();
     clocks_keep_time();
     let mut world = opening_world(alloc, unit, agent, devices, packages)?;

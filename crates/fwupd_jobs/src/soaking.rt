@@ -71,10 +71,7 @@ fn judge<W: Write + Drop, P: OutputPlaces<W>>(
         return Ok(());
     };
     if let Some(path) = file {
-        match keep(alloc, steps.as_slice(), path, places) {
-            Ok(()) => {}
-            Err(fault) => return Err(fault),
-        }
+        keep(alloc, steps.as_slice(), path, places)?;
     }
     Err(JobFault::Violation)
 }

@@ -4,7 +4,7 @@ ghost use Rattle.std.specs.Prelude.{◌≡◌, ◌⊎◌, Bool, IfErr, IfOk, IfS
 ghost use Rattle.std.specs.List.{AllByRecursion};
 ghost use Rattle.fw_json.specs.Forms.{report_in};
 ghost use Rattle.fw_setup.specs.Stocks.{stores_in};
-ghost use Rattle.fw_steps.specs.Headline.{IsOpeningWorld};
+ghost use Rattle.fw_steps.specs.Opening.{IsOpeningWorld};
 ghost use Rattle.fwupd_watch.specs.Outputs.{FailsToWriteOutput, WritesOutput};
 ghost use Rattle.fwupd_jobs.specs.Sessions.{undone_in};
 ghost use Rattle.fwupd_jobs.specs.Setups.{SourceOf, TellsStore, source_of};
@@ -22,7 +22,7 @@ use fw_json::report_in;
 use fw_script::Config;
 use fw_setup::{Stores, opening_world, opening_world_over};
 use fw_store::Folder;
-use fw_world::{World, packets_are_safe};
+use fw_world::{World, runs_are_promised};
 use fwupd_base::{Form, Roughness};
 use fwupd_watch::{Files, JobFault, Observer, Output, begin_apart, update_observed};
 use fwupd_words::{Order, Show};
@@ -294,7 +294,7 @@ fn update_new<F: Files, B: Bank + Drop, L: Link + Drop, S: Wires<L>, V: Observer
     ensures untouched { IfErr result (λ e. (watch.new ≡ watch.old) ⊎ HasObserverFault e (V.watched watch.new).fault) }
     ensures stores { IfErr result (λ e. TellsStore e → ⊥) }
 {
-    packets_are_safe();
+    runs_are_promised();
     match begin_apart(alloc, files, config, packages, show, watch) {
         Ok(()) => {}
         Err(fault) => return Err(fault),

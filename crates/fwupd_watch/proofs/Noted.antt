@@ -8,7 +8,7 @@ use Rattle.fw_edge.specs.Drives.{Drives}
 use Rattle.fw_edge.specs.Links.{LinksOf}
 use Rattle.fw_edge.specs.Turns.{DrivesTurns, Turns}
 use Rattle.fw_script.specs.ScheduleTexts.{StepsRoundTrip, PortionsAreTheWhole, SchedulesReadBack, idle_at, schedule_text, text_of_steps, ticks_text}
-use Rattle.fw_steps.specs.Headline.{Run}
+use Rattle.fw_steps.specs.Steps.{Run}
 use Rattle.fw_steps.specs.Worlds.{WorldOf}
 use Rattle.fw_steps.specs.declared.step.Step.{Step}
 use Rattle.fwupd_watch.specs.Recordings.{WritesHeldTicksIfAny, WritesHeldTicks, IsNewRecording, HasRecordedSteps, RecordsStepsIfAny, RecordsRun, RecordingOf, RecordsSteps, recording_of}

@@ -10,7 +10,7 @@ use Rattle.fw_edge.proofs.Rising.{map_length}
 use Rattle.fw_edge.specs.Ledgers.{OneFailed, packet_counts}
 use Rattle.fw_edge.specs.Links.{CountsOne}
 use Rattle.fw_node.specs.Nodes.{DeviceNodeOf}
-use Rattle.fw_steps.specs.Headline.{StepsTo, Run, may_step}
+use Rattle.fw_steps.specs.Steps.{StepsTo, Run, may_step}
 use Rattle.fw_steps.specs.Replays.{RefusesStep}
 use Rattle.fw_steps.specs.Worlds.{SiteOf, WorldOf}
 use Rattle.fw_steps.specs.declared.step.StepFault.{StepFault}

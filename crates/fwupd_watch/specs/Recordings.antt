@@ -5,7 +5,7 @@ use Rattle.std.specs.List.{AllByRecursion}
 use Rattle.fw_edge.specs.Drives.{is_driven}
 use Rattle.fw_script.specs.ScheduleTexts.{StepsRoundTrip, StepRoundTrips, idle_at, schedule_text, text_of_steps, ticks_text}
 use Rattle.fw_script.specs.Schedules.{script_of}
-use Rattle.fw_steps.specs.Headline.{Run}
+use Rattle.fw_steps.specs.Steps.{Run}
 use Rattle.fw_steps.specs.Worlds.{WorldOf}
 use Rattle.fw_steps.specs.declared.step.Step.{Step}
 use Rattle.fw_steps.specs.declared.step.Step.TheVariants as steps

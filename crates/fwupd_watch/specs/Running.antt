@@ -5,7 +5,7 @@ use Rattle.fw_edge.specs.Ledgers.{OneFailed}
 use Rattle.fw_edge.specs.declared.driving.EdgeFault.{EdgeFault}
 use Rattle.fw_edge.specs.declared.driving.EdgeFault.TheVariants as edges
 use Rattle.fwupd_base.specs.declared.forms.Form.{Form}
-use Rattle.fw_steps.specs.Headline.{Run, may_step}
+use Rattle.fw_steps.specs.Steps.{Run, may_step}
 use Rattle.fw_steps.specs.Worlds.{SiteOf, WorldOf}
 use Rattle.fw_steps.specs.declared.step.StepFault.{StepFault}
 use Rattle.fw_steps.specs.declared.step.StepFault.TheVariants as stops

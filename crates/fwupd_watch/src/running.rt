@@ -3,7 +3,7 @@
 ghost use Rattle.std.specs.Prelude.{[], ◌≡◌, ◌≢◌, ◌-◌, ◌^◌, ◌⊎◌, Bool, Err, IfErr, IfSome, List, None, OnOk, Some, length, map, true, ℕ};
 ghost use Rattle.fw_edge.specs.Ledgers.{AllSent, packet_counts};
 ghost use Rattle.fw_edge.specs.Links.{CountsOne};
-ghost use Rattle.fw_steps.specs.Headline.{Run};
+ghost use Rattle.fw_steps.specs.Steps.{Run};
 ghost use Rattle.fwupd_watch.specs.Histories.{HasHistoryLinesIfAny, MayHaveHistoryLines, HasNoLines, AppendsToHistory, MayAppendToHistory};
 ghost use Rattle.fwupd_watch.specs.Recordings.{WritesHeldTicksIfAny, IsNewRecording, HasRecordedSteps, RecordsStepsIfAny, RecordsRun};
 ghost use Rattle.fwupd_watch.specs.Running.{ReportsLinkFailures, IsCaused, IsRefusedStart, HasObserverFault, UpdateOk, MayEnd, MayRefuse, MayStart, StartsUpdates, RunsSteps, RunsStepsSeen, UpdatesDevices, show_of, shown_of, starts_of, job_fault_of_observer, job_fault_of, observer_fault_of};

@@ -6,7 +6,7 @@ ghost use Rattle.exch_lane.specs.Lanes.{IsEid};
 ghost use Rattle.fd_core.specs.Components.{HasComponents};
 ghost use Rattle.fd_core.specs.States.{Phase};
 ghost use Rattle.fw_message.specs.Laws.{IsUnapplied};
-ghost use Rattle.fw_steps.specs.Headline.{AreNewNodes, IsNewNode};
+ghost use Rattle.fw_steps.specs.Opening.{AreNewNodes, IsNewNode};
 
 use crate::tests::packages::is_image;
 use arrayvec::ArrayVec;

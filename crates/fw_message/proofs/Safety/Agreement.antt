@@ -12,7 +12,7 @@ use Rattle.ua_core.specs.Lent.{key_of, package_descriptor, package_at}
 use Rattle.ua_core.specs.Serve.{window}
 use Rattle.ua_core.specs.Session.{JobOf, Stage, TaskOf}
 use Rattle.ua_core.specs.declared.planned.Recorded.{Recorded}
-use Rattle.fw_message.specs.History.{EntryOf}
+use Rattle.fw_message.specs.Headline.{EntryOf}
 use Rattle.fw_message.specs.Pairs.{CellContentOf, PairOf, down_wish}
 use Rattle.fw_message.proofs.Safety.Applied.{AppliedIs, Backed, BackedBut, NoneApplied}
 use Rattle.fw_message.proofs.Safety.Counts.{IsPending}

@@ -10,7 +10,7 @@ use Rattle.fwup_wire.specs.declared.values.Key.{Key}
 use Rattle.fd_core.specs.Images.{ImageOf, KeyedImage, RowOf, rows_after_drop, images_with, images_with_applied, applied_keyed_images, is_key_before, same_key, rows_after_seal, sealed_if, rows_after_switch, row_after_switch_to}
 use Rattle.ua_core.specs.Lent.{key_of, package_at}
 use Rattle.ua_core.specs.declared.planned.Recorded.{Recorded}
-use Rattle.fw_message.specs.History.{HasRecording, IsFrom}
+use Rattle.fw_message.specs.Headline.{HasRecording, IsFrom}
 use Rattle.fw_message.proofs.Safety.Counts.{recorded_component}
 use Rattle.fwup_wire.proofs.SameCommands.{key_means}
 

@@ -18,7 +18,7 @@ use Rattle.ua_core.specs.Lent.{is_forced, key_of, sent_size, sent_version, packa
 use Rattle.ua_core.specs.Session.{Stage}
 use Rattle.ua_core.specs.Wish.{stage_wish}
 use Rattle.ua_core.specs.declared.planned.Recorded.{Recorded}
-use Rattle.fw_message.specs.History.{EntryOf}
+use Rattle.fw_message.specs.Headline.{EntryOf}
 use Rattle.fw_message.specs.Pairs.{CellContentOf, PairOf, down_taken, history_with, with_down}
 use Rattle.fw_message.proofs.Safety.Agreement.{AreTold, CommandStands, Holds, IsBegun, IsBegunAt, IsSame, IsStanding, NothingAccepted, OwnStands, Pending, Settled, StageForm, TableTime, Together, Waiting, at_hand, command_of, reply_of}
 use Rattle.fw_message.proofs.Safety.Applied.{NoneApplied, none_dropped}

@@ -12,7 +12,7 @@ use Rattle.fd_core.specs.declared.states.State.TheVariants as states
 use Rattle.ua_core.specs.Calls.{agent_started, agent_timeout, activated_stage, may_cancel, silent_stage, timeout_stage, times_out as session_times_out}
 use Rattle.ua_core.specs.Laws.{IsOutsideUpdate}
 use Rattle.ua_core.specs.Session.{JobOf, SessionOf, Stage, at_stage}
-use Rattle.fw_message.specs.History.{EntryOf}
+use Rattle.fw_message.specs.Headline.{EntryOf}
 use Rattle.fw_message.specs.Pairs.{CellContentOf, PairOf, StepOf, Stepped, activate_with, cell_after_close, cell_after_give_up, may_start, step_without_entries, step_after_give_up, step_of, with_down, with_session, with_up}
 use Rattle.fw_message.specs.declared.side.Side.TheVariants as sides
 use Rattle.fw_message.specs.declared.side.Way.TheVariants as ways

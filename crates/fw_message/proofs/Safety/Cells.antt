@@ -11,7 +11,7 @@ use Rattle.fd_core.specs.declared.states.Progress.TheVariants as progress
 use Rattle.ua_core.specs.Session.{Stage}
 use Rattle.ua_core.specs.Wish.{stage_wish}
 use Rattle.ua_core.specs.declared.planned.Recorded.{Recorded}
-use Rattle.fw_message.specs.History.{EntryOf}
+use Rattle.fw_message.specs.Headline.{EntryOf}
 use Rattle.ua_core.specs.Lent.{package_at}
 use Rattle.fw_message.specs.Pairs.{CellContentOf, PairOf, StepOf, cell_after_ask, dropped_cell, fresh_cell, cell_after_give_up, put_down, put_up, step_of, with_down, with_up}
 use Rattle.fw_message.specs.declared.side.Way.TheVariants as ways

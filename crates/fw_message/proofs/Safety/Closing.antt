@@ -6,7 +6,7 @@ use Rattle.fwup_wire.specs.Values.{CommandOf}
 use Rattle.fd_core.specs.Images.{RowOf}
 use Rattle.fd_core.specs.Wishes.{device_wish}
 use Rattle.ua_core.specs.Session.{Stage}
-use Rattle.fw_message.specs.History.{EntryOf}
+use Rattle.fw_message.specs.Headline.{EntryOf}
 use Rattle.fw_message.specs.Pairs.{CellContentOf, PairOf, closed_unless, down_wish, is_wished, unwished_closed, with_down, with_up}
 use Rattle.fw_message.proofs.Safety.Agreement.{CommandStands, IsStanding, StandsOpen}
 use Rattle.fw_message.proofs.Safety.Cells.{closed_up}

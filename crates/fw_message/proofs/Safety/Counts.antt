@@ -11,7 +11,7 @@ use Rattle.fwup_wire.specs.declared.values.Key.{Key}
 use Rattle.fd_core.specs.Images.{KeyedImage, same_key}
 use Rattle.ua_core.specs.Lent.{key_of, package_at}
 use Rattle.ua_core.specs.declared.planned.Recorded.{Recorded}
-use Rattle.fw_message.specs.History.{EntryOf, applied_count, recorded_count, one_if, records_image, same_image}
+use Rattle.fw_message.specs.Headline.{EntryOf, applied_count, recorded_count, one_if, records_image, same_image}
 use Rattle.fwup_wire.proofs.SameCommands.{bytes_means, bytes_self, key_means, key_self}
 
 -- the component of a record

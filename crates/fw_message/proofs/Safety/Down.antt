@@ -10,7 +10,7 @@ use Rattle.fd_core.specs.Images.{RowOf}
 use Rattle.ua_core.specs.Session.{Stage}
 use Rattle.ua_core.specs.Wish.{stage_wish}
 use Rattle.ua_core.specs.declared.planned.Recorded.{Recorded}
-use Rattle.fw_message.specs.History.{EntryOf}
+use Rattle.fw_message.specs.Headline.{EntryOf}
 use Rattle.ua_core.specs.Lent.{package_at}
 use Rattle.fw_message.specs.Pairs.{CellContentOf, PairOf, StepOf, Stepped, cell_after_ask, down_wish, fresh_cell, is_empty, put_down, step_of, take_down, take_down_at, with_down}
 use Rattle.fw_message.proofs.Safety.Agreement.{CommandStands, IsStanding, Stray, Together}

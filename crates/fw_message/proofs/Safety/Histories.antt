@@ -7,7 +7,7 @@ use Rattle.fwup_wire.specs.declared.values.Key.{Key}
 use Rattle.fd_core.specs.Images.{ImageOf, KeyedImage, RowOf, rows_after_drop, applied_keyed_images, same_key, rows_after_seal, sealed_if, rows_after_switch, row_after_switch, row_after_switch_to, row_without_applied}
 use Rattle.ua_core.specs.Lent.{key_of}
 use Rattle.ua_core.specs.declared.planned.Recorded.{Recorded}
-use Rattle.fw_message.specs.History.{ActivationOf, EntryOf, IsFrom, IsNamedComponent, IsOfOnePackage, IsSafe, IsTied, WasApplied, activations, activations_read, and_current, applied_since, joined_by, nothing_read, read_along, recorded_in, running_image}
+use Rattle.fw_message.specs.Headline.{ActivationOf, EntryOf, IsFrom, IsNamedComponent, IsOfOnePackage, IsSafe, IsTied, WasApplied, activations, activations_read, and_current, applied_since, joined_by, nothing_read, read_along, recorded_in, running_image}
 use Rattle.fw_message.specs.Pairs.{history_with}
 use Rattle.fw_message.proofs.Safety.Applied.{Backed, NoneApplied, none_dropped, none_switched, put_of, puts_from, puts_none}
 use Rattle.fw_message.proofs.Safety.Counts.{Balanced, IsPending, balanced_more, balanced_never, never_activated, never_applied, never_recorded, recorded_component}

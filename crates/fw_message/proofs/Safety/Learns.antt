@@ -18,7 +18,7 @@ use Rattle.ua_core.specs.declared.planned.Planned.{Planned}
 use Rattle.ua_core.specs.declared.planned.Recorded.{Recorded}
 use Rattle.ua_core.specs.declared.state.Cause.{Cause}
 use Rattle.ua_core.specs.declared.state.Cause.TheVariants as causes
-use Rattle.fw_message.specs.History.{EntryOf}
+use Rattle.fw_message.specs.Headline.{EntryOf}
 use Rattle.fw_message.specs.Pairs.{CellContentOf, PairOf, StepOf, waiting_answer, learn_down, step_of, with_down}
 use Rattle.fw_message.proofs.Safety.Agreement.{AreTold, Cleared, FreshIn, HasChosen, IsBegun, IsBegunAt, IsChosen, IsPieceOf, IsStanding, IsTransfer, NothingAccepted, Pending, TableTime, Together, Transfer, UpdateOffered, Waiting, at_hand, command_of, reply_of}
 use Rattle.fw_message.proofs.Safety.Applied.{none_backed}

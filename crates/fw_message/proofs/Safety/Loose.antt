@@ -11,7 +11,7 @@ use Rattle.ua_core.specs.Laws.{IsOutsideUpdate, IsStageInPlan}
 use Rattle.ua_core.specs.Session.{Stage}
 use Rattle.ua_core.specs.Wish.{stage_wish}
 use Rattle.ua_core.specs.declared.planned.Recorded.{Recorded}
-use Rattle.fw_message.specs.History.{EntryOf}
+use Rattle.fw_message.specs.Headline.{EntryOf}
 use Rattle.ua_core.specs.Lent.{package_at}
 use Rattle.fw_message.specs.Pairs.{CellContentOf, PairOf}
 use Rattle.fw_message.proofs.Safety.Agreement.{Activation, AreTold, Cleared, CommandStands, FreshUpdate, HasChosen, IsStanding, Pending, Stray, Together, UpdateOffered, asked_of, at_hand, is_offered, reply_of}

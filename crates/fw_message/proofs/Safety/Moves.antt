@@ -8,7 +8,7 @@ use Rattle.fd_core.specs.Wishes.{wish_at}
 use Rattle.fd_core.specs.declared.states.State.{State}
 use Rattle.ua_core.specs.Session.{Stage}
 use Rattle.ua_core.specs.declared.planned.Recorded.{Recorded}
-use Rattle.fw_message.specs.History.{EntryOf}
+use Rattle.fw_message.specs.Headline.{EntryOf}
 use Rattle.ua_core.specs.Lent.{package_at}
 use Rattle.fw_message.specs.Pairs.{CellContentOf, PairOf}
 use Rattle.fw_message.proofs.Safety.Agreement.{Activation, Application, Cleared, FreshIn, FreshUpdate, IsBegunAt, IsLost, IsStanding, IsUnderWay, OwnStands, Pending, Settled, StageForm, Stray, TableTime, Together, Transfer, UpdateOffered, Verification, Waiting, asked_of, at_hand, command_of, is_offered, reply_of}

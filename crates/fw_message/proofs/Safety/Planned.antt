@@ -11,7 +11,7 @@ use Rattle.ua_core.specs.Laws.{IsTask, number_of}
 use Rattle.ua_core.specs.Lent.{key_of, package_at}
 use Rattle.ua_core.specs.Session.{TaskOf}
 use Rattle.ua_core.specs.declared.planned.Planned.{Planned}
-use Rattle.fw_message.specs.History.{IsNamedComponent}
+use Rattle.fw_message.specs.Headline.{IsNamedComponent}
 use Rattle.fw_message.proofs.Safety.Agreement.{IsChosen, at_hand}
 use Rattle.fw_message.proofs.Safety.Applied.{Names}
 

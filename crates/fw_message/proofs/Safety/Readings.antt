@@ -3,7 +3,7 @@ use Rattle.std.specs.Prelude.{◌≡◌, List, [], ◌∷◌, ◌++◌, map, Som
 use Rattle.std.proofs.Common.{refl, sym, ap, ◌∙◌, append_assoc, append-nil}
 use Rattle.fd_core.specs.Images.{KeyedImage}
 use Rattle.ua_core.specs.declared.planned.Recorded.{Recorded}
-use Rattle.fw_message.specs.History.{ActivationOf, EntryOf, Reading, activations, and_current, applied_since, nothing_read, read_along, read_entry, recorded_in, image_or_replacement, running_after}
+use Rattle.fw_message.specs.Headline.{ActivationOf, EntryOf, Reading, activations, and_current, applied_since, nothing_read, read_along, read_entry, recorded_in, image_or_replacement, running_after}
 use Rattle.fw_message.specs.Pairs.{history_with}
 
 -- the records since the last activation

@@ -13,7 +13,7 @@ use Rattle.fd_core.specs.declared.states.Progress.TheVariants as progress
 use Rattle.fd_core.specs.declared.states.State.{State}
 use Rattle.ua_core.specs.Laws.{WindowContinues}
 use Rattle.ua_core.specs.declared.planned.Recorded.{Recorded}
-use Rattle.fw_message.specs.History.{EntryOf}
+use Rattle.fw_message.specs.Headline.{EntryOf}
 use Rattle.fw_message.specs.Pairs.{CellContentOf, PairOf, StepOf, waiting_answer, learn_up, step_of, with_up}
 use Rattle.fw_message.proofs.Safety.Agreement.{IsPieceOf, IsStanding, IsTransfer, IsUnderWay, StageForm}
 use Rattle.fw_message.proofs.Safety.Begins.{full_either}

@@ -13,8 +13,8 @@ use Rattle.ua_core.specs.Calls.{new_session}
 use Rattle.ua_core.specs.Laws.{LearnsInPlan, ServesInPlan, WindowContinues}
 use Rattle.ua_core.specs.Lent.{package_descriptor}
 use Rattle.ua_core.specs.Session.{SessionOf}
-use Rattle.fw_message.specs.History.{EntryOf, IsNamedComponent, IsOfOnePackage, IsSafe, WasApplied, activations, applied_count, read_along, recorded_count}
-use Rattle.fw_message.specs.Laws.{IsOpening, IsSafeAndTied, IsUnapplied, MessagesAreSafe}
+use Rattle.fw_message.specs.Headline.{EntryOf, IsNamedComponent, IsOfOnePackage, IsSafe, WasApplied, activations, applied_count, read_along, recorded_count}
+use Rattle.fw_message.specs.Laws.{IsOpening, IsUnapplied, MessagesAreSafe, StaysSafeAndTied}
 use Rattle.fw_message.specs.Pairs.{CellContentOf, PairOf, PairRun, StepOf, Stepped, closing, message_along, history_with, pair_after, ran_on, run_after, step_of}
 use Rattle.fw_message.specs.declared.side.Side.TheVariants as sides
 use Rattle.fw_message.specs.declared.side.Way.TheVariants as ways
@@ -153,7 +153,7 @@ opening_stands ps r h =
 -- the invariant gives a safe and tied history
 safe_and_tied : (ps : List PackageText) (opening : PairRun) (o : Option PairRun)
     → IfSome o (Stands ps (map package_descriptor opening.pair.device.descriptors) opening.pair.device.rows)
-    → IfSome o (IsSafeAndTied ps opening)
+    → IfSome o (StaysSafeAndTied ps opening)
 safe_and_tied ps opening None h = tt
 safe_and_tied ps opening (Some r) h = record { safe = h.history.safe; tied = h.history.tied }
 

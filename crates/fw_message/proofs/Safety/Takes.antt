@@ -10,7 +10,7 @@ use Rattle.fd_core.specs.declared.states.Reason.TheVariants as reasons
 use Rattle.ua_core.specs.Session.{Stage}
 use Rattle.ua_core.specs.Wish.{stage_wish}
 use Rattle.ua_core.specs.declared.planned.Recorded.{Recorded}
-use Rattle.fw_message.specs.History.{EntryOf}
+use Rattle.fw_message.specs.Headline.{EntryOf}
 use Rattle.ua_core.specs.Lent.{package_at}
 use Rattle.fw_message.specs.Pairs.{PairOf, Stepped, down_taken, down_wish, history_with, with_down}
 use Rattle.fw_message.proofs.Safety.Agreement.{AreTold, CommandStands, IsLost, IsStanding, Together}

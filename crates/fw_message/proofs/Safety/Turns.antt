@@ -6,7 +6,7 @@ use Rattle.std.proofs.lemmas.List.Elements.{All-nil, All-cons, All-head, All-tai
 use Rattle.fwup_wire.specs.declared.values.Key.{Key}
 use Rattle.fd_core.specs.Images.{ImageOf, KeyedImage, RowOf, rows_after_drop, images_with, images_with_applied, applied_keyed_images, is_key_before, same_key, rows_after_seal, sealed_if, rows_after_switch, row_after_switch, row_after_switch_to}
 use Rattle.fw_message.specs.Laws.{IsUnapplied}
-use Rattle.fw_message.specs.History.{running_image}
+use Rattle.fw_message.specs.Headline.{running_image}
 use Rattle.fw_message.proofs.Safety.Applied.{none_turned, put_of}
 use Rattle.fw_message.proofs.Safety.Readings.{through}
 use Rattle.fwup_wire.proofs.SameCommands.{key_means, key_self}

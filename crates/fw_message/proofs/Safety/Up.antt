@@ -17,7 +17,7 @@ use Rattle.ua_core.specs.Wish.{stage_wish}
 use Rattle.ua_core.specs.declared.planned.Planned.{Planned}
 use Rattle.ua_core.specs.declared.planned.Recorded.{Recorded}
 use Rattle.ua_core.specs.declared.state.Cause.TheVariants as causes
-use Rattle.fw_message.specs.History.{EntryOf, IsNamedComponent}
+use Rattle.fw_message.specs.Headline.{EntryOf, IsNamedComponent}
 use Rattle.fw_message.specs.Pairs.{CellContentOf, PairOf, StepOf, history_with, step_of, take_up, take_up_at, up_taken, with_up}
 use Rattle.fw_message.proofs.Safety.Agreement.{CommandStands, HasChosen, IsStanding, OwnStands, Pending, Settled, StageForm, Together, Waiting, at_hand, is_offered, reply_of}
 use Rattle.fw_message.proofs.Safety.Counts.{IsPending}

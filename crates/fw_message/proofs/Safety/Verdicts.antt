@@ -15,7 +15,7 @@ use Rattle.fd_core.specs.declared.states.Verdict.TheVariants as verdicts
 use Rattle.ua_core.specs.Lent.{key_of, package_at}
 use Rattle.ua_core.specs.Session.{Stage}
 use Rattle.ua_core.specs.declared.planned.Recorded.{Recorded}
-use Rattle.fw_message.specs.History.{EntryOf}
+use Rattle.fw_message.specs.Headline.{EntryOf}
 use Rattle.fw_message.specs.Pairs.{CellContentOf, PairOf, StepOf, step_after_verdict, step_of}
 use Rattle.fw_message.proofs.Safety.Agreement.{Holds, IsHeld, IsSealed, IsStanding, IsUnderWay, Pending, Together, asked_of, at_hand, command_of}
 use Rattle.fw_message.proofs.Safety.Applied.{AppliedIs, BackedBut, put_of, sealed_applied, sealed_others}

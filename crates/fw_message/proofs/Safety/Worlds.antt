@@ -7,14 +7,15 @@ use Rattle.std.proofs.lemmas.List.Elements.{All-head, All-tail}
 use Rattle.fw_package.specs.Package.{DescriptorOf, PackageText}
 use Rattle.fd_core.specs.Images.{RowOf}
 use Rattle.ua_core.specs.Lent.{package_descriptor}
-use Rattle.fw_message.specs.History.{EntryOf}
-use Rattle.fw_message.specs.Laws.{IsSafeAndTied}
+use Rattle.fw_message.specs.Headline.{EntryOf, IsSafeAndTied}
 use Rattle.fw_message.specs.Pairs.{PairOf, StepOf, Stepped, history_with, pair_after}
+use Rattle.fw_message.specs.Laws.{shown_pair}
 use Rattle.fw_message.specs.WorldLaws.{IsOpeningNode, IsOpeningMessageWorld, IsSafeMessageWorld, WorldsAreSafe, WorldsStaySafe, history_of, run_of}
 use Rattle.fw_message.specs.Worlds.{NodeOf, NotedOf, MessageWorldOf, WorldStepOf, after_or, agent_restarted, node_at, noted_of, step_at, went_on, with_pair, message_world_after, world_along}
 use Rattle.fw_message.specs.declared.side.Side.TheVariants as sides
 use Rattle.fw_message.proofs.Safety.Agreement.{IsStanding}
 use Rattle.fw_message.proofs.Safety.Runs.{Laws, Stands, opening_stands, pair_stands}
+use Rattle.fw_message.proofs.Showing.{IsSafeNode, pairs_show}
 
 -- the nodes after a step of one device
 other_node : (ns : List NodeOf) (device eid : ℕ) (m : PairOf) → (device == eid) ≡ false
@@ -213,18 +214,21 @@ opening_kept opening h = record {
 }
 
 -- the invariant gives safety
-kept_at : (ps : List PackageText) (n : NodeOf) (o : Option NodeOf) (es : List EntryOf) → At ps n o es
-    → IsSomeAnd o (λ m. IsSafeAndTied ps (run_of n []) (run_of m es))
-kept_at ps n None es h = h
-kept_at ps n (Some m) es h = record { safe = h.history.safe; tied = h.history.tied }
+kept_at : (ps : List PackageText) (n : NodeOf) (o : Option NodeOf) (before es : List EntryOf) → At ps n o es
+    → IsSomeAnd o (IsSafeNode ps before n es)
+kept_at ps n None before es h = h
+kept_at ps n (Some m) before es h = record { safe = h.history.safe; tied = h.history.tied }
 
 pub kept_safe : (opening w : MessageWorldOf) → IsKept opening w → IsSafeMessageWorld opening w
-kept_safe opening w h eid = at_node (node_at opening.nodes eid) (h.nodes eid)
+kept_safe opening w h eid =
+    pairs_show (λ n. shown_pair n.pair (history_of eid opening.history)) (λ m. shown_pair m.pair (history_of eid w.history))
+    (node_at opening.nodes eid) (node_at w.nodes eid) (IsSafeAndTied opening.packages)
+    (at_node (node_at opening.nodes eid) (h.nodes eid))
   where
     at_node : (o : Option NodeOf) → IfSome o (λ n. At opening.packages n (node_at w.nodes eid) (history_of eid w.history))
-        → IfSome o (λ n. IsSomeAnd (node_at w.nodes eid) (λ m. IsSafeAndTied opening.packages (run_of n []) (run_of m (history_of eid w.history))))
+        → IfSome o (λ n. IsSomeAnd (node_at w.nodes eid) (IsSafeNode opening.packages (history_of eid opening.history) n (history_of eid w.history)))
     at_node None h = tt
-    at_node (Some n) h = kept_at opening.packages n (node_at w.nodes eid) (history_of eid w.history) h
+    at_node (Some n) h = kept_at opening.packages n (node_at w.nodes eid) (history_of eid opening.history) (history_of eid w.history) h
 
 safe_if : (opening : MessageWorldOf) (o : Option MessageWorldOf) → IfSome o (IsKept opening) → IfSome o (IsSafeMessageWorld opening)
 safe_if opening None h = tt

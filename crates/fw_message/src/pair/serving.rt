@@ -7,7 +7,7 @@ ghost use Rattle.fd_core.specs.Steps.{applied_by};
 ghost use Rattle.fd_core.specs.Wishes.{has_failed};
 ghost use Rattle.fw_message.specs.BankCalls.{pair_step_calls_bank};
 ghost use Rattle.fw_message.specs.Entries.{keyed_image_of};
-ghost use Rattle.fw_message.specs.History.{EntryOf};
+ghost use Rattle.fw_message.specs.Headline.{EntryOf};
 ghost use Rattle.fw_message.specs.Nodes.{is_activation, room_of, to_activate};
 ghost use Rattle.fd_core.specs.Banks.{CountsFailure};
 ghost use Rattle.fw_message.specs.Pairs.{StepOf, activated_down, step_without_entries, step_of};

@@ -8,7 +8,7 @@ use Rattle.fd_core.specs.Banks.{CountsFailure}
 use Rattle.fd_core.specs.declared.states.Verdict.{Verdict}
 use Rattle.fw_message.specs.declared.side.Side.TheVariants as sides
 use Rattle.fw_steps.specs.BankCalls.{step_calls_bank}
-use Rattle.fw_steps.specs.Headline.{StepsTo, faults_before, world_after}
+use Rattle.fw_steps.specs.Steps.{StepsTo, faults_before, world_after}
 use Rattle.fw_steps.specs.Isolation.{faults_at}
 use Rattle.fw_steps.specs.Links.{LinkOf, LinkStep, LinkStepped, delivers_on}
 use Rattle.fw_steps.specs.Worlds.{WorldOf}

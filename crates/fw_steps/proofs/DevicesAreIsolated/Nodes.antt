@@ -16,7 +16,7 @@ use Rattle.fw_node.specs.Agents.{agent_on_packet, half_for, ready_for}
 use Rattle.fw_node.specs.Cores.{TimedDevice, device_core}
 use Rattle.fw_node.specs.Halves.{HalfOutcome, half_on_packet}
 use Rattle.fw_node.specs.Nodes.{DeviceNodeOf, device_restarts, node_outcome_of}
-use Rattle.fw_steps.specs.Headline.{is_device, is_node, may_step, packet_fault, world_after}
+use Rattle.fw_steps.specs.Steps.{is_device, is_node, may_step, packet_fault, world_after}
 use Rattle.fw_steps.specs.Links.{LinkOf, LinkStep, LinkStepped, delivers_on, link_step_of_device, link_after}
 use Rattle.fw_steps.specs.Worlds.{SiteOf, WorldOf, activates_on, agent_pass_sends, world_after_log_request, at_agent, at_device, world_after_packet, counts, world_after_deliver, world_after_verdict, packets_of, place_of, posts, world_after_restart, site_for, site_after_tick, site_passes, site_restarts, world_after_tick}
 use Rattle.fw_steps.specs.declared.step.Step.{Step}

@@ -13,7 +13,8 @@ use Rattle.fw_node.specs.Agents.{half_for}
 use Rattle.fw_node.specs.Halves.{HalfOf}
 use Rattle.fw_steps.specs.BankCalls.{step_calls_bank}
 use Rattle.fw_steps.specs.Counts.{CountsNeedCalls}
-use Rattle.fw_steps.specs.Headline.{IsReached, StepsTo, Run}
+use Rattle.fw_steps.specs.Promises.{IsReached}
+use Rattle.fw_steps.specs.Steps.{StepsTo, Run}
 use Rattle.fw_steps.specs.Isolation.{AgreeIn, ConcernOf, DevicesAreIsolated, IsUnfailed, SharedOf, concern_of, concerns_device, faults_at, shared_by, shared_with, steps_of, node_without_faults}
 use Rattle.fw_steps.specs.LinksAreMessages.{LinksAreMessages}
 use Rattle.fw_steps.specs.LinksAreLanes.{LinksAreLanes}

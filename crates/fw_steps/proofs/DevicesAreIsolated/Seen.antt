@@ -7,11 +7,11 @@ use Rattle.mctp_ctl.specs.declared.answers.Endpoint.{Endpoint}
 use Rattle.exch_lane.specs.Lanes.{item_numbered}
 use Rattle.fw_package.specs.Package.{PackageText}
 use Rattle.fd_core.specs.declared.states.Verdict.{Verdict}
-use Rattle.fw_message.specs.History.{EntryOf}
+use Rattle.fw_message.specs.Headline.{EntryOf}
 use Rattle.fw_message.specs.WorldLaws.{history_of}
 use Rattle.fw_message.specs.Worlds.{NotedOf, noted_of}
 use Rattle.fw_message.proofs.Safety.Worlds.{history_more}
-use Rattle.fw_steps.specs.Headline.{faults_of, is_device, is_node, may_step, packet_fault, verdict_fault, world_after}
+use Rattle.fw_steps.specs.Steps.{faults_of, is_device, is_node, may_step, packet_fault, verdict_fault, world_after}
 use Rattle.fw_steps.specs.Isolation.{faults_at}
 use Rattle.fw_steps.specs.Links.{LinkOf, LinkStep, LinkStepped, link_after}
 use Rattle.fw_steps.specs.Worlds.{SiteOf, WorldOf, packets_of, site_for}

@@ -6,7 +6,7 @@ use Rattle.exch_lane.specs.Clocks.{may_beat}
 use Rattle.ua_core.specs.Session.{TimedOf}
 use Rattle.fw_node.specs.Agents.{half_for}
 use Rattle.fw_node.specs.Halves.{HalfOf}
-use Rattle.fw_steps.specs.Headline.{is_node, may_all_beat, may_site_beat, may_step, tick_fault}
+use Rattle.fw_steps.specs.Steps.{is_node, may_all_beat, may_site_beat, may_step, tick_fault}
 use Rattle.fw_steps.specs.Links.{LinkOf}
 use Rattle.fw_steps.specs.Worlds.{SiteOf, WorldOf, counts, site_for}
 use Rattle.fw_steps.specs.declared.step.Step.TheVariants as steps

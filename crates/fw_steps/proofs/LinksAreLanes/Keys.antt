@@ -7,7 +7,7 @@ use Rattle.fw_node.specs.Agents.{any_packet, agent_on_packet, agent_unmoved, hal
 use Rattle.fw_node.specs.Cores.{session_core}
 use Rattle.fw_node.specs.Halves.{HalfOf, half_restarts}
 use Rattle.fw_node.specs.Nodes.{device_restarts}
-use Rattle.fw_steps.specs.Headline.{world_after}
+use Rattle.fw_steps.specs.Steps.{world_after}
 use Rattle.fw_steps.specs.Worlds.{SiteOf, WorldOf, activates_on, agent_pass_sends, agent_passes, world_after_log_request, at_agent, at_device, world_after_call, counts, world_after_deliver, packets_of, place_of, post, post_at, posts, world_after_restart, site_for, site_after_tick}
 use Rattle.fw_steps.specs.declared.step.Step.{Step}
 use Rattle.fw_steps.specs.declared.step.Step.TheVariants as steps

@@ -3,7 +3,7 @@ use Rattle.std.proofs.Common.{◌≡◌, ◌≢◌, ◌∙◌, ℕ, zero, suc, L
 use Rattle.std.specs.Option.{option_map}
 use Rattle.std.proofs.lemmas.Bool.Decides.{eqb_tells}
 use Rattle.std.proofs.lemmas.Option.{slice_get-map}
-use Rattle.fw_steps.specs.Headline.{AreDifferent}
+use Rattle.fw_steps.specs.Opening.{AreDifferent}
 use Rattle.fw_steps.specs.Links.{LinkOf}
 use Rattle.fw_steps.specs.Worlds.{WorldOf}
 use Rattle.fw_steps.proofs.LinksAreLanes.Comings.{fact_at}

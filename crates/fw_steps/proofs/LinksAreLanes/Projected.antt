@@ -19,7 +19,7 @@ use Rattle.fw_message.specs.declared.side.Side.TheVariants as sides
 use Rattle.fw_node.specs.Agents.{half_after_activate, half_after_cancel, free_for, free_in, half_for, ready_for, ready_in, half_after_start}
 use Rattle.fw_node.specs.Cores.{device_core, session_core}
 use Rattle.fw_node.specs.Halves.{HalfOf, half_restarts, half_with_core}
-use Rattle.fw_steps.specs.Headline.{is_package, may_step, ready_fault, start_fault, verdict_fault, where_known}
+use Rattle.fw_steps.specs.Steps.{is_package, may_step, ready_fault, start_fault, verdict_fault, where_known}
 use Rattle.fw_steps.specs.Links.{LinkOf, LinkStep, LinkStepped, link_step_of_verdict, link_after, link_ticks, link_step_without_entries}
 use Rattle.fw_steps.specs.Worlds.{SiteOf, WorldOf, activates_on, world_after_log_request, world_after_call, counts, world_after_verdict, place_of, world_after_restart, site_for, world_after_tick}
 use Rattle.fw_steps.specs.declared.step.Step.{Step}

@@ -7,7 +7,7 @@ use Rattle.exch_lane.specs.Lanes.{Sent, item_numbered}
 use Rattle.exch_lane.specs.Laws.{LaneIsACell}
 use Rattle.fw_message.specs.declared.side.Side.TheVariants as sides
 use Rattle.fw_node.specs.Agents.{half_for}
-use Rattle.fw_steps.specs.Headline.{has_session, is_device, is_node, may_step, packet_fault, where_known, world_after}
+use Rattle.fw_steps.specs.Steps.{has_session, is_device, is_node, may_step, packet_fault, where_known, world_after}
 use Rattle.fw_steps.specs.LinksAreLanes.{LinkStepRoundTrips, AnswerRoundTripsOn}
 use Rattle.fw_steps.specs.Links.{LinkOf}
 use Rattle.fw_steps.specs.Worlds.{WorldOf, world_after_deliver, packets_of, site_for}

@@ -10,7 +10,7 @@ use Rattle.ua_core.specs.Calls.{agent_restart, agent_silent, agent_timeout, idle
 use Rattle.ua_core.specs.Serve.{agent_answer, recorded_by}
 use Rattle.ua_core.specs.Session.{SessionOf, Stage, TimedOf}
 use Rattle.ua_core.specs.Wish.{entry_wish, offer_wish, request_wish, stage_wish}
-use Rattle.fw_message.specs.History.{EntryOf}
+use Rattle.fw_message.specs.Headline.{EntryOf}
 use Rattle.fw_message.specs.Names.{HasName}
 use Rattle.fw_message.specs.Pairs.{CellContentOf, PairOf, StepOf, cell_after_close, closed_unless, down_wish, fresh_cell, is_empty, pair_after, step_without_entries, step_of, unwished_closed, up_taken}
 use Rattle.fw_message.specs.declared.side.Side.TheVariants as sides

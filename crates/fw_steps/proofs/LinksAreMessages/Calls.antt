@@ -12,7 +12,7 @@ use Rattle.fd_core.specs.Steps.{VerdictEffect, device_verdict}
 use Rattle.fd_core.specs.declared.states.Verdict.{Verdict}
 use Rattle.ua_core.specs.Calls.{agent_activated, agent_cancelled, agent_started, may_cancel}
 use Rattle.ua_core.specs.Session.{SessionOf, TimedOf}
-use Rattle.fw_message.specs.History.{EntryOf}
+use Rattle.fw_message.specs.Headline.{EntryOf}
 use Rattle.fw_message.specs.Names.{HasName}
 use Rattle.fw_message.specs.Pairs.{CellContentOf, StepOf, cell_after_close, closed_unless, down_wish, may_start, message_along, step_without_entries, ran_on, step_of}
 use Rattle.fw_message.specs.declared.side.Side.TheVariants as sides

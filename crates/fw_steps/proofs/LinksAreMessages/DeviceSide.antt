@@ -13,7 +13,7 @@ use Rattle.fd_core.specs.Wishes.{apply_report, asked_length, device_wish, downlo
 use Rattle.fd_core.specs.declared.states.Progress.{Progress}
 use Rattle.fd_core.specs.declared.states.Progress.TheVariants as progress
 use Rattle.ua_core.specs.Session.{SessionOf}
-use Rattle.fw_message.specs.History.{EntryOf}
+use Rattle.fw_message.specs.Headline.{EntryOf}
 use Rattle.fw_message.specs.Names.{HasName}
 use Rattle.fw_message.specs.Pairs.{CellContentOf, PairOf, StepOf, cell_after_close, closed_unless, down_taken, down_wish, fresh_cell, is_empty, step_without_entries, step_of, unwished_closed}
 use Rattle.fw_message.specs.declared.side.Side.TheVariants as sides

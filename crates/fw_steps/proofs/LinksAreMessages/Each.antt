@@ -10,7 +10,7 @@ use Rattle.fw_message.specs.Worlds.{NodeOf, NotedOf, MessageWorldOf, WorldStepOf
 use Rattle.fw_message.specs.declared.side.Side.TheVariants as sides
 use Rattle.fw_message.proofs.Apart.{absent_more}
 use Rattle.fw_message.proofs.Safety.Worlds.{along_append}
-use Rattle.fw_steps.specs.Headline.{AreDifferent}
+use Rattle.fw_steps.specs.Opening.{AreDifferent}
 use Rattle.fw_steps.specs.LinksAreMessages.{AreStepsOf}
 use Rattle.fw_steps.specs.Links.{LinkOf, LinkStep, LinkStepped, link_after, time_after}
 use Rattle.fw_steps.proofs.LinksAreMessages.Pairs.{among, node_of, pair_among}

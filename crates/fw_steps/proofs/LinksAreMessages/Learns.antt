@@ -16,7 +16,7 @@ use Rattle.exch_lane.specs.Laws.{awaited_request}
 use Rattle.fw_package.specs.Package.{PackageText}
 use Rattle.fwup_wire.specs.Answers.{answer_in, answer_read, ok_or_malformed}
 use Rattle.fwup_wire.specs.Values.{AnswerOf, CommandOf}
-use Rattle.fw_message.specs.History.{EntryOf as NoteOf}
+use Rattle.fw_message.specs.Headline.{EntryOf as NoteOf}
 use Rattle.fw_message.specs.Pairs.{CellContentOf, PairOf}
 use Rattle.fw_node.specs.Halves.{CoreOf, HalfOutcome, HalfOf, half_on_rows, half_after_settle}
 use Rattle.fw_steps.specs.Joins.{IsCellFor, IsWishedIn, MatchesCell}

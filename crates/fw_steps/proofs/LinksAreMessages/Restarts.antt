@@ -3,11 +3,11 @@
 use Rattle.std.proofs.Common.{◌≡◌, ℕ, List, [], ◌∷◌, map, append-nil, Option, Some, None, refl, sym, ap, subst}
 use Rattle.std.specs.Option.{option_map}
 use Rattle.fw_package.specs.Package.{PackageText}
-use Rattle.fw_message.specs.History.{EntryOf}
+use Rattle.fw_message.specs.Headline.{EntryOf}
 use Rattle.fw_message.specs.Pairs.{PairOf, PairRun, StepOf, Stepped, message_along, history_with, pair_after, ran_on}
 use Rattle.fw_message.specs.Worlds.{NodeOf, MessageWorldOf, WorldStepOf, after_or, agent_restarted, message_world_after, world_along}
 use Rattle.fw_message.specs.declared.side.Side.TheVariants as sides
-use Rattle.fw_steps.specs.Headline.{AreDifferent}
+use Rattle.fw_steps.specs.Opening.{AreDifferent}
 use Rattle.fw_steps.specs.LinksAreMessages.{LinksAreMessages}
 use Rattle.fw_steps.specs.LinksAreLanes.{LinksAreLanes}
 use Rattle.fw_steps.specs.Links.{LinkOf, LinkStep, LinkStepped}

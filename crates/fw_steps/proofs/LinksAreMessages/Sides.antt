@@ -5,7 +5,7 @@ use Rattle.std.specs.Option.{option_map}
 use Rattle.fw_package.specs.Package.{PackageText}
 use Rattle.fwup_wire.specs.Commands.{command_code}
 use Rattle.fwup_wire.specs.Values.{AnswerOf, CommandOf}
-use Rattle.fw_message.specs.History.{EntryOf}
+use Rattle.fw_message.specs.Headline.{EntryOf}
 use Rattle.fw_message.specs.Names.{HasName}
 use Rattle.fw_message.specs.Pairs.{CellContentOf, PairOf, PairRun, StepOf, Stepped, closed_unless, closing, fresh_cell, is_empty, message_along, history_with, pair_after, ran_on, run_after, step_of, unwished_closed}
 use Rattle.fw_node.specs.Halves.{CoreOf}

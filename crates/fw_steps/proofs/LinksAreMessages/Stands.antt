@@ -6,7 +6,7 @@ use Rattle.exch_lane.specs.Cells.{Cell, CellRun}
 use Rattle.exch_lane.specs.Lanes.{AreEnds, LaneOf, Sent}
 use Rattle.exch_lane.specs.Laws.{IsCellOf, LaneIsACell}
 use Rattle.fw_package.specs.Package.{PackageText}
-use Rattle.fw_message.specs.History.{EntryOf}
+use Rattle.fw_message.specs.Headline.{EntryOf}
 use Rattle.fw_message.specs.Pairs.{PairOf, StepOf, message_along, history_with}
 use Rattle.fw_steps.specs.LinksAreMessages.{AreStepsOf, LinksAreMessages}
 use Rattle.fw_node.specs.Halves.{HalfOf}

@@ -10,7 +10,7 @@ use Rattle.fw_package.specs.Package.{PackageText}
 use Rattle.fwup_wire.specs.Laws.{WritesCommands}
 use Rattle.fd_core.specs.Wishes.{device_wish}
 use Rattle.ua_core.specs.Session.{TimedOf}
-use Rattle.fw_message.specs.History.{EntryOf}
+use Rattle.fw_message.specs.Headline.{EntryOf}
 use Rattle.fw_message.specs.Pairs.{CellContentOf, PairOf, down_wish}
 use Rattle.fw_message.specs.declared.side.Side.{Side}
 use Rattle.fw_message.specs.declared.side.Side.TheVariants as sides

@@ -9,7 +9,7 @@ use Rattle.fw_message.specs.WorldLaws.{IsOpeningMessageWorld, IsSafeMessageWorld
 use Rattle.fw_message.specs.Worlds.{NodeOf, NotedOf, MessageWorldOf, WorldStepOf, world_along}
 use Rattle.fw_message.specs.declared.side.Side.TheVariants as sides
 use Rattle.fw_message.proofs.Safety.Worlds.{along_append}
-use Rattle.fw_steps.specs.Headline.{AreDifferent}
+use Rattle.fw_steps.specs.Opening.{AreDifferent}
 use Rattle.fw_steps.specs.Links.{LinkOf, LinkStep, LinkStepped, link_step_without_entries}
 use Rattle.fw_steps.proofs.LinksAreMessages.Each.{AllAfter, AllStand, eid_of, notes_of}
 use Rattle.fw_steps.proofs.LinksAreMessages.BothHalves.{pair_at}

@@ -12,7 +12,8 @@ use Rattle.fw_message.proofs.Counted.{named_run, no_failures}
 use Rattle.fw_node.specs.Agents.{new_half}
 use Rattle.fw_node.specs.Halves.{HalfOf}
 use Rattle.fw_node.specs.Nodes.{DeviceNodeOf}
-use Rattle.fw_steps.specs.Headline.{AreNewNodes, IsOpeningWorld, PacketsAreMessages, new_world, unit_of}
+use Rattle.fw_steps.specs.Opening.{AreNewNodes, IsOpeningWorld, new_world, unit_of}
+use Rattle.fw_steps.specs.Promises.{PacketsAreMessages}
 use Rattle.fw_steps.specs.LinksAreMessages.{LinksAreMessages}
 use Rattle.fw_steps.specs.LinksAreLanes.{LinksAreLanes}
 use Rattle.fw_steps.specs.Messages.{IsSameWorld}

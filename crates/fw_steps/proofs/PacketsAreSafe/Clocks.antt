@@ -19,7 +19,8 @@ use Rattle.fw_node.specs.Cores.{TimedDevice, device_core, session_core}
 use Rattle.fw_node.specs.Halves.{HalfOutcome, HalfOf, half_on_packet}
 use Rattle.fw_node.specs.Nodes.{DeviceNodeOf}
 use Rattle.fw_steps.specs.Clocks.{KeepsTime, RunsKeepTime, ticks_counted_by, units_passed, ticks_in, units_of}
-use Rattle.fw_steps.specs.Headline.{IsOpeningWorld, StepsTo, Run, is_device, may_step, new_site, world_after}
+use Rattle.fw_steps.specs.Opening.{IsOpeningWorld, new_site}
+use Rattle.fw_steps.specs.Steps.{StepsTo, Run, is_device, may_step, world_after}
 use Rattle.fw_steps.specs.LinksAreMessages.{LinksAreMessages}
 use Rattle.fw_steps.specs.LinksAreLanes.{LinksAreLanes}
 use Rattle.fw_steps.specs.Links.{LinkOf, LinkStep, LinkStepped, activates_on as link_activates, link_step_of_agent, delivers_on, link_step_of_device, link_step_of_packet, link_step_of_verdict, link_after, link_ticks, link_step_without_entries}

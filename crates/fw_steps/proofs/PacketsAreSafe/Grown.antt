@@ -5,10 +5,11 @@ use Rattle.std.proofs.lemmas.List.{append_assoc}
 use Rattle.exch_lane.specs.Lanes.{Sent, item_numbered}
 use Rattle.fd_core.specs.Steps.{applied_by}
 use Rattle.fd_core.specs.declared.states.Verdict.{Verdict}
-use Rattle.fw_message.specs.History.{EntryOf}
+use Rattle.fw_message.specs.Headline.{EntryOf}
 use Rattle.fw_message.specs.Worlds.{NotedOf, noted_of}
 use Rattle.fw_node.specs.Agents.{any_packet, agent_on_packet}
-use Rattle.fw_steps.specs.Headline.{StepsTo, Run, RunsGrow, world_after}
+use Rattle.fw_steps.specs.Promises.{RunsGrow}
+use Rattle.fw_steps.specs.Steps.{StepsTo, Run, world_after}
 use Rattle.fw_steps.specs.Moments.{entries_between}
 use Rattle.fw_steps.specs.Worlds.{SiteOf, WorldOf, activated_at, at_agent, at_device, world_after_deliver, world_after_verdict, packets_of, place_of, recorded_from, sender_of, site_for}
 use Rattle.fw_steps.specs.declared.step.Step.{Step}

@@ -19,7 +19,7 @@ use Rattle.ua_core.specs.Serve.{ServeRow, after_by, record_of, recorded_by, reco
 use Rattle.ua_core.specs.Session.{SessionOf, TimedOf}
 use Rattle.ua_core.specs.declared.planned.Recorded.{Recorded}
 use Rattle.ua_core.proofs.Lawful.{learns_no_record}
-use Rattle.fw_message.specs.History.{EntryOf}
+use Rattle.fw_message.specs.Headline.{EntryOf}
 use Rattle.fw_message.specs.Worlds.{noted_of}
 use Rattle.fw_node.specs.Agents.{any_packet, AgentOf, agent_on_packet, half_at, half_for, place_of as half_place}
 use Rattle.fw_node.specs.Cores.{package_of, session_core}

@@ -11,7 +11,7 @@ use Rattle.fw_message.specs.declared.side.Side.TheVariants as sides
 use Rattle.fw_node.specs.Agents.{any_packet, agent_on_packet, half_for}
 use Rattle.fw_node.specs.Cores.{device_core, session_core}
 use Rattle.fw_node.specs.Halves.{HalfOutcome, half_on_packet}
-use Rattle.fw_steps.specs.Headline.{packet_fault}
+use Rattle.fw_steps.specs.Steps.{packet_fault}
 use Rattle.fw_steps.specs.Links.{LinkOf, LinkStep, link_step_of_agent, delivers_on, link_step_of_packet, link_after}
 use Rattle.fw_steps.specs.Worlds.{SiteOf, WorldOf, at_device, world_after_packet, world_after_deliver, place_of, recorded_from, sender_of, site_for}
 use Rattle.fw_steps.specs.declared.step.StepFault.TheVariants as faults

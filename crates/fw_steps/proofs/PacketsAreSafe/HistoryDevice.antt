@@ -4,7 +4,7 @@ use Rattle.std.proofs.Common.{◌≡◌, ◌∙◌, ◌++◌, ℕ, Bool, List, [
 use Rattle.pldm_exch.specs.Caller.{is_quiet}
 use Rattle.fd_core.specs.Steps.{VerdictEffect, applied_by, device_verdict, images_of_verdict}
 use Rattle.fd_core.specs.declared.states.Verdict.{Verdict}
-use Rattle.fw_message.specs.History.{EntryOf}
+use Rattle.fw_message.specs.Headline.{EntryOf}
 use Rattle.fw_message.specs.Worlds.{noted_of}
 use Rattle.fw_node.specs.Cores.{TimedDevice, device_core}
 use Rattle.fw_node.specs.Halves.{HalfOutcome, HalfOf, half_on_packet}

@@ -8,7 +8,7 @@ use Rattle.fd_core.specs.declared.states.Verdict.{Verdict}
 use Rattle.ua_core.specs.Session.{SessionOf}
 use Rattle.fw_message.specs.Worlds.{noted_of}
 use Rattle.fw_node.specs.Agents.{half_for, ready_for}
-use Rattle.fw_steps.specs.Headline.{is_device, is_node, may_step, packet_fault, verdict_fault, where_known, world_after}
+use Rattle.fw_steps.specs.Steps.{is_device, is_node, may_step, packet_fault, verdict_fault, where_known, world_after}
 use Rattle.fw_steps.specs.Links.{LinkOf, LinkStep, LinkStepped, link_step_of_verdict, link_after}
 use Rattle.fw_steps.specs.Worlds.{SiteOf, WorldOf, activates_on, world_after_log_request, world_after_deliver, world_after_verdict, packets_of, place_of, world_after_restart, site_for}
 use Rattle.fw_steps.specs.declared.step.Step.{Step}

@@ -1,7 +1,7 @@
 -- The entries of a link's step, and their place in the history of a world.
 use Rattle.std.proofs.Common.{◌≡◌, ◌∙◌, ◌++◌, ℕ, Bool, true, false, if◌then◌else◌, List, [], ◌∷◌, map, Option, Some, None, append-nil, refl, sym, ap}
 use Rattle.ua_core.specs.Session.{SessionOf}
-use Rattle.fw_message.specs.History.{EntryOf}
+use Rattle.fw_message.specs.Headline.{EntryOf}
 use Rattle.fw_message.specs.Worlds.{NotedOf, noted_of}
 use Rattle.fw_message.specs.Pairs.{may_start}
 use Rattle.fw_package.specs.Package.{PackageText}

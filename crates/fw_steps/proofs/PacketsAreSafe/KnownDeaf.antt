@@ -19,7 +19,7 @@ use Rattle.fw_message.specs.declared.side.Side.TheVariants as sides
 use Rattle.fw_node.specs.Agents.{any_packet, AgentOf, agent_ticks, agent_unmoved, becomes_at, half_at, half_for, agent_on_packet_at, place_of_sender, place_of as half_place, half_after_activate, half_after_cancel, ready_for, half_after_start}
 use Rattle.fw_node.specs.Cores.{TimedDevice, device_core, session_core}
 use Rattle.fw_node.specs.Halves.{CoreOf, HalfOutcome, HalfOf, begins_if, begins_wish, half_tick_by_row, half_on_packet, half_on_rows, half_takes, half_ticks, tick_if, read_by, takes_if, takes_read, unwished_abandoned, with_caller}
-use Rattle.fw_steps.specs.Headline.{world_after}
+use Rattle.fw_steps.specs.Steps.{world_after}
 use Rattle.fw_steps.specs.Links.{LinkOf, LinkStep, LinkStepped, activates_on as link_activates, link_step_of_agent, delivers_on, link_step_of_device, link_step_of_packet, link_step_of_verdict, link_after, link_ticks, link_step_without_entries}
 use Rattle.fw_steps.specs.Worlds.{WorldOf, activates_on, agent_passes, world_after_log_request, at_agent, at_device, world_after_call, counts, world_after_deliver, packets_of, place_of, site_for}
 use Rattle.fw_steps.specs.declared.step.Step.{Step}

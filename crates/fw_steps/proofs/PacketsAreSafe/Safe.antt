@@ -4,15 +4,18 @@ use Rattle.std.specs.Option.{option_map}
 use Rattle.exch_lane.specs.Laws.{LaneIsACell}
 use Rattle.fw_package.specs.Package.{PackageText}
 use Rattle.ua_core.specs.Session.{TimedOf}
-use Rattle.fw_message.specs.History.{EntryOf, IsTied}
-use Rattle.fw_message.specs.Laws.{IsSafeAndTied}
+use Rattle.fw_message.specs.Headline.{EntryOf, IsSafeAndTied, IsTied}
 use Rattle.fw_message.specs.Pairs.{PairOf}
-use Rattle.fw_message.specs.WorldLaws.{history_of, run_of}
+use Rattle.fw_message.specs.WorldLaws.{history_of}
 use Rattle.fw_message.specs.WorldLaws.{IsSafeMessageWorld as AreSafeMessages, WorldsAreSafe as MessagesAreSafe}
 use Rattle.fw_message.specs.Worlds.{NodeOf, node_at}
+use Rattle.fw_message.proofs.Showing.{IsSafeNode, pairs_show, pairs_shown}
 use Rattle.fw_node.specs.Agents.{half_for}
 use Rattle.fw_node.specs.Halves.{HalfOf}
-use Rattle.fw_steps.specs.Headline.{AreDifferent, IsOpeningWorld, IsSafeWorld, PacketsAreSafe, Run, pair_run}
+use Rattle.fw_message.specs.Laws.{shown_pair}
+use Rattle.fw_steps.specs.Opening.{AreDifferent, IsOpeningWorld}
+use Rattle.fw_steps.specs.Promises.{IsSafeWorld, PacketsAreSafe}
+use Rattle.fw_steps.specs.Steps.{Run}
 use Rattle.fw_steps.specs.LinksAreMessages.{LinksAreMessages}
 use Rattle.fw_steps.specs.LinksAreLanes.{LinksAreLanes}
 use Rattle.fw_steps.specs.Links.{LinkOf}
@@ -56,9 +59,9 @@ node_placed : (ns : List NodeOf) (i eid : ℕ) (n : NodeOf) → AreDifferent (ma
 node_placed ns i eid n apart e is = node_first ns eid ∙ sym (first_by_place eid_of ns i eid apart e) ∙ is
 
 -- its history is that of its pair over whole messages
-safe_as : (packages : List PackageText) (now : ℕ) (first last : LinkOf) (n : NodeOf) (es fs : List EntryOf) → Stands packages now last n.pair → fs ≡ es
-    → (ps : List PackageText) → IsSafeAndTied ps (run_of (opening_node first) []) (run_of n es) → IsSafeAndTied ps (pair_run (pair_of first) []) (pair_run (pair_of last) fs)
-safe_as packages now first last n es fs stands same ps k = rw same (record {
+safe_as : (packages : List PackageText) (now : ℕ) (first last : LinkOf) (n : NodeOf) (b es fs : List EntryOf) → Stands packages now last n.pair → fs ≡ es
+    → (ps : List PackageText) → IsSafeNode ps b (opening_node first) es n → IsSafeAndTied ps (shown_pair (pair_of first) []) (shown_pair (pair_of last) fs)
+safe_as packages now first last n b es fs stands same ps k = rw same (record {
   safe = k.safe;
   tied = subst (λ d. IsTied first.device.core.device.rows d.rows last.agent.core.session.records es) stands.joined.device
       (subst (λ x. IsTied first.device.core.device.rows n.pair.device.rows x.records es) stands.joined.session k.tied);
@@ -66,8 +69,8 @@ safe_as packages now first last n es fs stands same ps k = rw same (record {
 
 -- THE WORLD
 
-abbrev SafeAt : (opening w : WorldOf) → (eid : ℕ) → Option PairOf → Option PairOf → Type 0
-SafeAt opening w eid o p = IfSome o (λ m. IsSomeAnd p (λ n. IsSafeAndTied opening.packages (pair_run m []) (pair_run n (history_of eid w.history))))
+abbrev pub SafeAt : (opening w : WorldOf) → (eid : ℕ) → Option PairOf → Option PairOf → Type 0
+SafeAt opening w eid o p = IfSome o (λ m. IsSomeAnd p (λ n. IsSafeAndTied opening.packages (shown_pair m []) (shown_pair n (history_of eid w.history))))
 
 safe_in_place : (opening w : WorldOf) (i eid : ℕ) (first : LinkOf) (o : Option LinkOf) → (k : Stand opening w) → AreSafeMessages (messages_of opening) k.messages
     → slice_get (eids_of opening) i ≡ Some eid → slice_get (map eid_of (messages_of opening).nodes) i ≡ Some eid → AreDifferent (map eid_of (messages_of opening).nodes)
@@ -79,9 +82,13 @@ safe_in_place opening w i eid first (Some last) k safe at there apart here is so
     node_placed (messages_of opening).nodes i eid (opening_node first) apart there (map_get opening_node (links_of opening) i first here) in
     let now : node_at k.messages.nodes eid ≡ Some p.node =
     node_placed k.messages.nodes i eid p.node k.stands.apart (ap (λ ks. slice_get ks i) (k.eids ∙ k.devices) ∙ at) p.at in
-    let given = subst (λ x. IfSome x (λ n. IsSomeAnd (node_at k.messages.nodes eid) (λ m. IsSafeAndTied opening.packages (run_of n []) (run_of m (history_of eid k.messages.history))))) was (safe eid) in
-    let known = subst (λ x. IsSomeAnd x (λ m. IsSafeAndTied opening.packages (run_of (opening_node first) []) (run_of m (history_of eid k.messages.history)))) now given in
-    safe_as k.messages.packages w.now first last p.node (history_of eid k.messages.history) (history_of eid w.history) p.stands (ap (history_of eid) (sym k.history)) opening.packages known
+    let before = history_of eid (messages_of opening).history in
+    let after = history_of eid k.messages.history in
+    let all = pairs_shown (λ n. shown_pair n.pair before) (λ m. shown_pair m.pair after) (node_at (messages_of opening).nodes eid) (node_at k.messages.nodes eid)
+    (IsSafeAndTied opening.packages) (safe eid) in
+    let given = subst (λ x. IfSome x (λ n. IsSomeAnd (node_at k.messages.nodes eid) (IsSafeNode opening.packages before n after))) was all in
+    let known = subst (λ x. IsSomeAnd x (IsSafeNode opening.packages before (opening_node first) after)) now given in
+    safe_as k.messages.packages w.now first last p.node before (history_of eid k.messages.history) (history_of eid w.history) p.stands (ap (history_of eid) (sym k.history)) opening.packages known
 
 safe_by : (opening w : WorldOf) (eid : ℕ) (o : Option LinkOf) → IsOpeningWorld opening → (begins : Stand opening opening) → (k : Stand opening w) → AreSafeMessages (messages_of opening) k.messages
     → link_at opening eid ≡ o → SafeAt opening w eid (option_map pair_of o) (option_map pair_of (link_at w eid))
@@ -95,11 +102,32 @@ safe_by opening w eid (Some first) is begins k safe e =
     (ap (λ ks. slice_get ks at.place) eids ∙ at.at) (subst AreDifferent (sym eids) begins.apart.1)
     (link_by_place opening at.place eid begins.halves begins.apart.1 at.at ∙ e) refl (link_there w at.place eid (known_links opening w k) there))
 
+-- what was shown of the history at the opening doesn't matter
+opened_by : (ps : List PackageText) (o p : Option PairOf) (b c es : List EntryOf) → IfSome o (λ m. IsSomeAnd p (λ n. IsSafeAndTied ps (shown_pair m b) (shown_pair n es)))
+    → IfSome o (λ m. IsSomeAnd p (λ n. IsSafeAndTied ps (shown_pair m c) (shown_pair n es)))
+opened_by ps None p b c es h = tt
+opened_by ps (Some m) None b c es h = h
+opened_by ps (Some m) (Some n) b c es h = record { safe = h.safe; tied = h.tied }
+
+-- The headline from the pairs, and the pairs from the headline.
+by_pairs : (opening w : WorldOf) → ((eid : ℕ) → SafeAt opening w eid (pair_for opening eid) (pair_for w eid)) → IsSafeWorld opening w
+by_pairs opening w h eid =
+    pairs_show (λ m. shown_pair m (history_of eid opening.history)) (λ m. shown_pair m (history_of eid w.history)) (pair_for opening eid) (pair_for w eid)
+    (IsSafeAndTied opening.packages)
+    (opened_by opening.packages (pair_for opening eid) (pair_for w eid) [] (history_of eid opening.history) (history_of eid w.history) (h eid))
+
+pub pairs_safe : PacketsAreSafe → (opening w : WorldOf) (steps : List Step) → IsOpeningWorld opening → Run opening steps w
+    → (eid : ℕ) → SafeAt opening w eid (pair_for opening eid) (pair_for w eid)
+pairs_safe law opening w steps opens run eid =
+    opened_by opening.packages (pair_for opening eid) (pair_for w eid) (history_of eid opening.history) [] (history_of eid w.history)
+    (pairs_shown (λ m. shown_pair m (history_of eid opening.history)) (λ m. shown_pair m (history_of eid w.history)) (pair_for opening eid) (pair_for w eid)
+    (IsSafeAndTied opening.packages) (law opening w steps opens run eid))
+
 is_safe : (opening w : WorldOf) → IsOpeningWorld opening → Stand opening opening → (k : Stand opening w) → AreSafeMessages (messages_of opening) k.messages → IsSafeWorld opening w
-is_safe opening w is begins k safe = λ eid.
+is_safe opening w is begins k safe = by_pairs opening w (λ eid.
     subst (λ o. SafeAt opening w eid o (pair_for w eid)) (sym (pair_linked _ (half_for opening.agent eid) (site_for opening.sites eid)))
     (subst (SafeAt opening w eid (option_map pair_of (link_at opening eid))) (sym (pair_linked _ (half_for w.agent eid) (site_for w.sites eid)))
-    (safe_by opening w eid (link_at opening eid) is begins k safe refl))
+    (safe_by opening w eid (link_at opening eid) is begins k safe refl)))
 
 -- Every world that steps reach from an opening world is safe.
 pub worlds_safe : LaneIsACell → LinksAreLanes → LinksAreMessages → MessagesAreSafe → PacketsAreSafe

@@ -16,7 +16,7 @@ use Rattle.fw_node.specs.Halves.{HalfOf}
 use Rattle.fw_node.specs.Nodes.{DeviceNodeOf, new_device_node}
 use Rattle.fw_package.specs.Package.{PackageText}
 use Rattle.ua_core.specs.Session.{TimedOf}
-use Rattle.fw_steps.specs.Headline.{AreDifferent, AreNewNodes, IsNewNode, IsOpeningWorld, new_site, new_world, unit_of}
+use Rattle.fw_steps.specs.Opening.{AreDifferent, AreNewNodes, IsNewNode, IsOpeningWorld, new_site, new_world, unit_of}
 use Rattle.fw_steps.specs.Links.{LinkOf}
 use Rattle.fw_message.specs.Worlds.{NodeOf}
 use Rattle.fw_steps.specs.Widths.{HasDeviceWidths, HavePackageWidths, HasPairWidths}

@@ -5,7 +5,7 @@ use Rattle.fw_package.specs.Package.{PackageText}
 use Rattle.fw_message.specs.Worlds.{NodeOf, NotedOf, noted_of}
 use Rattle.fw_message.specs.Worlds.{MessageWorldOf as MessageWorld}
 use Rattle.fw_steps.specs.Widths.{HaveMessageWidths}
-use Rattle.fw_steps.specs.Headline.{AreDifferent}
+use Rattle.fw_steps.specs.Opening.{AreDifferent}
 use Rattle.fw_steps.specs.LinksAreMessages.{LinksAreMessages}
 use Rattle.fw_steps.specs.Lanes.{LinkExplained}
 use Rattle.fw_steps.specs.LinksAreLanes.{LinkStepRoundTrips, LinksAreLanes, MayHappen}

@@ -13,7 +13,7 @@ use Rattle.fw_message.specs.declared.side.Side.TheVariants as sides
 use Rattle.fw_node.specs.Agents.{ready_for}
 use Rattle.fw_node.specs.Cores.{session_core}
 use Rattle.fw_node.specs.Halves.{half_restarts}
-use Rattle.fw_steps.specs.Headline.{StepsTo, may_step, world_after}
+use Rattle.fw_steps.specs.Steps.{StepsTo, may_step, world_after}
 use Rattle.fw_steps.specs.LinksAreMessages.{LinksAreMessages}
 use Rattle.fw_steps.specs.LinksAreLanes.{LinksAreLanes}
 use Rattle.fw_steps.specs.Links.{LinkOf, LinkStep, LinkStepped, link_after, link_ticks, time_after, link_step_without_entries}

@@ -3,14 +3,14 @@ use Rattle.std.proofs.Common.{◌≡◌, ◌∙◌, ◌++◌, ℕ, List, [], map
 use Rattle.std.specs.Option.{option_map}
 use Rattle.exch_lane.specs.Laws.{LaneIsACell}
 use Rattle.fw_package.specs.Package.{PackageText}
-use Rattle.fw_message.specs.History.{EntryOf, recorded_in, running_image, running_after}
-use Rattle.fw_message.specs.Laws.{IsSafeAndTied}
+use Rattle.fw_message.specs.Headline.{EntryOf, IsSafeAndTied, recorded_in, running_after, running_image}
 use Rattle.fw_message.specs.Pairs.{PairOf}
 use Rattle.fw_message.specs.WorldLaws.{history_of}
 use Rattle.fw_message.proofs.Moments.{recorded_on, running_on}
 use Rattle.fw_message.proofs.Safety.Worlds.{history_more}
 use Rattle.fw_node.specs.Agents.{half_for}
-use Rattle.fw_steps.specs.Headline.{PacketsAreSafe, RunsJoin, RunsStayTied, pair_run}
+use Rattle.fw_message.specs.Laws.{shown_pair}
+use Rattle.fw_steps.specs.Promises.{PacketsAreSafe, RunsJoin, RunsStayTied}
 use Rattle.fw_steps.specs.LinksAreMessages.{LinksAreMessages}
 use Rattle.fw_steps.specs.LinksAreLanes.{LinksAreLanes}
 use Rattle.fw_steps.specs.Links.{LinkOf}
@@ -19,14 +19,14 @@ use Rattle.fw_steps.specs.Worlds.{WorldOf, pair_for, site_for}
 use Rattle.fw_steps.proofs.LinksAreLanes.Projection.{link_at}
 use Rattle.fw_steps.proofs.Running.{run_append}
 use Rattle.fw_steps.proofs.PacketsAreSafe.Grown.{runs_grow}
-use Rattle.fw_steps.proofs.PacketsAreSafe.Safe.{pair_linked, pair_of, stand_along}
+use Rattle.fw_steps.proofs.PacketsAreSafe.Safe.{pair_linked, pair_of, pairs_safe, stand_along}
 use Rattle.fw_steps.proofs.PacketsAreSafe.SafeOpening.{opening_stands}
 use Rattle.fw_steps.proofs.PacketsAreSafe.SafeStands.{Stand, known_links, stays_absent}
 
 -- ONE DEVICE
 
-tied_from : (ps : List PackageText) (first m n : PairOf) (es more : List EntryOf) → IsSafeAndTied ps (pair_run first []) (pair_run m es)
-    → IsSafeAndTied ps (pair_run first []) (pair_run n (es ++ more)) → IsTiedFrom m n (es ++ more) more
+tied_from : (ps : List PackageText) (first m n : PairOf) (es more : List EntryOf) → IsSafeAndTied ps (shown_pair first []) (shown_pair m es)
+    → IsSafeAndTied ps (shown_pair first []) (shown_pair n (es ++ more)) → IsTiedFrom m n (es ++ more) more
 tied_from ps first m n es more g h = record {
   active = h.tied.active ∙ running_on (map running_image first.device.rows) es more ∙ ap (λ rs. running_after rs more) (sym g.tied.active);
   applied = h.tied.applied;
@@ -36,15 +36,15 @@ tied_from ps first m n es more g h = record {
 
 -- the same for the pair of an identifier
 tied_new : (ps : List PackageText) (first m : PairOf) (o : Option PairOf) (es more all : List EntryOf) → all ≡ es ++ more
-    → IsSafeAndTied ps (pair_run first []) (pair_run m es) → IsSomeAnd o (λ n. IsSafeAndTied ps (pair_run first []) (pair_run n all)) → IsSomeAnd o (λ n. IsTiedFrom m n all more)
+    → IsSafeAndTied ps (shown_pair first []) (shown_pair m es) → IsSomeAnd o (λ n. IsSafeAndTied ps (shown_pair first []) (shown_pair n all)) → IsSomeAnd o (λ n. IsTiedFrom m n all more)
 tied_new ps first m None es more all e g h = h
 tied_new ps first m (Some n) es more all e g h =
-    let now : IsSafeAndTied ps (pair_run first []) (pair_run n (es ++ more)) = subst (λ (xs : List EntryOf). IsSafeAndTied ps (pair_run first []) (pair_run n xs)) e h in
+    let now : IsSafeAndTied ps (shown_pair first []) (shown_pair n (es ++ more)) = subst (λ (xs : List EntryOf). IsSafeAndTied ps (shown_pair first []) (shown_pair n xs)) e h in
     subst (λ (xs : List EntryOf). IsTiedFrom m n xs more) (sym e) (tied_from ps first m n es more g now)
 
 tied_at : (ps : List PackageText) (f o p : Option PairOf) (es more all : List EntryOf) → all ≡ es ++ more → (f ≡ None → o ≡ None)
-    → IfSome f (λ first. IsSomeAnd o (λ m. IsSafeAndTied ps (pair_run first []) (pair_run m es)))
-    → IfSome f (λ first. IsSomeAnd p (λ n. IsSafeAndTied ps (pair_run first []) (pair_run n all)))
+    → IfSome f (λ first. IsSomeAnd o (λ m. IsSafeAndTied ps (shown_pair first []) (shown_pair m es)))
+    → IfSome f (λ first. IsSomeAnd p (λ n. IsSafeAndTied ps (shown_pair first []) (shown_pair n all)))
     → IfSome o (λ m. IsSomeAnd p (λ n. IsTiedFrom m n all more))
 tied_at ps f None p es more all e there g h = tt
 tied_at ps None (Some m) p es more all e there g h = absurd (let no : Some m ≡ None = there refl in cc)
@@ -74,5 +74,5 @@ runs_stay_tied law lanes messages safe opening old new before steps is to_old to
     ap (history_of eid) (runs_grow old new steps to_new) ∙ history_more eid old.history (entries_between old new) in
     tied_at opening.packages (pair_for opening eid) (pair_for old eid) (pair_for new eid) (history_of eid old.history) (history_of eid (entries_between old new)) (history_of eid new.history)
     all (absent_pair opening old eid begins k)
-    (safe opening old before is to_old eid)
-    (safe opening new (before ++ steps) is (run_append opening old new before steps to_old to_new) eid)
+    (pairs_safe safe opening old before is to_old eid)
+    (pairs_safe safe opening new (before ++ steps) is (run_append opening old new before steps to_old to_new) eid)

@@ -11,7 +11,7 @@ use Rattle.fw_message.specs.WorldLaws.{history_of}
 use Rattle.fw_node.specs.Agents.{AgentOf}
 use Rattle.fw_node.specs.Nodes.{DeviceNodeOf}
 use Rattle.fw_steps.specs.Alone.{AgentCall, DeviceCall, agent_after_calls, agent_step_calls, agent_step_packets, device_after_calls, device_step_calls, site_step_packets, is_for, pair_step_packets, step_date, device_step_packets}
-use Rattle.fw_steps.specs.Headline.{faults_before, may_step, world_after}
+use Rattle.fw_steps.specs.Steps.{faults_before, may_step, world_after}
 use Rattle.fw_steps.specs.BankCalls.{step_calls_bank}
 use Rattle.fw_steps.specs.Plays.{AgentProcess, CallsBank, DeviceProcess, PlayStep, agent_calls_of, agent_process_after_step, agent_process_after, agent_process_after_steps, device_calls_of, device_process_after_step, device_process_after, device_process_after_steps, pair_step_entries, unit_after_step}
 use Rattle.fw_steps.specs.Worlds.{SiteOf, WorldOf, eids_of, packets_of, sent_now, site_for}

@@ -8,7 +8,8 @@ use Rattle.fw_package.specs.Package.{PackageText}
 use Rattle.fw_node.specs.Agents.{AgentOf}
 use Rattle.fw_node.specs.Nodes.{DeviceNodeOf}
 use Rattle.fw_steps.specs.Alone.{is_for}
-use Rattle.fw_steps.specs.Headline.{AreDifferent, IsOpeningWorld, is_device, is_node, may_site_beat, may_step}
+use Rattle.fw_steps.specs.Opening.{AreDifferent, IsOpeningWorld}
+use Rattle.fw_steps.specs.Steps.{is_device, is_node, may_site_beat, may_step}
 use Rattle.fw_steps.specs.Plays.{AgentMayCall, CallsBank, DeviceMayCall, PlayStep, IsCarried, MayFollow, agent_calls_of, agent_process_after, device_calls_of, device_process_after}
 use Rattle.fw_steps.specs.Worlds.{SiteOf, WorldOf, eids_of, full_tick, packets_at, packets_of, site_for}
 use Rattle.fw_steps.specs.declared.step.Step.TheVariants as steps

@@ -2,16 +2,19 @@
 -- (`plays_are_runs`). So the headline holds for its processes (`plays_are_safe`).
 use Rattle.std.proofs.Common.{◌≡◌, ◌∙◌, ◌++◌, ℕ, List, [], ◌∷◌, Option, Some, None, IfSome, IsSomeAnd, refl, sym, ap, subst, arith, append_assoc, append-nil}
 use Rattle.fw_package.specs.Package.{PackageText}
-use Rattle.fw_message.specs.History.{EntryOf}
+use Rattle.fw_message.specs.Headline.{EntryOf}
 use Rattle.fw_message.specs.WorldLaws.{history_of}
 use Rattle.fw_message.specs.Worlds.{NotedOf}
 use Rattle.fw_node.specs.Agents.{AgentOf}
 use Rattle.fw_node.specs.Nodes.{DeviceNodeOf}
 use Rattle.fw_steps.specs.Alone.{AgentCall, DeviceCall, agent_run_calls, device_run_calls}
-use Rattle.fw_steps.specs.Headline.{IsOpeningWorld, StepsTo, PacketsAreSafe, Run, world_after}
+use Rattle.fw_steps.specs.Opening.{IsOpeningWorld}
+use Rattle.fw_steps.specs.Promises.{PacketsAreSafe}
+use Rattle.fw_steps.specs.Steps.{StepsTo, Run, world_after}
 use Rattle.fw_steps.specs.Plays.{AgentProcess, EachMayFollow, DeviceProcess, PlayStep, PlaysAreRuns, PlaysAreSafe, agent_calls_of, agent_process_after_step, agent_play_calls, agent_process_after, device_calls_of, device_process_after_step, device_play_calls, device_process_after, pair_play_entries, pair_step_entries}
 use Rattle.fw_steps.specs.Worlds.{SiteOf, WorldOf, pair_for, site_for}
 use Rattle.fw_steps.specs.declared.step.Step.{Step}
+use Rattle.fw_steps.proofs.PacketsAreSafe.Safe.{pairs_safe}
 use Rattle.fw_steps.proofs.LinksAreLanes.Keys.{eids_stay}
 use Rattle.fw_steps.proofs.PacketsAreSafe.SafeSteps.{time_goes}
 use Rattle.fw_steps.proofs.ProcessesAreSafe.{at_pair}
@@ -113,5 +116,5 @@ plays_are_safe safe opening play opens may =
     let r = plays_are_runs opening play opens may in (
       r,
       λ eid. at_pair opening r.world eid (agent_process_after opening play).node (λ (x : SiteOf). (device_process_after eid x.node play).node) (pair_for opening eid) r.agent (r.devices eid)
-          (safe opening r.world r.steps opens r.run eid),
+          (pairs_safe safe opening r.world r.steps opens r.run eid),
     )

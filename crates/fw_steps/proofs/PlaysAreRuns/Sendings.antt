@@ -5,7 +5,7 @@ use Rattle.std.proofs.lemmas.Bool.{le-ltb}
 use Rattle.exch_lane.specs.Lanes.{Sent, lives_until, item_numbered}
 use Rattle.exch_lane.specs.Steps.{sent_at}
 use Rattle.fw_steps.specs.Alone.{is_for}
-use Rattle.fw_steps.specs.Headline.{packet_fault}
+use Rattle.fw_steps.specs.Steps.{packet_fault}
 use Rattle.fw_steps.specs.Worlds.{sent_now}
 use Rattle.fw_steps.proofs.LinksAreLanes.Sorted.{numbered_at}
 

@@ -1,6 +1,6 @@
 -- Two worlds with the same endpoint identifiers have the same devices.
 use Rattle.std.proofs.Common.{◌≡◌, ◌≢◌, ◌∙◌, ◌==◌, ℕ, Bool, true, false, if◌then◌else◌, is_some, List, [], ◌∷◌, Option, Some, refl, sym, ap}
-use Rattle.fw_steps.specs.Headline.{AreDifferent}
+use Rattle.fw_steps.specs.Opening.{AreDifferent}
 use Rattle.fw_steps.specs.Worlds.{SiteOf, WorldOf, eids_of, site_for}
 use Rattle.fw_steps.proofs.Leading.{differs}
 use Rattle.fw_steps.proofs.LinksAreLanes.Comings.{fact_at}

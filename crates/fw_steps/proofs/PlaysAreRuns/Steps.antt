@@ -7,13 +7,13 @@ use Rattle.fd_core.specs.declared.states.Verdict.TheVariants as verdicts
 use Rattle.fd_core.specs.declared.states.Progress.TheVariants as progress
 use Rattle.fd_core.specs.States.{DeviceState, Phase}
 use Rattle.fd_core.specs.Steps.{verdict_at}
-use Rattle.fw_message.specs.History.{EntryOf}
+use Rattle.fw_message.specs.Headline.{EntryOf}
 use Rattle.fw_message.specs.WorldLaws.{history_of}
 use Rattle.fw_node.specs.BankCalls.{packet_calls_bank}
 use Rattle.fw_node.specs.Cores.{device_core}
 use Rattle.fw_steps.specs.Alone.{DeviceCall, agent_step_calls, device_step_calls, step_date}
 use Rattle.fw_steps.specs.BankCalls.{judgement_calls_bank, step_calls_bank}
-use Rattle.fw_steps.specs.Headline.{faults_before, faults_of, may_step, verdict_fault}
+use Rattle.fw_steps.specs.Steps.{faults_before, faults_of, may_step, verdict_fault}
 use Rattle.fw_steps.specs.Plays.{CallsBank, DeviceMayCall, PlayStep, agent_calls_of, device_calls_of, pair_step_entries, unit_after_step}
 use Rattle.fw_steps.specs.Worlds.{SiteOf, WorldOf, full_tick, site_for}
 use Rattle.fw_steps.specs.declared.step.Step.{Step}

@@ -3,7 +3,7 @@ use Rattle.fd_core.specs.Components.{HasComponents}
 use Rattle.fd_core.specs.States.{DeviceOf}
 use Rattle.fw_node.specs.Nodes.{new_device_node}
 use Rattle.fw_script.specs.Seen.{device_of}
-use Rattle.fw_steps.specs.Headline.{IsNewNode}
+use Rattle.fw_steps.specs.Opening.{IsNewNode}
 use Rattle.fw_setup.proofs.Making.{new_made}
 use Rattle.fw_setup.proofs.nodes.node.Goals as goal
 

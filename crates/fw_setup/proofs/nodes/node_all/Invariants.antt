@@ -3,7 +3,7 @@ use Rattle.std.specs.List.{AllByRecursion}
 use Rattle.fw_script.specs.Seen.{device_of}
 use Rattle.fw_script.specs.Whole.{IsDevice}
 use Rattle.fw_setup.specs.Nodes.{nodes_made}
-use Rattle.fw_steps.specs.Headline.{IsNewNode}
+use Rattle.fw_steps.specs.Opening.{IsNewNode}
 use Rattle.fw_setup.proofs.nodes.node_all.Given as goal
 
 -- the nodes of the devices that were passed

@@ -1,7 +1,7 @@
 use Rattle.std.proofs.Common.{◌≡◌, ◌+◌, ◌++◌, ◌≤◌, length, map}
 use Rattle.std.specs.Prelude.{vec_capacity, vec_len}
 use Rattle.fw_message.specs.Entries.{entry_of, keyed_image_of}
-use Rattle.fw_message.specs.History.{EntryOf}
+use Rattle.fw_message.specs.Headline.{EntryOf}
 use Rattle.fw_message.specs.Worlds.{noted_of}
 use Rattle.fw_steps.proofs.site.note_activated.Given as goal
 

@@ -1,6 +1,6 @@
 use Rattle.std.proofs.Common.{◌∙◌, ap, get_or}
 use Rattle.std.proofs.lemmas.List.{map-set}
-use Rattle.fw_steps.specs.Headline.{verdict_fault}
+use Rattle.fw_steps.specs.Steps.{verdict_fault}
 use Rattle.fw_steps.proofs.Places.{found_at, same_put}
 use Rattle.fw_steps.proofs.sites.judge_at.Goals as goal
 

@@ -1,6 +1,6 @@
 use Rattle.std.proofs.Common.{◌≡◌, drop}
 use Rattle.std.specs.List.{list_all}
-use Rattle.fw_steps.specs.Headline.{may_site_beat}
+use Rattle.fw_steps.specs.Steps.{may_site_beat}
 use Rattle.fw_steps.specs.Sites.{sites_of}
 use Rattle.fw_steps.proofs.sites.may_all_beat.Given as goal
 

@@ -1,7 +1,7 @@
 use Rattle.std.proofs.Common.{◌≡◌, ◌++◌, length, map}
 use Rattle.std.specs.List.{AllByRecursion}
 use Rattle.fd_core.specs.Components.{HasComponents}
-use Rattle.fw_steps.specs.Headline.{new_site}
+use Rattle.fw_steps.specs.Opening.{new_site}
 use Rattle.fw_steps.specs.Sites.{sites_of}
 use Rattle.fw_steps.proofs.sites.new_sites.Given as goal
 

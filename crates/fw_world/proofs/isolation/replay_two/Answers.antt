@@ -1,4 +1,4 @@
-use Rattle.fw_steps.specs.Headline.{Run}
+use Rattle.fw_steps.specs.Steps.{Run}
 use Rattle.fw_world.proofs.Taken.{all_taken}
 use Rattle.fw_world.proofs.isolation.replay_two.Goals as goal
 

@@ -1,5 +1,5 @@
 use Rattle.std.proofs.Common.{subst, take}
-use Rattle.fw_steps.specs.Headline.{StepsTo}
+use Rattle.fw_steps.specs.Steps.{StepsTo}
 use Rattle.fw_world.proofs.Taken.{run_next}
 use Rattle.fw_world.proofs.replays.take_all.Goals as goal
 

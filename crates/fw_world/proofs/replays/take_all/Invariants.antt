@@ -1,5 +1,5 @@
 use Rattle.std.proofs.Common.{take}
-use Rattle.fw_steps.specs.Headline.{Run}
+use Rattle.fw_steps.specs.Steps.{Run}
 use Rattle.fw_world.proofs.replays.take_all.Given as goal
 
 -- the steps so far are taken

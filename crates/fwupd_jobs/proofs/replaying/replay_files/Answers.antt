@@ -2,7 +2,7 @@ use Rattle.std.proofs.Common.{arith, ap, length, map, refl, subst, sym, ◌∙�
 use Rattle.std.specs.Prelude.{option_map, string_bytes}
 use Rattle.fw_script.specs.ScheduleLines.{all_steps}
 use Rattle.fw_script.specs.Seen.{config_seen, device_of}
-use Rattle.fw_steps.specs.Headline.{new_world}
+use Rattle.fw_steps.specs.Opening.{new_world}
 use Rattle.fw_setup.specs.Nodes.{nodes_made}
 use Rattle.fw_setup.specs.Stocks.{stores_in}
 use Rattle.fwupd_watch.specs.Running.{show_of}

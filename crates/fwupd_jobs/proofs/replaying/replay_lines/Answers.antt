@@ -1,6 +1,6 @@
 use Rattle.std.proofs.Common.{◌≡◌, ◌∙◌, ◌∷◌, add-one, arith, drop, subst}
 use Rattle.fw_script.specs.ScheduleLines.{all_steps, step_of_next}
-use Rattle.fw_steps.specs.Headline.{StepsTo, Run}
+use Rattle.fw_steps.specs.Steps.{StepsTo, Run}
 use Rattle.fw_steps.specs.Replays.{RefusesStep}
 use Rattle.fwupd_jobs.proofs.Seen.{next_step, none_left, rises_to, stepped_on, stopped_at}
 use Rattle.fwupd_jobs.proofs.replaying.replay_lines.Goals as goal

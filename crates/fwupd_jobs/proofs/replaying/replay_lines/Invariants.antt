@@ -1,6 +1,6 @@
 use Rattle.std.proofs.Common.{◌≡◌, ◌≤◌, drop, length, take, true}
 use Rattle.fw_script.specs.ScheduleLines.{all_steps}
-use Rattle.fw_steps.specs.Headline.{Run}
+use Rattle.fw_steps.specs.Steps.{Run}
 use Rattle.fwupd_jobs.proofs.replaying.replay_lines.Given as goal
 
 -- the steps before the place are taken, and observed if that is requested; the others remain

@@ -1,7 +1,7 @@
 use Rattle.std.proofs.Common.{◌≡◌, ◌∙◌, map, subst, sym}
 use Rattle.fw_script.specs.ScheduleLines.{all_steps}
 use Rattle.fw_script.specs.Seen.{device_of}
-use Rattle.fw_steps.specs.Headline.{new_world}
+use Rattle.fw_steps.specs.Opening.{new_world}
 use Rattle.fw_setup.specs.Nodes.{nodes_made}
 use Rattle.fwupd_jobs.specs.Replayed.{LeavesWorld, taken_of}
 use Rattle.fwupd_jobs.proofs.Told.{replayed_by}
@@ -12,7 +12,7 @@ pub returns-clause-replayed : goal.returns-clause-replayed
 returns-clause-replayed g c =
     replayed_by (new_world c.args.agent (nodes_made c.args.unit c.args.agent.eid (map device_of c.args.devices.items)) c.args.packages.now) c.in_ok-world.world c.replay_lines.new.world (all_steps c.args.lines.now)
     c.match-replay_lines.fault c.args.show.form c.in_ok-report.report.items c.in_ok-world.ensures.made c.in_ok-world.ensures.opens
-    (record { safe = c.packets_are_safe.ensures.law; grow = c.moments_are_tied.ensures.grow; tied = c.moments_are_tied.ensures.tied; time = c.clocks_keep_time.ensures.law })
+    (record { promised = c.runs_are_promised.ensures.law; tied = c.moments_are_tied.ensures.tied; time = c.clocks_keep_time.ensures.law })
     (elim c.match-replay_lines.branch [
       | in-Ok h ↦ subst (λ f. LeavesWorld c.in_ok-world.world (all_steps c.args.lines.now) f c.replay_lines.new.world) (sym h.fault-is) h.in-Ok.ensures.ok
       | in-Err h ↦ subst (λ f. LeavesWorld c.in_ok-world.world (all_steps c.args.lines.now) f c.replay_lines.new.world) (sym h.fault-is) h.in-Err.ensures.stopped

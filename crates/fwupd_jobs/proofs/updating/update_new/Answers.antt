@@ -26,7 +26,7 @@ returns-in-Ok-update_over-clause-ok g c source named path same = record {
   shown = c.update_over.ensures.same ∙ c.in-Ok.ensures.shows;
   left = c.update_over.new.world;
   updated = c.in-Ok-update_over.ensures.updated;
-  promised = safe_reached c.args.order.number c.args.world.now c.update_over.new.world c.packets_are_safe.ensures.law c.requires c.update_over.ensures.reached;
+  promised = safe_reached c.args.order.number c.args.world.now c.update_over.new.world c.runs_are_promised.ensures.law c.requires c.update_over.ensures.reached;
   seen = c.in-Ok-update_over.ensures.seen;
   turns = c.in-Ok-update_over.ensures.turns c.in-Ok.ensures.anew.0;
   none_lost = c.in-Ok-update_over.ensures.none_lost ∙ c.in-Ok.ensures.anew.1;
@@ -46,8 +46,7 @@ returns-in-Err-update_over-clause-fault g c source named path same =
     (watched_by (g.F.Files.holds c.args.files.now) source c.args.order.number (show_of c.args.show) c.args.world.now named c.args.config.now (map (λ p. string_bytes p) c.args.packages.now) path same
     c.in-Ok.ensures.apart)
     (c.update_over.ensures.same ∙ c.in-Ok.ensures.shows)
-    c.update_over.ensures.reached
-    (safe_reached c.args.order.number c.args.world.now c.update_over.new.world c.packets_are_safe.ensures.law c.requires c.update_over.ensures.reached)
+    (safe_reached c.args.order.number c.args.world.now c.update_over.new.world c.runs_are_promised.ensures.law c.requires c.update_over.ensures.reached)
     (c.update_over.ensures.sees c.in-Ok.ensures.anew.0)
     c.in-Err-update_over.ensures.lost
     (λ broken none. c.in-Err-update_over.ensures.recorded_still broken none c.in-Ok.ensures.recording)

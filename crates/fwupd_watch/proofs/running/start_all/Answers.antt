@@ -1,5 +1,5 @@
 use Rattle.std.proofs.Common.{◌≡◌, arith, inr, rules, subst, sym}
-use Rattle.fw_steps.specs.Headline.{Run}
+use Rattle.fw_steps.specs.Steps.{Run}
 use Rattle.fw_steps.specs.Replays.{RefusesStep}
 use Rattle.fw_steps.specs.declared.step.Step.TheVariants as steps
 use Rattle.fw_steps.specs.declared.step.StepFault.TheVariants as stops

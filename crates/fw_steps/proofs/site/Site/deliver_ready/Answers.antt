@@ -1,7 +1,7 @@
 use Rattle.std.proofs.Common.{◌∙◌, ◌++◌, map, ap, subst, sym}
 use Rattle.fd_core.specs.Images.{applied_keyed_images}
 use Rattle.fw_message.specs.Entries.{entry_of, keyed_image_of}
-use Rattle.fw_message.specs.History.{EntryOf}
+use Rattle.fw_message.specs.Headline.{EntryOf}
 use Rattle.fw_message.specs.Worlds.{noted_of}
 use Rattle.fw_steps.specs.Sites.{NotesPacketAtSite}
 use Rattle.fw_steps.proofs.Noting.{activation_noted, nothing_active, still_ready}

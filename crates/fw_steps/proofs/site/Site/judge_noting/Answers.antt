@@ -3,7 +3,7 @@ use Rattle.std.specs.Vec.{vec_capacity}
 use Rattle.fd_core.specs.Components.{HasComponents}
 use Rattle.fd_core.specs.States.{IsWhole, staged_of}
 use Rattle.fw_message.specs.Entries.{entry_of, keyed_image_of}
-use Rattle.fw_message.specs.History.{EntryOf}
+use Rattle.fw_message.specs.Headline.{EntryOf}
 use Rattle.fw_message.specs.Worlds.{noted_of}
 use Rattle.fw_steps.proofs.Judging.{application_noted, failure_noted}
 use Rattle.fw_steps.proofs.site.Site.judge_noting.Goals as goal

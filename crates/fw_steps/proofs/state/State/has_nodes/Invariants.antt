@@ -1,6 +1,6 @@
 use Rattle.std.proofs.Common.{◌≡◌, drop}
 use Rattle.std.specs.List.{list_all}
-use Rattle.fw_steps.specs.Headline.{is_node}
+use Rattle.fw_steps.specs.Steps.{is_node}
 use Rattle.fw_steps.proofs.state.State.has_nodes.Given as goal
 
 -- the result is that of the identifiers that are left

@@ -1,7 +1,7 @@
 use Rattle.std.proofs.Common.{◌<◌, ◌≡◌, ◌∙◌, ap, arith, sym, true}
 use Rattle.std.proofs.lemmas.Bool.{lt-ltb}
 use Rattle.std.specs.List.{list_all}
-use Rattle.fw_steps.specs.Headline.{is_node, may_all_beat}
+use Rattle.fw_steps.specs.Steps.{is_node, may_all_beat}
 use Rattle.fw_steps.specs.Worlds.{world_after_tick}
 use Rattle.fw_steps.proofs.Leading.{tick_goes, tick_leads}
 use Rattle.fw_steps.proofs.state.State.tick.Goals as goal

@@ -1,5 +1,26 @@
--- The history of a device, and the laws of it: each image that it activates is the one that a
--- package names for it, and each component that the agent records as applied was applied by it.
+-- THE HEADLINE: what is promised of the images that devices activate and of the components that an
+-- agent records as applied. It is `HeadlineHolds`, at the end. It relates what a world shows at its
+-- opening to what it shows at any later moment: its packages, and of each device the descriptors,
+-- the components with their images, the agent's records and the history. The law `PacketsAreSafe`
+-- (`fw_steps`, `Promises`) says that it holds in every world that steps lead to. `Opening` and
+-- `Steps` of that crate say which worlds are openings, and which steps there are.
+--
+-- Assumed, and not proved:
+-- - Storage: a device's storage keeps the contract of `Bank` (`fd_core`); a call of it may fail if
+--   its count of failures says so. What runs, the records and the packages survive a restart.
+-- - Network: it delivers a packet unaltered within 8 units of time, or not at all: several times,
+--   in any order and to any node.
+-- - Senders: only the agent and its devices send.
+-- - Time: each of them counts at least eight of nine units of time as its ticks.
+--
+-- With this page it rests on 59 definitions, 188 lines in 7 files. To be read first, in this order,
+-- with the lines that it needs of each:
+-- 1. `crates/fw_package/specs/Package.antt`, 23 lines: `PackageText`, an update package.
+-- 2. `crates/fw_package/specs/Choice.antt`, 28 lines: `image_for`, the image that it names.
+-- 3. `crates/fwup_wire/src/values.rt`, 4 lines: `Key`, which names a component of a device.
+-- 4. `crates/fd_core/specs/Images.antt`, 16 lines: `RowOf`, a component's two images.
+-- 5. `crates/ua_core/src/planned.rt`, 4 lines: `Recorded`, a record of the agent.
+-- 6. `crates/ua_core/specs/Lent.antt`, 7 lines: `package_at`, the package with a number.
 use Rattle.std.specs.Prelude.{ℕ, ◌≡◌, ◌≤◌, ◌⊎◌, ◌+◌, ◌&&◌, Bool, nat_eq, if◌then◌else◌, List, [], ◌∷◌, ◌++◌, map, take, All, Contains, Option, Some, None, IfSome, IsSomeAnd}
 use Rattle.std.specs.Cmp.Lexicographic.{pointwise}
 use Rattle.fw_package.specs.Choice.{component_at, image_for, record_at, record_number}
@@ -9,14 +30,31 @@ use Rattle.fd_core.specs.Images.{KeyedImage, RowOf, same_key}
 use Rattle.ua_core.specs.Lent.{key_of, package_at}
 use Rattle.ua_core.specs.declared.planned.Recorded.{Recorded}
 
--- An entry: the device applies an image for a component, the agent records a component of a package
--- as applied, or the device activates an image.
+-- WHAT A WORLD SHOWS
+
+-- An entry of a history: the device applies an image for a component, the agent records a component
+-- of a package as applied, or the device activates an image.
 pub data EntryOf : Type 0 where
   Applied : (p : KeyedImage) → EntryOf
   Recording : (r : Recorded) → EntryOf
   Activated : (p : KeyedImage) → EntryOf
 
--- One activation: its images, and the records since the previous activation.
+-- A device: its descriptors, its components with the image that runs and the one that is applied,
+-- the agent's records of it, and the entries of its history.
+pub record ShownDevice : Type 0 where
+  pub descriptors : List DescriptorOf
+  pub components : List RowOf
+  pub records : List Recorded
+  pub entries : List EntryOf
+
+-- A world: its packages, and its devices by their endpoint identifiers.
+pub record Shown : Type 0 where
+  pub packages : List PackageText
+  pub device : ℕ → Option ShownDevice
+
+-- THE ACTIVATIONS OF A HISTORY
+
+-- One activation: its images, and the records between the previous activated image and its first.
 pub record ActivationOf : Type 0 where
   pub before : List Recorded
   pub images : List KeyedImage
@@ -52,9 +90,12 @@ read_along r (e ∷ es) = read_along (read_entry r e) es
 abbrev pub activations_read : Reading → List ActivationOf
 activations_read r = and_current r.ended r.current
 
--- The activations of a device: its longest sequences of activated images without an application.
+-- The activations of a device: the longest runs of activated images between which nothing is
+-- applied.
 abbrev pub activations : List EntryOf → List ActivationOf
 activations es = activations_read (read_along nothing_read es)
+
+-- A SAFE HISTORY
 
 -- the record is of a component of this package, with this key
 abbrev pub IsRecording : List PackageText → ℕ → Key → Recorded → Type 0
@@ -123,6 +164,8 @@ pub record IsSafe (packages : List PackageText) (device : List DescriptorOf) (es
   pub named : All (IsNamedComponent packages device) (recorded_in es)
   pub applied : (n : ℕ) (key : Key) (bytes : List ℕ) → recorded_count packages key bytes (take n es) ≤ applied_count key bytes (take n es)
 
+-- A TIED HISTORY
+
 -- the image that runs
 abbrev pub running_image : RowOf → KeyedImage
 running_image row = record { key = row.key; bytes = row.active.bytes }
@@ -155,3 +198,17 @@ pub record IsTied (first rows : List RowOf) (made : List Recorded) (es : List En
   pub active : map running_image rows ≡ running_after (map running_image first) es
   pub applied : All (WasApplied es) rows
   pub records : made ≡ recorded_in es
+
+-- THE SENTENCE
+
+-- A device at a later moment, and at the opening: its history is safe, and tied with the components
+-- of then and now and with the agent's records.
+pub record IsSafeAndTied (packages : List PackageText) (first later : ShownDevice) : Type 0 where
+  pub safe : IsSafe packages first.descriptors later.entries
+  pub tied : IsTied first.components later.components later.records later.entries
+
+-- The headline: each device that the opening shows is shown still, with a history that is safe and
+-- tied.
+abbrev pub HeadlineHolds : (opening later : Shown) → Type 0
+HeadlineHolds opening later = (eid : ℕ) → IfSome (opening.device eid)
+    (λ first. IsSomeAnd (later.device eid) (IsSafeAndTied opening.packages first))
