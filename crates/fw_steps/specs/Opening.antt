@@ -2,8 +2,8 @@
 -- devices and of the agent are new, no packet was sent, and the history is empty. What the devices
 -- and packages hold fits the fields of messages (`Widths`), which `World::new` finds by itself.
 --
--- With this page it rests on 102 definitions, 435 lines in 39 files. To be read first, in this
--- order, with the lines that it needs of each:
+-- This page included, it rests on 102 definitions, 435 lines in 39 files. To be read first, in
+-- this order, with the lines that it needs of each:
 -- 1. `crates/fw_steps/specs/Worlds.antt`, 12 lines: `WorldOf`, a world, and `SiteOf`, a device's
 --    node with the packets between it and the agent.
 -- 2. `crates/fd_core/specs/States.antt`, 30 lines: `DeviceOf`, a device, and `Phase`, its phase in

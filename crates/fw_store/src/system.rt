@@ -10,8 +10,9 @@ use std::io::{self, ErrorKind, Read, Write};
 /// The files of one folder of the system; their content isn't known to the proofs.
 ///
 /// A file is written from its start and its bytes are synced to the disk before the call ends. A
-/// file is renamed by the system's `rename`, which replaces the other file at once; then the folder
-/// is synced. If only that sync fails, the call ends with `Unsure`.
+/// file is renamed by the system's `rename`, which replaces the other file at once. The folder is
+/// synced before and after: before, so that all files written are on the disk under their names; if
+/// only the sync after fails, the call ends with `Unsure`.
 #[derive(Drop)]
 pub struct SystemFolder<'a> {
     rt: &'a HostRuntime,
@@ -125,7 +126,8 @@ impl<'a> Folder for SystemFolder<'a> {
         let (Ok(name), Ok(place)) = (self.path_of(name), self.path_of(place)) else {
             return Err(RenameFault::Unchanged);
         };
-        if fs::rename(self.rt, name.as_str(), place.as_str()).is_err() {
+        // The files that this one names have their names on the disk before it has its own.
+        if self.sync().is_err() || fs::rename(self.rt, name.as_str(), place.as_str()).is_err() {
             return Err(RenameFault::Unchanged);
         }
         match self.sync() {
