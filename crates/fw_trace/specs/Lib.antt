@@ -11,3 +11,4 @@ pub mod Names
 pub mod Pieces
 pub mod Records
 pub mod Sent
+pub mod Tables

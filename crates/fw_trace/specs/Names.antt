@@ -5,6 +5,8 @@ use Rattle.mctp_ctl.specs.declared.codes.ControlCommand.{ControlCommand}
 use Rattle.mctp_ctl.specs.declared.codes.ControlCommand.TheVariants as controls
 use Rattle.mctp_reasm.specs.declared.outcomes.DropCause.{DropCause}
 use Rattle.mctp_reasm.specs.declared.outcomes.DropCause.TheVariants as causes
+use Rattle.fw_trace.specs.declared.names.CodeTable.{CodeTable}
+use Rattle.fw_trace.specs.declared.names.CodeTable.TheVariants as tables
 use Rattle.fw_trace.specs.Pieces.{in_two}
 
 -- the commands of PLDM type 5 (DSP0267 1.0, "PLDM for firmware update command codes")
@@ -85,6 +87,12 @@ control_code code =
     else if code == 0x04 then Some (codes "ERROR_NOT_READY")
     else if code == 0x05 then Some (codes "ERROR_UNSUPPORTED_CMD")
     else None
+
+-- the completion codes of a kind of messages
+abbrev pub code_name : CodeTable → ℕ → Option (List ℕ)
+code_name tables.Control code = control_code code
+code_name tables.Base code = base_code code
+code_name tables.Shared code = shared_code code
 
 -- the name of a number, or its two digits if it has none
 abbrev pub name_or_digits : Option (List ℕ) → ℕ → List ℕ

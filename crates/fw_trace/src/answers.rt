@@ -1,13 +1,10 @@
 //! The answers of firmware update (DSP0267 1.0): the command, the completion code, and the fields
 //! after it. Each function's only error is `AllocError`.
 
-ghost use Rattle.std.specs.Prelude.{OnOk, ◌++◌};
-ghost use Rattle.std.specs.List.{flat_map};
+ghost use Rattle.std.specs.Prelude.{OnOk};
 ghost use Rattle.fw_text.specs.Printing.{AppendsText};
-ghost use Rattle.fwup_wire.specs.Answers.{answer_read};
 ghost use Rattle.fwup_wire.specs.Lent.{answer_of, device_descriptor_of, parameters_of, version_of};
-ghost use Rattle.fw_trace.specs.Answers.{answer_fields, answer_fields_read, code_and_fields, components_fields, descriptor_fields, descriptors_fields, offer_response_fields, parameters_fields, pending_fields, status_fields, table_fields, update_answer, version_fields};
-ghost use Rattle.fw_trace.specs.Names.{name_or_digits, update_code};
+ghost use Rattle.fw_trace.specs.Answers.{answer_fields, code_and_fields, components_fields, descriptor_fields, descriptors_fields, offer_response_fields, parameters_fields, pending_fields, status_fields, table_fields, update_answer, version_fields};
 
 use crate::commands::push_component;
 use crate::names::{update_code, update_command};
@@ -22,6 +19,7 @@ use fwup_wire::{
 use std::alloc::{AllocError, Global};
 
 /// Appends a descriptor's type and data.
+#[tactic(auto, unfolding(crate::specs::Answers::descriptor_fields))]
 fn push_descriptor(
     alloc: Global,
     text: &mut Vec<u8>,
@@ -34,22 +32,8 @@ fn push_descriptor(
     Ok(())
 }
 
-/// Appends each descriptor.
-#[tactic(auto, using(fw_text::proofs::Chains::telling))]
-fn push_each_descriptor(
-    alloc: Global,
-    text: &mut Vec<u8>,
-    descriptors: DeviceDescriptors<'_>,
-) -> Result<(), AllocError>
-    ensures { OnOk result (AppendsText text.old.items text.new.items (flat_map descriptor_fields descriptors.entry)) }
-{
-    for descriptor in descriptors {
-        push_descriptor(alloc, text, descriptor)?;
-    }
-    Ok(())
-}
-
 /// Appends the fields of QueryDeviceIdentifiers' answer.
+#[tactic(auto, using(fw_text::proofs::Chains::telling), unfolding(crate::specs::Answers::descriptors_fields))]
 fn push_descriptors(
     alloc: Global,
     text: &mut Vec<u8>,
@@ -58,11 +42,14 @@ fn push_descriptors(
     ensures { OnOk result (AppendsText text.old.items text.new.items (descriptors_fields descriptors.now)) }
 {
     push_number(alloc, text, " descriptors ", descriptors.len())?;
-    push_each_descriptor(alloc, text, descriptors.iter())?;
+    for descriptor in descriptors.iter() {
+        push_descriptor(alloc, text, descriptor)?;
+    }
     Ok(())
 }
 
 /// Appends a word and an image's version: its comparison stamp and its text.
+#[tactic(auto, unfolding(crate::specs::Answers::version_fields))]
 fn push_version(
     alloc: Global,
     text: &mut Vec<u8>,
@@ -87,6 +74,7 @@ fn push_pending(alloc: Global, text: &mut Vec<u8>, version: &Version<'_>) -> Res
 }
 
 /// Appends the parameters that a device reports for a component.
+#[tactic(auto, unfolding(crate::specs::Answers::parameters_fields))]
 fn push_parameters(
     alloc: Global,
     text: &mut Vec<u8>,
@@ -100,22 +88,8 @@ fn push_parameters(
     Ok(())
 }
 
-/// Appends each component.
-#[tactic(auto, using(fw_text::proofs::Chains::telling))]
-fn push_each_component(
-    alloc: Global,
-    text: &mut Vec<u8>,
-    components: Parameters<'_>,
-) -> Result<(), AllocError>
-    ensures { OnOk result (AppendsText text.old.items text.new.items (flat_map parameters_fields components.entry)) }
-{
-    for parameters in components {
-        push_parameters(alloc, text, parameters)?;
-    }
-    Ok(())
-}
-
 /// Appends the fields of GetFirmwareParameters' answer.
+#[tactic(auto, using(fw_text::proofs::Chains::telling), unfolding(crate::specs::Answers::components_fields))]
 fn push_components(
     alloc: Global,
     text: &mut Vec<u8>,
@@ -124,11 +98,14 @@ fn push_components(
     ensures { OnOk result (AppendsText text.old.items text.new.items (components_fields components.now)) }
 {
     push_number(alloc, text, " components ", components.len())?;
-    push_each_component(alloc, text, components.iter())?;
+    for parameters in components.iter() {
+        push_parameters(alloc, text, parameters)?;
+    }
     Ok(())
 }
 
 /// Appends the fields of PassComponentTable's answer.
+#[tactic(auto, unfolding(crate::specs::Answers::table_fields))]
 fn push_table(alloc: Global, text: &mut Vec<u8>, response: TableResponse) -> Result<(), AllocError>
     ensures { OnOk result (AppendsText text.old.items text.new.items (table_fields response)) }
 {
@@ -153,6 +130,7 @@ fn push_offer_response(
 }
 
 /// Appends the fields of GetStatus's answer.
+#[tactic(auto, unfolding(crate::specs::Answers::status_fields))]
 fn push_status(alloc: Global, text: &mut Vec<u8>, status: Status) -> Result<(), AllocError>
     ensures { OnOk result (AppendsText text.old.items text.new.items (status_fields status)) }
 {
@@ -188,42 +166,7 @@ fn push_answer(alloc: Global, text: &mut Vec<u8>, answer: &Answer<'_>) -> Result
     }
 }
 
-/// Appends the fields of an answer after its code, or their digits if the answer can't be decoded.
-fn push_fields(
-    alloc: Global,
-    text: &mut Vec<u8>,
-    command: u8,
-    answer: &[u8],
-    fields: &[u8],
-) -> Result<(), AllocError>
-    ensures { OnOk result (AppendsText text.old.items text.new.items
-        (answer_fields_read (answer_read command answer.now) fields.now)) }
-{
-    match fwup_wire::read_answer(command, answer) {
-        Ok(answer) => push_answer(alloc, text, &answer),
-        Err(_) => push_rest(alloc, text, fields),
-    }
-}
-
-/// Appends a completion code and the fields after it.
-fn push_coded(
-    alloc: Global,
-    text: &mut Vec<u8>,
-    command: u8,
-    code: u8,
-    answer: &[u8],
-    fields: &[u8],
-) -> Result<(), AllocError>
-    ensures { OnOk result (AppendsText text.old.items text.new.items
-        (name_or_digits (update_code code) code
-        ++ answer_fields_read (answer_read command answer.now) fields.now)) }
-{
-    push_name(alloc, text, update_code(code), code)?;
-    push_fields(alloc, text, command, answer, fields)?;
-    Ok(())
-}
-
-/// Appends an answer's code and fields.
+/// Appends an answer's code and fields, or the digits of fields that can't be decoded.
 fn push_code_and_fields(
     alloc: Global,
     text: &mut Vec<u8>,
@@ -235,7 +178,11 @@ fn push_code_and_fields(
     let [code, fields @ ..] = body else {
         return Ok(());
     };
-    push_coded(alloc, text, command, *code, body, fields)
+    push_name(alloc, text, update_code(*code), *code)?;
+    match fwup_wire::read_answer(command, body) {
+        Ok(answer) => push_answer(alloc, text, &answer),
+        Err(_) => push_rest(alloc, text, fields),
+    }
 }
 
 /// Appends an answer of firmware update: the command, the completion code, and the command's

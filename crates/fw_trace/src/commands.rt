@@ -3,9 +3,8 @@
 
 ghost use Rattle.std.specs.Prelude.{OnOk};
 ghost use Rattle.fw_text.specs.Printing.{AppendsText};
-ghost use Rattle.fwup_wire.specs.Commands.{command_read};
 ghost use Rattle.fwup_wire.specs.Lent.{command_of, table_entry_of, offer_of, update_request_of};
-ghost use Rattle.fw_trace.specs.Commands.{apply_fields, command_fields, component_fields, data_fields, entry_fields, fields_read, offer_fields, package_data_field, request_fields, update_request};
+ghost use Rattle.fw_trace.specs.Commands.{apply_fields, command_fields, component_fields, data_fields, entry_fields, offer_fields, package_data_field, request_fields, update_request};
 
 use crate::names::update_command;
 use crate::pieces::{push_byte, push_long, push_name, push_rest, push_short, push_text, push_two};
@@ -14,6 +13,7 @@ use fwup_wire::{Command, ComponentOffer, Key, TableEntry, UpdateRequest};
 use std::alloc::{AllocError, Global};
 
 /// Appends a component: its classification, its identifier and its index.
+#[tactic(auto, unfolding(crate::specs::Commands::component_fields))]
 pub fn push_component(
     alloc: Global,
     text: &mut Vec<u8>,
@@ -39,6 +39,7 @@ fn push_package_data(alloc: Global, text: &mut Vec<u8>, length: u16) -> Result<(
 }
 
 /// Appends the fields of RequestUpdate.
+#[tactic(auto, unfolding(crate::specs::Commands::request_fields))]
 fn push_request(
     alloc: Global,
     text: &mut Vec<u8>,
@@ -55,6 +56,7 @@ fn push_request(
 }
 
 /// Appends the fields of PassComponentTable.
+#[tactic(auto, unfolding(crate::specs::Commands::entry_fields))]
 fn push_entry(alloc: Global, text: &mut Vec<u8>, entry: &TableEntry<'_>) -> Result<(), AllocError>
     ensures { OnOk result (AppendsText text.old.items text.new.items (entry_fields (table_entry_of entry.now))) }
 {
@@ -67,6 +69,7 @@ fn push_entry(alloc: Global, text: &mut Vec<u8>, entry: &TableEntry<'_>) -> Resu
 }
 
 /// Appends the fields of UpdateComponent.
+#[tactic(auto, unfolding(crate::specs::Commands::offer_fields))]
 fn push_offer(
     alloc: Global,
     text: &mut Vec<u8>,
@@ -83,6 +86,7 @@ fn push_offer(
 }
 
 /// Appends the fields of RequestFirmwareData.
+#[tactic(auto, unfolding(crate::specs::Commands::data_fields))]
 fn push_data_request(
     alloc: Global,
     text: &mut Vec<u8>,
@@ -97,6 +101,7 @@ fn push_data_request(
 }
 
 /// Appends the fields of ApplyComplete.
+#[tactic(auto, unfolding(crate::specs::Commands::apply_fields))]
 fn push_apply(
     alloc: Global,
     text: &mut Vec<u8>,
@@ -136,22 +141,8 @@ fn push_command(alloc: Global, text: &mut Vec<u8>, command: &Command<'_>) -> Res
     }
 }
 
-/// Appends the fields of a command's request data, or their digits if they can't be decoded.
-fn push_fields(
-    alloc: Global,
-    text: &mut Vec<u8>,
-    command: u8,
-    fields: &[u8],
-) -> Result<(), AllocError>
-    ensures { OnOk result (AppendsText text.old.items text.new.items (fields_read (command_read command fields.now) fields.now)) }
-{
-    match fwup_wire::read(command, fields) {
-        Ok(command) => push_command(alloc, text, &command),
-        Err(_) => push_rest(alloc, text, fields),
-    }
-}
-
-/// Appends a request of firmware update: the command, and the fields of its request data.
+/// Appends a request of firmware update: the command, and the fields of its request data, or the
+/// digits of request data that can't be decoded.
 #[tactic(auto, unfolding(crate::specs::Commands::update_request))]
 pub fn push_update_request(
     alloc: Global,
@@ -162,6 +153,8 @@ pub fn push_update_request(
     ensures { OnOk result (AppendsText text.old.items text.new.items (update_request command fields.now)) }
 {
     push_name(alloc, text, update_command(command), command)?;
-    push_fields(alloc, text, command, fields)?;
-    Ok(())
+    match fwup_wire::read(command, fields) {
+        Ok(command) => push_command(alloc, text, &command),
+        Err(_) => push_rest(alloc, text, fields),
+    }
 }

@@ -15,6 +15,7 @@ mod messages;
 mod names;
 mod pieces;
 mod records;
+mod tables;
 
 pub use capture::{capture_header, capture_reads_back, push_capture};
 pub use laws::{shows_messages, shows_what_was_written};

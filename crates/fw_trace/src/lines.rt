@@ -147,6 +147,7 @@ impl PacketReader {
 }
 
 /// Appends the tick at which a packet was sent, its device, and its number.
+#[tactic(auto, unfolding(crate::specs::Lines::place_text))]
 fn push_place(alloc: Global, text: &mut Vec<u8>, place: Place) -> Result<(), AllocError>
     ensures { OnOk result (AppendsText text.old.items text.new.items (place_text place.turn place.device place.number)) }
 {
@@ -157,6 +158,7 @@ fn push_place(alloc: Global, text: &mut Vec<u8>, place: Place) -> Result<(), All
 }
 
 /// Appends the packet's source and destination, and its tag.
+#[tactic(auto, unfolding(crate::specs::Lines::head_text))]
 fn push_head(alloc: Global, text: &mut Vec<u8>, head: &Head) -> Result<(), AllocError>
     ensures { OnOk result (AppendsText text.old.items text.new.items (head_text head.now)) }
 {
@@ -167,6 +169,7 @@ fn push_head(alloc: Global, text: &mut Vec<u8>, head: &Head) -> Result<(), Alloc
 }
 
 /// Appends a packet that doesn't end its message.
+#[tactic(auto, unfolding(crate::specs::Lines::part_text))]
 fn push_part(alloc: Global, text: &mut Vec<u8>, packet: &Packet<'_>) -> Result<(), AllocError>
     ensures { OnOk result (AppendsText text.old.items text.new.items (part_text (packet_of packet.now.head packet.now.body.now))) }
 {
@@ -229,6 +232,7 @@ fn push_outcome(
 }
 
 /// Appends a packet's head, and its outcome.
+#[tactic(auto, unfolding(crate::specs::Lines::packet_text))]
 fn push_packet(
     alloc: Global,
     text: &mut Vec<u8>,

@@ -1,9 +1,9 @@
 //! The text of a message. Each function's only error is `AllocError`.
 
-ghost use Rattle.std.specs.Prelude.{OnOk, ◌∷◌};
+ghost use Rattle.std.specs.Prelude.{OnOk};
 ghost use Rattle.fw_text.specs.Printing.{AppendsText};
 ghost use Rattle.pldm_base.specs.Header.{pldm_of};
-ghost use Rattle.fw_trace.specs.Messages.{answer_text, message_text, other_text, pldm_answer, pldm_read, pldm_request, pldm_unread, request_text};
+ghost use Rattle.fw_trace.specs.Messages.{message_text, other_text, pldm_answer, pldm_read, pldm_request, pldm_unread};
 
 use crate::answers::push_update_answer;
 use crate::bases::{push_base_answer, push_base_request, push_other_answer, push_other_request};
@@ -15,39 +15,8 @@ use mctp_ctl::CONTROL;
 use pldm_base::{MESSAGE_TYPE, PldmHead, TYPE_BASE, TYPE_FIRMWARE_UPDATE};
 use std::alloc::{AllocError, Global};
 
-/// Appends a request by its PLDM type.
-fn push_typed_request(
-    alloc: Global,
-    text: &mut Vec<u8>,
-    head: &PldmHead,
-    body: &[u8],
-) -> Result<(), AllocError>
-    ensures { OnOk result (AppendsText text.old.items text.new.items (request_text head.now body.now)) }
-{
-    match head.pldm_type {
-        TYPE_FIRMWARE_UPDATE => push_update_request(alloc, text, head.command, body),
-        TYPE_BASE => push_base_request(alloc, text, head.command, body),
-        other => push_other_request(alloc, text, other, head.command, body),
-    }
-}
-
-/// Appends an answer by its PLDM type.
-fn push_typed_answer(
-    alloc: Global,
-    text: &mut Vec<u8>,
-    head: &PldmHead,
-    body: &[u8],
-) -> Result<(), AllocError>
-    ensures { OnOk result (AppendsText text.old.items text.new.items (answer_text head.now body.now)) }
-{
-    match head.pldm_type {
-        TYPE_FIRMWARE_UPDATE => push_update_answer(alloc, text, head.command, body),
-        TYPE_BASE => push_base_answer(alloc, text, head.command, body),
-        other => push_other_answer(alloc, text, other, head.command, body),
-    }
-}
-
 /// Appends a PLDM request: its instance identifier, its command and its fields.
+#[tactic(auto, unfolding(crate::specs::Messages::pldm_request))]
 fn push_request(
     alloc: Global,
     text: &mut Vec<u8>,
@@ -57,11 +26,15 @@ fn push_request(
     ensures { OnOk result (AppendsText text.old.items text.new.items (pldm_request head.now body.now)) }
 {
     push_byte(alloc, text, "pldm rq ", head.instance)?;
-    push_typed_request(alloc, text, head, body)?;
-    Ok(())
+    match head.pldm_type {
+        TYPE_FIRMWARE_UPDATE => push_update_request(alloc, text, head.command, body),
+        TYPE_BASE => push_base_request(alloc, text, head.command, body),
+        other => push_other_request(alloc, text, other, head.command, body),
+    }
 }
 
 /// Appends a PLDM answer: its instance identifier, its command, its code and its fields.
+#[tactic(auto, unfolding(crate::specs::Messages::pldm_answer))]
 fn push_answer(
     alloc: Global,
     text: &mut Vec<u8>,
@@ -71,11 +44,15 @@ fn push_answer(
     ensures { OnOk result (AppendsText text.old.items text.new.items (pldm_answer head.now body.now)) }
 {
     push_byte(alloc, text, "pldm rs ", head.instance)?;
-    push_typed_answer(alloc, text, head, body)?;
-    Ok(())
+    match head.pldm_type {
+        TYPE_FIRMWARE_UPDATE => push_update_answer(alloc, text, head.command, body),
+        TYPE_BASE => push_base_answer(alloc, text, head.command, body),
+        other => push_other_answer(alloc, text, other, head.command, body),
+    }
 }
 
 /// Appends a PLDM message whose head can't be decoded, given by the bytes after its type byte.
+#[tactic(auto, unfolding(crate::specs::Messages::pldm_unread))]
 fn push_unread(alloc: Global, text: &mut Vec<u8>, bytes: &[u8]) -> Result<(), AllocError>
     ensures { OnOk result (AppendsText text.old.items text.new.items (pldm_unread bytes.now)) }
 {
@@ -106,6 +83,7 @@ fn push_pldm(
 }
 
 /// Appends a message of another type than MCTP control and PLDM.
+#[tactic(auto, unfolding(crate::specs::Messages::other_text))]
 fn push_other(alloc: Global, text: &mut Vec<u8>, kind: u8, bytes: &[u8]) -> Result<(), AllocError>
     ensures { OnOk result (AppendsText text.old.items text.new.items (other_text kind bytes.now)) }
 {

@@ -2,7 +2,7 @@
 //! is dropped.
 
 ghost use Rattle.std.specs.Prelude.{◌≡◌, option_map};
-ghost use Rattle.fw_trace.specs.Names.{base_code, base_command, cause_name, control_code, control_name, shared_code, update_code, update_command};
+ghost use Rattle.fw_trace.specs.Names.{base_code, base_command, cause_name, code_name, control_code, control_name, shared_code, update_code, update_command};
 
 use fwup_wire::code::{command, completion as update};
 use mctp_ctl::ControlCommand;
@@ -74,7 +74,7 @@ pub fn control_command(command: Option<ControlCommand>) -> Option<&'static str>
 
 /// Returns the name of a completion code that every PLDM type shares (DSP0240, "PLDM completion
 /// codes"), if it has one.
-pub fn shared_code(code: u8) -> Option<&'static str>
+fn shared_code(code: u8) -> Option<&'static str>
     ensures { option_map (λ s. s.now) result ≡ shared_code code }
 {
     match code {
@@ -90,7 +90,7 @@ pub fn shared_code(code: u8) -> Option<&'static str>
 }
 
 /// Returns the name of a completion code of PLDM type 0 (DSP0240), if it has one.
-pub fn base_code(code: u8) -> Option<&'static str>
+fn base_code(code: u8) -> Option<&'static str>
     ensures { option_map (λ s. s.now) result ≡ base_code code }
 {
     if code == completion::INVALID_PLDM_TYPE_IN_REQUEST_DATA {
@@ -120,7 +120,7 @@ pub fn update_code(code: u8) -> Option<&'static str>
 }
 
 /// Returns the name of a completion code of control messages (DSP0236, Table 13), if it has one.
-pub fn control_code(code: u8) -> Option<&'static str>
+fn control_code(code: u8) -> Option<&'static str>
     ensures { option_map (λ s. s.now) result ≡ control_code code }
 {
     match code {
@@ -131,6 +131,28 @@ pub fn control_code(code: u8) -> Option<&'static str>
         0x04 => Some("ERROR_NOT_READY"),
         0x05 => Some("ERROR_UNSUPPORTED_CMD"),
         _ => None,
+    }
+}
+
+/// The completion codes of a kind of messages.
+#[derive(Clone, Copy)]
+pub enum CodeTable {
+    /// Those of control messages.
+    Control,
+    /// Those of the commands of PLDM type 0.
+    Base,
+    /// Those that every PLDM type shares.
+    Shared,
+}
+
+/// Returns the name of a completion code, if it has one.
+pub fn code_name(codes: CodeTable, code: u8) -> Option<&'static str>
+    ensures { option_map (λ s. s.now) result ≡ code_name codes code }
+{
+    match codes {
+        CodeTable::Control => control_code(code),
+        CodeTable::Base => base_code(code),
+        CodeTable::Shared => shared_code(code),
     }
 }
 

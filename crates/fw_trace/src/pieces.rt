@@ -117,6 +117,7 @@ fn push_encoding(alloc: Global, text: &mut Vec<u8>, number: u8) -> Result<(), Al
 }
 
 /// Appends a word and a text that isn't ASCII: its encoding, and its bytes in digits.
+#[tactic(auto, unfolding(crate::specs::Pieces::encoded_text))]
 fn push_encoded(
     alloc: Global,
     text: &mut Vec<u8>,

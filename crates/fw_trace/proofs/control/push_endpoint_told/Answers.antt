@@ -1,6 +1,0 @@
-use Rattle.fw_text.proofs.Chains.{adds_more}
-use Rattle.fw_trace.proofs.control.push_endpoint_told.Goals as goal
-
-pub returns : goal.returns
-returns c =
-    adds_more (adds_more c.in_ok-push_byte.ensures c.in_ok-push_two.ensures) c.in_ok-push_two-2.ensures
