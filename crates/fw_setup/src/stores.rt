@@ -9,7 +9,10 @@ ghost use Rattle.fw_store.specs.Opening.{found_in};
 use crate::stocks::{configured_images, stock};
 use crate::store_banks::StoreBanks;
 use fw_script::{ComponentConfig, DeviceConfig};
-use fw_store::{Folder, FolderStore, MemStore, OpenFault, SystemFolder, open_store, read_store};
+use fw_store::{
+    Folder, FolderStore, MemStore, OpenFault, SystemFolder, make_folder, open_store, read_store,
+    system_folder,
+};
 use std::alloc::{AllocError, Global};
 
 /// The device whose store isn't opened, and the cause.
@@ -79,7 +82,7 @@ impl<'a> Stores<SystemFolder<'a>> for SystemStores<'a> {
         let Ok(path) = device_path(alloc, root, device) else {
             return Err(OpenFault::Memory);
         };
-        match SystemFolder::make(self.rt, path) {
+        match make_folder(self.rt, path) {
             Ok(folder) => Ok(folder),
             Err(_) => Err(OpenFault::Unreadable),
         }
@@ -87,7 +90,7 @@ impl<'a> Stores<SystemFolder<'a>> for SystemStores<'a> {
 
     fn at(&self, alloc: Global, root: &str, device: u8) -> Result<SystemFolder<'a>, AllocError> {
         match device_path(alloc, root, device) {
-            Ok(path) => Ok(SystemFolder::new(self.rt, path)),
+            Ok(path) => Ok(system_folder(self.rt, path)),
             Err(_) => Err(AllocError),
         }
     }

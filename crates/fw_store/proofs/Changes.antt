@@ -3,7 +3,7 @@ use Rattle.std.proofs.Common.{◌≡◌, ◌≢◌, ◌∙◌, ◌+◌, ◌-◌,
 use Rattle.std.specs.Str.{bytes_eq}
 use Rattle.std.proofs.lemmas.Bool.{cases_Bool}
 use Rattle.std.proofs.lemmas.List.{take_more}
-use Rattle.fw_store.specs.Folders.{Files, IsMoment, ChangesOnlyFile, RenamesFile, LeavesFiles, WritesFile}
+use Rattle.fw_store.specs.Folders.{Files, IsMoment, ChangesOnlyFile, RemovesFile, RenamesFile, LeavesFiles, WritesFile}
 use Rattle.fw_store.specs.Changes.{ChangeOf, files_after_change, changed_by, files_from, files_of, no_files, states_from, states_of}
 use Rattle.fw_store.specs.declared.known.Kind.{Kind}
 use Rattle.fw_store.specs.declared.known.Kind.TheVariants as kinds
@@ -59,6 +59,12 @@ moved_renamed cs ds name place is = subst (λ (f : Files). RenamesFile (files_of
 
 pub gone_only : (cs ds : List ChangeOf) (name other : List ℕ) → ds ≡ cs ++ removing name other ∷ [] → ChangesOnlyFile (files_of cs) (files_of ds) name
 gone_only cs ds name other is = subst (λ (f : Files). ChangesOnlyFile (files_of cs) f name) (sym (after_push cs ds (removing name other) is)) (gone_changed (files_of cs) name other)
+
+pub gone_removed : (cs ds : List ChangeOf) (name other : List ℕ) → ds ≡ cs ++ removing name other ∷ [] → RemovesFile (files_of cs) (files_of ds) name
+gone_removed cs ds name other is = record {
+  gone = rw (after_push cs ds (removing name other) is) (rw (bytes_same name) refl);
+  others = (gone_only cs ds name other is).others;
+}
 
 pub same_files : (cs ds : List ChangeOf) → ds ≡ cs → LeavesFiles (files_of cs) (files_of ds)
 same_files cs ds is = record { all = λ name. rw is refl }

@@ -1,6 +1,7 @@
 -- The states of a folder.
 use Rattle.std.proofs.Common.{◌≡◌, ◌≢◌, ◌∙◌, ◌+◌, ◌<◌, ◌^◌, ◌==◌, ◌||◌, ◌++◌, ◌⊎◌, inl, inr, ℕ, Bool, true, false, List, [], ◌∷◌, Option, Some, None, drop, take, get_or, length, subst, map, ap, refl, sym, arith}
 use Rattle.std.specs.List.{AllByRecursion}
+use Rattle.std.specs.Prelude.{Result, Ok, Err, IfErr, OnOk}
 use Rattle.std.proofs.lemmas.List.{drop_more, take-append-drop, take_more}
 use Rattle.std.proofs.lemmas.Bool.{eq-eqb, or_parts}
 use Rattle.fd_core.specs.Banks.{HaveKeysOnce, has_key}
@@ -8,7 +9,7 @@ use Rattle.fd_core.specs.Images.{same_key}
 use Rattle.fwup_wire.specs.declared.values.Key.{Key}
 use Rattle.fw_store.specs.Active.{ImageEntryOf, active_text, image_name}
 use Rattle.fw_store.specs.Folders.{Files, IsMoment, ChangesOnlyFile, PassesStates, RenamesFile, LeavesFiles, WritesFile, active_name, new_name}
-use Rattle.fw_store.specs.Keeping.{LeavesLowerFiles, AreWritten, ChangesOnlyNewFile, WritesImages, IsKey, ReplacesActive, IsStopped, FailsToReplaceActive, IsWriting, MayHaveReplaced, WritesActive}
+use Rattle.fw_store.specs.Keeping.{LeavesLowerFiles, AreWritten, ChangesOnlyNewFile, WritesImages, IsKey, IsStoring, ReplacesActive, ReplacesOnDisk, IsStopped, FailsToReplaceActive, IsWriting, MayHaveReplaced, WritesActive}
 use Rattle.fw_store.specs.Kept.{KeptOf}
 use Rattle.fw_store.proofs.Folders.{apart_image, apart_new, apart_self, active_not_new, keys_apart, no_new}
 
@@ -133,6 +134,29 @@ unput_second f g h text past before now wrote first same second =
 pub unput_first : (f g : Files) (past before : List Files) → ChangesOnlyFile f g new_name → IsMoment f g past before → FailsToReplaceActive f g past before
 unput_first f g past before only first = record { between = g; only = but_new f g only; same = record { all = λ name. refl }; middle = before; first = first; second = inl refl }
 
+-- where a call ends so
+pub when_ok : {A E : Type 0} {P Q R : Type 0} (r : Result A E) → (P → Q → R) → OnOk r P → OnOk r Q → OnOk r R
+when_ok (Ok x) f p q = f p q
+when_ok (Err e) f p q = tt
+
+pub when_err : {A E : Type 0} {P Q : E → Type 0} (r : Result A E) → ((e : E) → P e → Q e) → IfErr r P → IfErr r Q
+when_err (Ok x) f h = tt
+when_err (Err e) f h = f e h
+
+-- the two calls, on the disk
+pub put_lasting : (f g h l : Files) (text : List ℕ) → WritesFile f g new_name text → RenamesFile g h new_name active_name → LeavesFiles h l → ReplacesOnDisk text f l
+put_lasting f g h l text wrote renamed lasts = record {
+  passed = l ∷ g ∷ [];
+  replaces = record {
+    between = g;
+    wrote = wrote;
+    renamed = record { here = lasts.all active_name ∙ renamed.here; others = λ other a b. lasts.all other ∙ renamed.others other a b };
+    middle = g ∷ [];
+    first = inl refl;
+    second = inl refl;
+  };
+}
+
 pub ruleset putting = (put_both, unput_second, unput_first)
 
 pub came_or_not : (n : ℕ) (images : List KeptOf) (es : List ImageEntryOf) (e f h : Files) (past before now : List Files) → n < 2 ^ 32 → IsWriting n images e f past before
@@ -154,4 +178,26 @@ writing_at n e f g past before now images i d below small known apart h wrote is
     rw (take_more images i d below)
     (writing_more n e f g past before now (take i images) (get_or images i d) (drop (i + 1) images) small known (subst (λ (ks : List KeptOf). HaveKeysOnce (map (λ (x : KeptOf). x.key) ks)) whole apart) h wrote is)
 
-pub ruleset coming = (apart_self, passes_none, came, came_or_not, came_through, through_either, unput_apart, unput_through, stays)
+-- the images and the text, on the disk
+pub not_stored : (n : ℕ) (f : Files) → IsStoring n [] f f
+not_stored n f = record { passed = []; writing = not_yet n f [] }
+
+pub storing_at : (n : ℕ) (e f g : Files) (images : List KeptOf) (i : ℕ) (d : KeptOf) → i < length images → n < 2 ^ 32 → IsKey (get_or images i d).key
+    → HaveKeysOnce (map (λ (x : KeptOf). x.key) images) → IsStoring n (take i images) e f
+    → WritesFile f g (image_name (get_or images i d).key n) (get_or images i d).image.bytes → IsStoring n (take (i + 1) images) e g
+storing_at n e f g images i d below small known apart h wrote =
+    record { passed = g ∷ h.passed; writing = writing_at n e f g [] h.passed (g ∷ h.passed) images i d below small known apart h.writing wrote (inl refl) }
+
+pub came_lasting : (n : ℕ) (images : List KeptOf) (es : List ImageEntryOf) (e f h : Files) → n < 2 ^ 32 → IsStoring n images e f
+    → ReplacesOnDisk (active_text es) f h → WritesImages n images es e h
+came_lasting n images es e f h small storing is =
+    came n images es e f h [] storing.passed (h ∷ is.replaces.between ∷ storing.passed) small storing.writing (record {
+      between = is.replaces.between;
+      wrote = is.replaces.wrote;
+      renamed = is.replaces.renamed;
+      middle = is.replaces.between ∷ storing.passed;
+      first = inl refl;
+      second = inl refl;
+    })
+
+pub ruleset coming = (came_lasting, apart_self, passes_none, came, came_or_not, came_through, through_either, unput_apart, unput_through, stays)

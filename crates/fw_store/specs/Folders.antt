@@ -95,6 +95,27 @@ pub record RenamesFile (before after : Files) (name place : List ℕ) : Type 0 w
 pub record LeavesFiles (before after : Files) : Type 0 where
   pub all : (name : List ℕ) → after name ≡ before name
 
+-- A LOSS OF POWER
+
+-- After a loss of power a name has what it had on the disk before, or what is stored under it now.
+pub record SettlesNames (stored before after : Files) : Type 0 where
+  pub each : (name : List ℕ) → (after name ≡ before name) ⊎ (after name ≡ stored name)
+
+-- Each name but these two has on the disk what is stored under it.
+pub record LastsApartFrom (stored after : Files) (name place : List ℕ) : Type 0 where
+  pub others : (other : List ℕ) → other ≢ name → other ≢ place → after other ≡ stored other
+
+-- A file has its new name on the disk only after all others have theirs: what is on the disk under
+-- that name is as before, or each other file is there.
+abbrev pub RenamesInOrder : (stored before after : Files) (name place : List ℕ) → Type 0
+RenamesInOrder stored before after name place =
+    stored place ≡ before place → (after place ≡ before place) ⊎ LastsApartFrom stored after name place
+
+-- The file with this name was removed, and the others are as before.
+pub record RemovesFile (before after : Files) (name : List ℕ) : Type 0 where
+  pub gone : after name ≡ None
+  pub others : (other : List ℕ) → other ≢ name → after other ≡ before other
+
 -- A call added at most one state. If it changed nothing, it may have added none.
 abbrev pub IsMoment : (before after : Files) (past now : List Files) → Type 0
 IsMoment before after past now = (now ≡ after ∷ past) ⊎ ((now ≡ past) × LeavesFiles before after)

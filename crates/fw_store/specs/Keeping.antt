@@ -95,6 +95,18 @@ pub record FailsToReplaceActive (before after : Files) (past now : List Files) :
   pub first : IsMoment before between past middle
   pub second : (now ≡ middle) ⊎ IsMoment between after middle now
 
+-- ON THE DISK
+
+-- the given images are stored, in one call after the other
+pub record IsStoring (n : ℕ) (images : List KeptOf) (before after : Files) : Type 0 where
+  pub passed : List Files
+  pub writing : IsWriting n images before after [] passed
+
+-- a text was stored, and has replaced `active` on the disk
+pub record ReplacesOnDisk (text : List ℕ) (before after : Files) : Type 0 where
+  pub passed : List Files
+  pub replaces : ReplacesActive text before after [] passed
+
 -- the active images are as before, or the given images are active
 abbrev pub MayHaveReplaced : ℕ → List KeptOf → List ImageEntryOf → Files → Files → Type 0
 MayHaveReplaced n images es before after = LeavesLowerFiles n before after ⊎ WritesImages n images es before after

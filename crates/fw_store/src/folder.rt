@@ -1,7 +1,7 @@
 //! Folders of files.
 
 ghost use Rattle.std.specs.Prelude.{◌≡◌, ◌⊎◌, Bool, IfErr, IfOk, List, OnErr, OnOk, Option, option_map, true, ℕ};
-ghost use Rattle.fw_store.specs.Folders.{IsMoment, ChangesOnlyFile, RenamesFile, LeavesFiles, WritesFile};
+ghost use Rattle.fw_store.specs.Folders.{ChangesOnlyFile, IsMoment, LeavesFiles, RemovesFile, RenamesFile, RenamesInOrder, WritesFile};
 
 use std::alloc::Global;
 use thiserror::Error;
@@ -26,11 +26,17 @@ pub enum RenameFault {
 /// leave.
 ///
 /// If the content is known, `files` are the bytes of each name, and `moments` are the states of the
-/// files, one after each call that changed any, the last one first.
+/// files, one after each call that changed any, the last one first. `stored` are the bytes of each
+/// name that are on the disk, and `lasting` those that a loss of power leaves, which depends on the
+/// names that are on the disk.
 pub trait Folder {
     ghost is_known: { Self → Bool };
 
     ghost files: { Self → List ℕ → Option (List ℕ) };
+
+    ghost stored: { Self → List ℕ → Option (List ℕ) };
+
+    ghost lasting: { Self → List ℕ → Option (List ℕ) };
 
     ghost moments: { Self → List (List ℕ → Option (List ℕ)) };
 
@@ -49,11 +55,16 @@ pub trait Folder {
         ensures known { is_known self.new ≡ is_known self.old }
         ensures ok { OnOk result (is_known self.old ≡ true → WritesFile (files self.old) (files self.new) name.now bytes.now) }
         ensures err { OnErr result (is_known self.old ≡ true → ChangesOnlyFile (files self.old) (files self.new) name.now) }
+        ensures stored { OnOk result (is_known self.old ≡ true → WritesFile (stored self.old) (stored self.new) name.now bytes.now) }
+        ensures stays { is_known self.old ≡ true
+            → ChangesOnlyFile (stored self.old) (stored self.new) name.now
+            × ChangesOnlyFile (lasting self.old) (lasting self.new) name.now }
         ensures moment { is_known self.old ≡ true
             → IsMoment (files self.old) (files self.new) (moments self.old) (moments self.new) };
 
     /// Renames a file, replacing the file with the new name, entirely or not at all, and syncs the
-    /// change to the disk.
+    /// names of all files to the disk. At a loss of power, the file has its new name only if each
+    /// other file has its own.
     ///
     /// # Errors
     /// Nothing has changed, or the file may have its new name and a crash may undo it.
@@ -67,6 +78,11 @@ pub trait Folder {
             → is_known self.old ≡ true
             → LeavesFiles (files self.old) (files self.new)
             ⊎ RenamesFile (files self.old) (files self.new) name.now place.now) }
+        ensures stored { OnOk result (is_known self.old ≡ true → RenamesFile (stored self.old) (stored self.new) name.now place.now) }
+        ensures lasts { OnOk result (is_known self.old ≡ true → LeavesFiles (stored self.new) (lasting self.new)) }
+        ensures ordered { is_known self.old ≡ true
+            → RenamesInOrder (stored self.old) (lasting self.old) (lasting self.new) name.now
+            place.now }
         ensures moment { is_known self.old ≡ true
             → IsMoment (files self.old) (files self.new) (moments self.old) (moments self.new) };
 
@@ -76,6 +92,10 @@ pub trait Folder {
     /// The file can't be removed. Then nothing is known of this file.
     fn remove(&mut self, name: &[u8]) -> Result<(), FolderFault>
         ensures known { is_known self.new ≡ is_known self.old }
+        ensures ok { OnOk result (is_known self.old ≡ true → RemovesFile (files self.old) (files self.new) name.now) }
+        ensures stays { is_known self.old ≡ true
+            → ChangesOnlyFile (stored self.old) (stored self.new) name.now
+            × ChangesOnlyFile (lasting self.old) (lasting self.new) name.now }
         ensures others { is_known self.old ≡ true → ChangesOnlyFile (files self.old) (files self.new) name.now }
         ensures moment { is_known self.old ≡ true
             → IsMoment (files self.old) (files self.new) (moments self.old) (moments self.new) };

@@ -147,6 +147,10 @@ impl<F: Folder + Drop> FolderStore<F> {
             self.old.next (F.files self.old.folder) self.old.entries.items
             → F.is_known self.old.folder ≡ true
             → IsAfter images.now (F.files self.old.folder) (F.files self.new.folder)) }
+        ensures lasts { OnOk result (IsSettledIfKnown (F.is_known self.old.folder) self.old.is_sure
+            self.old.next (F.stored self.old.folder) self.old.entries.items
+            → F.is_known self.old.folder ≡ true
+            → IsAfter images.now (F.stored self.old.folder) (F.lasting self.new.folder)) }
         ensures stays { OnErr result (IsSettledIfKnown (F.is_known self.old.folder) self.old.is_sure
             self.old.next (F.files self.old.folder) self.old.entries.items
             → F.is_known self.old.folder ≡ true

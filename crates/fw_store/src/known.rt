@@ -218,6 +218,10 @@ impl Folder for KnownFolder {
 
     ghost files = { λ f. files_of f.changes.items };
 
+    ghost stored = { λ f. files_of f.changes.items };
+
+    ghost lasting = { λ f. files_of f.changes.items };
+
     ghost moments = { λ f. states_of f.changes.items };
 
     fn read(&self, alloc: Global, name: &[u8]) -> Result<Option<Vec<u8>>, FolderFault> {

@@ -2,6 +2,8 @@
 #![tactic(auto)]
 
 mod bank;
+mod calls;
+mod durable;
 mod entry;
 mod faults;
 mod folder;
@@ -16,10 +18,13 @@ mod putting;
 mod reading;
 mod store;
 mod sweeping;
+mod synced;
 mod system;
 mod writing;
 
 pub use bank::KeptBank;
+pub use calls::FolderCalls;
+pub use durable::Durable;
 pub use entry::ImageEntry;
 pub use faults::OpenFault;
 pub use folder::{Folder, FolderFault, RenameFault};
@@ -31,5 +36,6 @@ pub use memory::{MemStore, Stored};
 pub use opening::open_store;
 pub use reading::read_active;
 pub use store::{Kept, Store, StoreFault};
-pub use system::SystemFolder;
+pub use synced::SyncedFolder;
+pub use system::{SystemFolder, SystemFolderCalls, make_folder, system_folder};
 pub use writing::{active_text, image_name};

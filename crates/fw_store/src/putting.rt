@@ -4,7 +4,7 @@ ghost use Rattle.std.specs.Prelude.{◌≡◌, ◌⊎◌, ◌^◌, ◌<◌, IfEr
 ghost use Rattle.fd_core.specs.Banks.{HaveKeysOnce};
 ghost use Rattle.fw_store.specs.Active.{image_name as name_of};
 ghost use Rattle.fw_store.specs.Folders.{PassesStates};
-ghost use Rattle.fw_store.specs.Keeping.{LeavesLowerFiles, WritesImages, IsKey, ReplacesActive, IsStopped, FailsToReplaceActive, IsWriting, MayHaveReplaced};
+ghost use Rattle.fw_store.specs.Keeping.{LeavesLowerFiles, WritesImages, IsKey, IsStoring, ReplacesActive, ReplacesOnDisk, IsStopped, FailsToReplaceActive, IsWriting, MayHaveReplaced};
 
 use crate::entry::ImageEntry;
 use crate::folder::{Folder, FolderFault, RenameFault};
@@ -40,6 +40,8 @@ fn write_images<F: Folder>(
     ensures ok { OnOk result (F.is_known folder.old ≡ true
         → IsWriting number images.now (F.files folder.old) (F.files folder.new)
         (F.moments folder.old) (F.moments folder.new)) }
+    ensures stored { OnOk result (F.is_known folder.old ≡ true
+        → IsStoring number images.now (F.stored folder.old) (F.stored folder.new)) }
     ensures err { OnErr result (F.is_known folder.old ≡ true
         → IsStopped number (F.files folder.old) (F.files folder.new) (F.moments folder.old)
         (F.moments folder.new)) }
@@ -63,6 +65,8 @@ fn put_text<F: Folder>(folder: &mut F, text: &[u8]) -> Result<(), RenameFault>
     ensures ok { OnOk result (F.is_known folder.old ≡ true
         → ReplacesActive text.now (F.files folder.old) (F.files folder.new) (F.moments folder.old)
         (F.moments folder.new)) }
+    ensures lasts { OnOk result (F.is_known folder.old ≡ true
+        → ReplacesOnDisk text.now (F.stored folder.old) (F.lasting folder.new)) }
     ensures unchanged { IfErr result (λ e. e ≡ RenameFault.Unchanged
         → F.is_known folder.old ≡ true
         → FailsToReplaceActive (F.files folder.old) (F.files folder.new) (F.moments folder.old)
@@ -98,6 +102,9 @@ pub(crate) fn put_images<F: Folder>(
     ensures known { F.is_known folder.new ≡ F.is_known folder.old }
     ensures ok { OnOk result (F.is_known folder.old ≡ true
         → WritesImages number images.now entries.now (F.files folder.old) (F.files folder.new)) }
+    ensures lasts { OnOk result (F.is_known folder.old ≡ true
+        → WritesImages number images.now entries.now (F.stored folder.old)
+        (F.lasting folder.new)) }
     ensures unchanged { IfErr result (λ e. e ≡ RenameFault.Unchanged
         → F.is_known folder.old ≡ true
         → LeavesLowerFiles number (F.files folder.old) (F.files folder.new)) }

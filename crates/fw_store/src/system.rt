@@ -2,41 +2,42 @@
 
 ghost use Rattle.std.specs.Prelude.{◌≡◌, [], None, false};
 
-use crate::folder::{Folder, FolderFault, RenameFault};
+use crate::calls::FolderCalls;
+use crate::folder::FolderFault;
+use crate::synced::SyncedFolder;
 use std::alloc::Global;
 use std::fs::{self, File};
-use std::io::{self, ErrorKind, Read, Write};
+use std::io::{ErrorKind, Read};
 
-/// The files of one folder of the system; their content isn't known to the proofs.
-///
-/// A file is written from its start and its bytes are synced to the disk before the call ends. A
-/// file is renamed by the system's `rename`, which replaces the other file at once. The folder is
-/// synced before and after: before, so that all files written are on the disk under their names; if
-/// only the sync after fails, the call ends with `Unsure`.
+/// The calls of the system on the files of one of its folders; their content isn't known to the
+/// proofs.
 #[derive(Drop)]
-pub struct SystemFolder<'a> {
+pub struct SystemFolderCalls<'a> {
     rt: &'a HostRuntime,
     path: String,
 }
 
-impl<'a> SystemFolder<'a> {
-    /// Returns the folder with this path. Creates it and its parents if they don't exist.
-    ///
-    /// # Errors
-    /// `FolderFault` if it can't be created.
-    pub fn make(rt: &'a HostRuntime, path: String) -> Result<SystemFolder<'a>, FolderFault> {
-        match fs::create_dir_all(rt, path.as_str()) {
-            Ok(()) => Ok(SystemFolder { rt, path }),
-            Err(_) => Err(FolderFault),
-        }
-    }
+/// A folder of the system.
+pub type SystemFolder<'a> = SyncedFolder<SystemFolderCalls<'a>>;
 
-    /// Returns the folder with this path, which may not exist: then it has no files, and none can
-    /// be written.
-    pub fn new(rt: &'a HostRuntime, path: String) -> SystemFolder<'a> {
-        SystemFolder { rt, path }
+/// Returns the folder with this path. Creates it and its parents if they don't exist.
+///
+/// # Errors
+/// `FolderFault` if it can't be created.
+pub fn make_folder(rt: &HostRuntime, path: String) -> Result<SystemFolder<'_>, FolderFault> {
+    match fs::create_dir_all(rt, path.as_str()) {
+        Ok(()) => Ok(system_folder(rt, path)),
+        Err(_) => Err(FolderFault),
     }
+}
 
+/// Returns the folder with this path, which may not exist: then it has no files, and none can be
+/// written.
+pub fn system_folder(rt: &HostRuntime, path: String) -> SystemFolder<'_> {
+    SyncedFolder::new(SystemFolderCalls { rt, path })
+}
+
+impl<'a> SystemFolderCalls<'a> {
     /// Returns the path of a file.
     fn path_of(&self, name: &[u8]) -> Result<String, FolderFault> {
         let Ok(name) = str::from_utf8(name) else {
@@ -46,18 +47,6 @@ impl<'a> SystemFolder<'a> {
             Ok(path) => Ok(path),
             Err(_) => Err(FolderFault),
         }
-    }
-
-    /// Writes a file and syncs it to the disk.
-    fn write_whole(&self, path: &str, bytes: &[u8]) -> io::Result<()> {
-        let mut file = File::create(self.rt, path)?;
-        file.write_all(bytes)?;
-        file.sync_all()
-    }
-
-    /// Syncs the folder's names to the disk.
-    fn sync(&self) -> io::Result<()> {
-        File::open(self.rt, self.path.as_str())?.sync_all()
     }
 }
 
@@ -86,18 +75,21 @@ fn copied(alloc: Global, name: &str) -> Result<Vec<u8>, FolderFault> {
     }
 }
 
-impl<'a> Folder for SystemFolder<'a> {
-    ghost is_known = { λ f. false };
+impl<'a> FolderCalls for SystemFolderCalls<'a> {
+    type File = File;
 
-    ghost files = { λ f name. None };
+    ghost is_known = { λ c. false };
 
-    ghost moments = { λ f. [] };
+    ghost files = { λ c name. None };
+
+    ghost stored = { λ c name. None };
+
+    ghost lasting = { λ c name. None };
+
+    ghost moments = { λ c. [] };
 
     fn read(&self, alloc: Global, name: &[u8]) -> Result<Option<Vec<u8>>, FolderFault> {
-        let path = match self.path_of(name) {
-            Ok(path) => path,
-            Err(fault) => return Err(fault),
-        };
+        let path = self.path_of(name)?;
         match File::open(self.rt, path.as_str()) {
             Ok(file) => {
                 let mut file = file;
@@ -111,37 +103,38 @@ impl<'a> Folder for SystemFolder<'a> {
         }
     }
 
-    fn write(&mut self, name: &[u8], bytes: &[u8]) -> Result<(), FolderFault> {
-        let path = match self.path_of(name) {
-            Ok(path) => path,
-            Err(fault) => return Err(fault),
-        };
-        match self.write_whole(&path, bytes) {
+    fn create(&mut self, name: &[u8]) -> Result<File, FolderFault> {
+        let path = self.path_of(name)?;
+        match File::create(self.rt, path.as_str()) {
+            Ok(file) => Ok(file),
+            Err(_) => Err(FolderFault),
+        }
+    }
+
+    fn close(&mut self, _name: &[u8], _file: File) {}
+
+    fn rename(&mut self, name: &[u8], place: &[u8]) -> Result<(), FolderFault> {
+        let name = self.path_of(name)?;
+        let place = self.path_of(place)?;
+        match fs::rename(self.rt, name.as_str(), place.as_str()) {
             Ok(()) => Ok(()),
             Err(_) => Err(FolderFault),
         }
     }
 
-    fn rename(&mut self, name: &[u8], place: &[u8]) -> Result<(), RenameFault> {
-        let (Ok(name), Ok(place)) = (self.path_of(name), self.path_of(place)) else {
-            return Err(RenameFault::Unchanged);
-        };
-        // The files that this one names have their names on the disk before it has its own.
-        if self.sync().is_err() || fs::rename(self.rt, name.as_str(), place.as_str()).is_err() {
-            return Err(RenameFault::Unchanged);
-        }
-        match self.sync() {
+    fn remove(&mut self, name: &[u8]) -> Result<(), FolderFault> {
+        let path = self.path_of(name)?;
+        match fs::remove_file(self.rt, path.as_str()) {
             Ok(()) => Ok(()),
-            Err(_) => Err(RenameFault::Unsure),
+            Err(_) => Err(FolderFault),
         }
     }
 
-    fn remove(&mut self, name: &[u8]) -> Result<(), FolderFault> {
-        let path = match self.path_of(name) {
-            Ok(path) => path,
-            Err(fault) => return Err(fault),
+    fn sync_names(&mut self) -> Result<(), FolderFault> {
+        let Ok(folder) = File::open(self.rt, self.path.as_str()) else {
+            return Err(FolderFault);
         };
-        match fs::remove_file(self.rt, path.as_str()) {
+        match folder.sync_all() {
             Ok(()) => Ok(()),
             Err(_) => Err(FolderFault),
         }

@@ -5,7 +5,6 @@
 mod apart;
 mod beginnings;
 mod beside;
-mod durable;
 mod faults;
 mod files;
 mod history;
@@ -23,7 +22,6 @@ mod watching;
 pub use apart::begin_apart;
 pub use beginnings::Beginning;
 pub use beside::{SystemCalls, system_places};
-pub use durable::Durable;
 pub use faults::JobFault;
 pub use files::{
     FileFault, FileIdentity, Files, SystemFiles, folder_and_name, is_one_path, is_over_read,

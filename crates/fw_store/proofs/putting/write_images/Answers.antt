@@ -3,7 +3,7 @@ use Rattle.fw_store.specs.Active.{image_name}
 use Rattle.fw_store.specs.Folders.{WritesFile}
 use Rattle.fw_store.specs.Keeping.{IsKey}
 use Rattle.fw_store.specs.Kept.{KeptOf}
-use Rattle.fw_store.proofs.Moments.{stopped_more, writing_at}
+use Rattle.fw_store.proofs.Moments.{stopped_more, storing_at, writing_at}
 use Rattle.fw_store.proofs.putting.write_images.Goals as goal
 
 pub returns-in-Err-clause-err : goal.returns-in-Err-clause-err
@@ -23,4 +23,9 @@ loop-image-preserved g c =
           (subst (λ (x : KeptOf). WritesFile (g.F.Folder.files c.loop-image.folder) (g.F.Folder.files c.write.new.self) (image_name x.key c.args.number) x.image.bytes) same
           (rw (c.deref.ensures.value ∙ c.in-Ok.ensures.name) at (c.in-Ok-write.ensures.ok (c.loop-image.invariant.known ∙ k))))
           (c.in-Ok-write.ensures.moment (c.loop-image.invariant.known ∙ k));
+      storing = λ k.
+          storing_at c.args.number _ _ _ c.args.images.now c.loop-image.image-index _ c.loop-image-test.true c.file_name.ensures.number
+          (subst (λ (x : KeptOf). IsKey x.key) same c.file_name.ensures.key) c.requires.apart (c.loop-image.invariant.storing k)
+          (subst (λ (x : KeptOf). WritesFile (g.F.Folder.stored c.loop-image.folder) (g.F.Folder.stored c.write.new.self) (image_name x.key c.args.number) x.image.bytes) same
+          (rw (c.deref.ensures.value ∙ c.in-Ok.ensures.name) at (c.in-Ok-write.ensures.stored (c.loop-image.invariant.known ∙ k))));
     }
