@@ -2,6 +2,7 @@
 #![tactic(auto)]
 
 mod banks;
+mod device_folder;
 mod forecast_laws;
 mod forecast_text;
 mod foretold;
@@ -11,6 +12,7 @@ mod store_banks;
 mod stores;
 
 pub use banks::{Banks, BanksFault, MemBanks, mem_bank};
+pub use device_folder::DeviceFolder;
 pub use forecast_laws::forecasts_sessions;
 pub use forecast_text::{forecast, known};
 pub use foretold::{

@@ -1,18 +1,17 @@
 //! The stores of devices, each in its own folder.
 
-ghost use Rattle.std.specs.Prelude.{◌≡◌, ◌⊎◌, Bool, Err, IfErr, IfOk, List, None, Ok, OnOk, false, map, true, ℕ};
+ghost use Rattle.std.specs.Prelude.{◌≡◌, ◌⊎◌, Bool, Err, IfErr, IfOk, List, None, Ok, OnOk, false, map, string_bytes, true, ℕ};
 ghost use Rattle.fw_script.specs.Seen.{component_of, device_of};
 ghost use Rattle.fw_script.specs.Whole.{AreWhole, eids_of};
+ghost use Rattle.fw_setup.specs.Paths.{store_path};
 ghost use Rattle.fw_setup.specs.Stocks.{HaveStoredImages, IsFaulty, HasStoredImages, IsUnmade, IsUnopened, images_configured, stores_in};
 ghost use Rattle.fw_store.specs.Opening.{found_in};
 
+use crate::device_folder::DeviceFolder;
 use crate::stocks::{configured_images, stock};
 use crate::store_banks::StoreBanks;
 use fw_script::{ComponentConfig, DeviceConfig};
-use fw_store::{
-    Folder, FolderStore, MemStore, OpenFault, SystemFolder, make_folder, open_store, read_store,
-    system_folder,
-};
+use fw_store::{Folder, FolderStore, MemStore, OpenFault, open_store, read_store};
 use std::alloc::{AllocError, Global};
 
 /// The device whose store isn't opened, and the cause.
@@ -59,7 +58,9 @@ pub struct SystemStores<'a> {
 }
 
 /// Returns the path of the folder of a device's store.
-fn device_path(alloc: Global, root: &str, device: u8) -> Result<String, AllocError> {
+fn device_path(alloc: Global, root: &str, device: u8) -> Result<String, AllocError>
+    ensures { IfOk result (λ path. string_bytes path ≡ store_path root.now device) }
+{
     match format!(in alloc; "{root}/{device}") {
         Ok(path) => Ok(path),
         Err(_) => Err(AllocError),
@@ -73,24 +74,24 @@ impl<'a> SystemStores<'a> {
     }
 }
 
-impl<'a> Stores<SystemFolder<'a>> for SystemStores<'a> {
+impl<'a> Stores<DeviceFolder<'a>> for SystemStores<'a> {
     ghost is_known = { λ s. false };
 
     ghost files = { λ s root device name. None };
 
-    fn make(&self, alloc: Global, root: &str, device: u8) -> Result<SystemFolder<'a>, OpenFault> {
+    fn make(&self, alloc: Global, root: &str, device: u8) -> Result<DeviceFolder<'a>, OpenFault> {
         let Ok(path) = device_path(alloc, root, device) else {
             return Err(OpenFault::Memory);
         };
-        match make_folder(self.rt, path) {
+        match DeviceFolder::make(self.rt, path) {
             Ok(folder) => Ok(folder),
             Err(_) => Err(OpenFault::Unreadable),
         }
     }
 
-    fn at(&self, alloc: Global, root: &str, device: u8) -> Result<SystemFolder<'a>, AllocError> {
+    fn at(&self, alloc: Global, root: &str, device: u8) -> Result<DeviceFolder<'a>, AllocError> {
         match device_path(alloc, root, device) {
-            Ok(path) => Ok(system_folder(self.rt, path)),
+            Ok(path) => Ok(DeviceFolder::new(self.rt, path)),
             Err(_) => Err(AllocError),
         }
     }

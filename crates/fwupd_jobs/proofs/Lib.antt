@@ -5,6 +5,7 @@ mod Ended
 mod Examined
 mod Foretold
 mod Linked
+mod Lines
 mod Named
 mod Names
 mod Packed

@@ -1,15 +1,13 @@
 //! Explains why a job failed, below the line that reports it, and only on a terminal.
 
-ghost use Rattle.std.specs.Prelude.{◌≡◌, IfOk, IfSome, is_err, length};
+ghost use Rattle.std.specs.Prelude.{◌≡◌, is_err};
 ghost use Rattle.fw_package.specs.Reading.{package_of};
-ghost use Rattle.fw_script.specs.Schedules.{script_of};
 
+use crate::clue_lines::{package_lines, step_line};
 use crate::clues::{Clue, clue_to};
 use fw_package::Package;
-use fw_script::{ScriptCause, read_schedule};
-use fwupd_watch::{Files, JobFault, SystemFiles, folder_and_name, is_special};
+use fwupd_watch::{Files, JobFault, SystemFiles, folder_and_name, history_path, is_special};
 use fwupd_words::Job;
-use std::alloc::Global;
 use std::fs::OpenOptions;
 use std::io::{self, IsTerminal};
 use std::str;
@@ -51,29 +49,17 @@ fn explain_package(rt: &HostRuntime, config: &str) {
     let Ok(text) = str::from_utf8(&bytes) else {
         return;
     };
-    let mut number = 0u64;
-    for line in text.split('\n') {
-        number = number.saturating_add(1);
-        if let Some(path) = line.strip_prefix("package ") {
-            let Some(package) = read_again(rt, path) else {
-                return;
-            };
-            if is_no_package(&package) {
-                let _ = eprintln!(rt; "{config}: line {number}: {path}");
-                return;
-            }
+    let Ok(lines) = package_lines(rt.alloc(), text) else {
+        return;
+    };
+    for (number, path) in &lines {
+        let Some(package) = read_again(rt, path) else {
+            return;
+        };
+        if is_no_package(&package) {
+            let _ = eprintln!(rt; "{config}: line {number}: {path}");
+            return;
         }
-    }
-}
-
-/// The number of steps of a line of a schedule, if it can be read.
-fn steps_of(alloc: Global, line: &str) -> Option<usize>
-    ensures { IfSome result (λ count. IfOk (script_of line.now) (λ steps. count ≡ length steps)) }
-{
-    match read_schedule(alloc, line.as_bytes()) {
-        Ok(steps) => Some(steps.len()),
-        Err(fault) if fault.cause == ScriptCause::Memory => None,
-        Err(_) => Some(0),
     }
 }
 
@@ -85,18 +71,8 @@ fn explain_step(rt: &HostRuntime, schedule: &str, step: usize) {
     let Ok(text) = str::from_utf8(&bytes) else {
         return;
     };
-    let mut number = 0u64;
-    let mut steps = 0usize;
-    for line in text.split('\n') {
-        let Some(count) = steps_of(rt.alloc(), line) else {
-            return;
-        };
-        number = number.saturating_add(1);
-        steps = steps.saturating_add(count);
-        if steps >= step {
-            let _ = eprintln!(rt; "{schedule}: line {number}: {line}");
-            return;
-        }
+    if let Ok(Some((number, line))) = step_line(rt.alloc(), text, step) {
+        let _ = eprintln!(rt; "{schedule}: line {number}: {line}");
     }
 }
 
@@ -127,7 +103,7 @@ fn explain_unwritten(rt: &HostRuntime, path: &str) {
 
 /// Prints why the history of the stores in a folder can't be written.
 fn explain_history(rt: &HostRuntime, folder: &str) {
-    if let Ok(path) = format!(in rt.alloc(); "{folder}/history") {
+    if let Ok(path) = history_path(rt.alloc(), folder) {
         explain_unwritten(rt, &path);
     }
 }

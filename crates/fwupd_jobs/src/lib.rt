@@ -4,6 +4,7 @@
 
 mod building;
 mod checking;
+mod clue_lines;
 mod clues;
 mod explaining;
 mod inspecting;
@@ -27,8 +28,9 @@ mod write_behind;
 
 pub use building::build_file;
 pub use checking::update_checked;
+pub use fw_store::Durable;
 pub use fwupd_watch::{
-    Beginning, Durable, FileCalls, FileFault, FileIdentity, Files, HistoryFile, JobFault, Observer,
+    Beginning, FileCalls, FileFault, FileIdentity, Files, HistoryFile, JobFault, Observer,
     ObserverFault, Output, OutputPlaces, Recording, WholeFiles, texts_are_lines,
 };
 pub use fwupd_words::{Job, Order, Show, SoakOrder, TraceForm, parse};

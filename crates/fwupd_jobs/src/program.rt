@@ -7,6 +7,7 @@ ghost use Rattle.clap.specs.Values.{kind_of};
 ghost use Rattle.clap.specs.declared.error.kind.ErrorKind.TheVariants.{DisplayHelp, DisplayVersion, OutOfMemory};
 ghost use Rattle.fw_setup.specs.Stocks.{stores_in};
 ghost use Rattle.fwupd_jobs.specs.Jobs.{StatusSays, SystemSays};
+ghost use Rattle.fwupd_jobs.specs.Progress.{runs_of_job};
 
 use crate::explaining::explain;
 use crate::jobs::perform_job;
@@ -22,17 +23,36 @@ use fwupd_watch::{
     Files, JobFault, Observer, Observers, Output, OutputPlaces, SystemFiles, system_places,
 };
 use fwupd_words::{Job, parse};
+use std::fmt::{self, Display};
 use std::io::{self, ErrorKind, Read, Write};
 use std::process::ExitCode;
 
 /// The exit status of a usage error.
 pub(crate) const USAGE: u8 = 2;
 
+/// The line that reports the fault of a job.
+#[derive(Drop)]
+struct FailureLine<'a, F> {
+    fault: &'a F,
+}
+
+impl<'a, F: Display> Display for FailureLine<'a, F> {
+    ghost use Rattle.fwupd_jobs.specs.Failures.{failure_line};
+
+    ghost output = { λ line. failure_line (F.output line.fault.now) };
+
+    fn fmt<W: fmt::Write>(&self, f: &mut fmt::Formatter<W>) -> fmt::Result {
+        let fault = self.fault;
+        write!(f, "fwupd: {fault}\n")
+    }
+}
+
 /// Prints a fault on standard error, and returns its exit status.
 pub(crate) fn failed(rt: &HostRuntime, fault: &JobFault) -> ExitCode
     ensures { exit_status result ≡ 1 }
 {
-    let _ = eprintln!(rt; "fwupd: {fault}");
+    let line = FailureLine { fault };
+    let _ = eprint!(rt; "{line}");
     ExitCode::FAILURE
 }
 
@@ -89,7 +109,9 @@ fn status<
 }
 
 /// The number of runs of a job, if it is a soak.
-fn runs_of(job: &Job<'_>) -> u64 {
+fn runs_of(job: &Job<'_>) -> u64
+    ensures { result ≡ runs_of_job job.now }
+{
     match job {
         Job::Soak { order, .. } => u64::from(order.runs),
         _ => 0,

@@ -1,6 +1,7 @@
 //! Shows the progress of a soak on a terminal.
 
 use fw_soak::{SoakObserver, Summary};
+use std::fmt::{self, Display};
 use std::io::{IsTerminal, Print};
 use std::time::{Duration, Instant};
 
@@ -9,6 +10,28 @@ const PAUSE: u64 = 100;
 
 /// A blank line, which covers one that was shown.
 const BLANK: &str = "                                                ";
+
+/// The progress line of a soak. It overwrites the line before it.
+#[derive(Clone, Copy)]
+struct SoakLine {
+    /// The number of runs made.
+    runs: u64,
+    /// The number of violations found in them.
+    violations: u64,
+}
+
+impl Display for SoakLine {
+    ghost use Rattle.std.specs.Prelude.{Some};
+    ghost use Rattle.fwupd_jobs.specs.Progress.{soak_line};
+
+    ghost output = { λ line. Some (soak_line line.runs line.violations) };
+
+    fn fmt<W: fmt::Write>(&self, f: &mut fmt::Formatter<W>) -> fmt::Result {
+        let runs = self.runs;
+        let violations = self.violations;
+        write!(f, "\r{runs} runs, {violations} violations        ")
+    }
+}
 
 /// Shows on standard error, if it is a terminal, the number of runs made, at most ten times a
 /// second, until all are made.
@@ -61,9 +84,11 @@ impl<'a> SoakObserver for SoakProgress<'a> {
             return;
         }
         if self.is_terminal && self.is_due() {
-            let runs = summary.runs;
-            let violations = summary.violations;
-            let _ = eprint!(self.rt; "\r{runs} runs, {violations} violations        ");
+            let line = SoakLine {
+                runs: summary.runs,
+                violations: summary.violations,
+            };
+            let _ = eprint!(self.rt; "{line}");
         }
     }
 }

@@ -1,6 +1,7 @@
 //! Links over Unix sockets.
 
-ghost use Rattle.std.specs.Prelude.{◌==◌, ◌≡◌, IfOk, true};
+ghost use Rattle.std.specs.Prelude.{◌==◌, ◌≡◌, IfOk, string_bytes, true};
+ghost use Rattle.fwupd_jobs.specs.Sockets.{socket_path};
 ghost use Rattle.mctp_wire.specs.Units.{bytes_of};
 
 use crate::read_ahead::ReadAhead;
@@ -10,7 +11,7 @@ use crate::write_behind::WriteBehind;
 use fw_edge::StreamLink;
 use fwupd_watch::JobFault;
 use mctp_wire::Unit;
-use std::alloc::Global;
+use std::alloc::{AllocError, Global};
 use std::io::{self, IsTerminal};
 use std::os::unix::net::{UnixListener, UnixStream};
 
@@ -29,6 +30,16 @@ type Socket = ReadAhead<WriteBehind<UnixStream>>;
 
 /// A link over sockets.
 type SocketLink = StreamLink<Socket>;
+
+/// The path of the socket of a device in a folder.
+fn socket_path(alloc: Global, folder: &str, device: u8) -> Result<String, AllocError>
+    ensures { IfOk result (λ path. string_bytes path ≡ socket_path folder.now device) }
+{
+    match format!(in alloc; "{folder}/{device}.sock") {
+        Ok(path) => Ok(path),
+        Err(_) => Err(AllocError),
+    }
+}
 
 /// The buffered end of a connection.
 fn end(alloc: Global, stream: UnixStream) -> io::Result<Socket> {
@@ -104,7 +115,7 @@ impl<'a> Wires<SocketLink> for Sockets<'a> {
     ghost is_to = { λ unit folder device link. bytes_of link.unit == bytes_of unit };
 
     fn open(&mut self, unit: Unit, folder: &str, device: u8) -> Result<SocketLink, JobFault> {
-        let Ok(path) = format!(in self.rt.alloc(); "{folder}/{device}.sock") else {
+        let Ok(path) = socket_path(self.rt.alloc(), folder, device) else {
             return Err(JobFault::Memory);
         };
         match socket_link(self.rt.alloc(), &mut self.names, unit, &path) {

@@ -3,8 +3,10 @@ pub mod Happened
 pub mod Started
 mod Answering
 mod Begun
+mod Ends
 mod Noted
 mod Overs
+mod Paths
 mod Put
 mod Refused
 mod Shown

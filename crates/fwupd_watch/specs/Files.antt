@@ -1,5 +1,5 @@
 -- The knowledge of files, and which file a write overwrites.
-use Rattle.std.specs.Prelude.{ℕ, ◌≡◌, ◌≢◌, ◌⊎◌, Bool, true, false, List, [], ◌∷◌, Option, None, Some, IfSome}
+use Rattle.std.specs.Prelude.{ℕ, ◌≡◌, ◌≢◌, ◌⊎◌, Bool, true, false, List, [], ◌∷◌, Option, None, Some, IfSome, IsSomeAnd}
 use Rattle.fw_package.specs.Outlines.{IsBeginning}
 use Rattle.fwupd_watch.specs.declared.files.FileIdentity.{FileIdentity}
 
@@ -63,6 +63,11 @@ pub record AreTwoPlaces (first second : FileOf) : Type 0 where
   pub of_first : MayLie first one
   pub of_second : MayLie second other
   pub differ : IfSome one (λ place. other ≢ Some place)
+
+-- two names name the same directory entry: both folders exist and are one, and the names are equal
+abbrev pub IsOneEntry : (one_folder : Option FileIdentity) → (one_name : List ℕ) → (other_folder : Option FileIdentity) → (other_name : List ℕ) → Type 0
+IsOneEntry one_folder one_name other_folder other_name =
+    IsSomeAnd one_folder (λ folder. other_folder ≡ Some folder) × (one_name ≡ other_name)
 
 -- a file is in a folder or in one of its subfolders
 pub record IsInFolder (file folder : FileOf) : Type 0 where

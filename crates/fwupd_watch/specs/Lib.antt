@@ -3,6 +3,7 @@ pub mod Apart
 pub mod Files
 pub mod Histories
 pub mod Outputs
+pub mod Paths
 pub mod Places
 pub mod Progress
 pub mod Recordings

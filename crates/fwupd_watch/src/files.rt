@@ -1,9 +1,10 @@
 //! The files that a job reads.
 
 ghost use Rattle.std.specs.Io.KnownBytes.{IsAtEnd};
-ghost use Rattle.std.specs.Prelude.{◌≡◌, ◌≢◌, ◌∷◌, IfErr, IfOk, IfSome, IsSomeAnd, List, OnOk, option_map, false, map, string_bytes, true, ℕ};
+ghost use Rattle.std.specs.Prelude.{◌≡◌, ◌≢◌, ◌↔◌, ◌∷◌, IfErr, IfOk, IfSome, IsSomeAnd, List, OnOk, option_map, false, map, string_bytes, true, ℕ};
 ghost use Rattle.std.specs.List.{AllByRecursion};
-ghost use Rattle.fwupd_watch.specs.Files.{AreTwoPlaces, FileOf, IsApartFrom, IsInFolder, IsOnePlace, IsOutsideFolder, IsOver, IsOverOne, MayBe, MayBegin, MayHold, MayLink, any_file};
+ghost use Rattle.fwupd_watch.specs.Files.{AreTwoPlaces, FileOf, IsApartFrom, IsInFolder, IsOneEntry, IsOnePlace, IsOutsideFolder, IsOver, IsOverOne, MayBe, MayBegin, MayHold, MayLink, any_file};
+ghost use Rattle.fwupd_watch.specs.Paths.{IsFolderAndName};
 
 use crate::beginnings::{BEGINNING, Beginning, read_first};
 use fwupd_base::read_some;
@@ -224,8 +225,9 @@ impl<'a> Files for SystemFiles<'a> {
     fn is_one_place(&self, one: &str, other: &str) -> bool {
         let (one_folder, one_name) = folder_and_name(one);
         let (other_folder, other_name) = folder_and_name(other);
-        let folder = self.identity(one_folder);
-        folder.is_some() && folder == self.identity(other_folder) && one_name == other_name
+        let one_folder = self.identity(one_folder);
+        let other_folder = self.identity(other_folder);
+        is_one_entry(one_folder, one_name, other_folder, other_name)
     }
 
     #[tactic(auto, using(crate::proofs::AnyFiles::any_below))]
@@ -238,12 +240,29 @@ impl<'a> Files for SystemFiles<'a> {
 }
 
 /// Returns the folder of a path, and the file's name in it.
-pub fn folder_and_name(path: &str) -> (&str, &str) {
-    match path.rsplit_once('/') {
-        Some(("", name)) => ("/", name),
-        Some((folder, name)) => (folder, name),
-        None => (".", path),
+#[tactic(auto, using(crate::proofs::Paths::folders_and_names))]
+pub fn folder_and_name(path: &str) -> (&str, &str)
+    ensures { IsFolderAndName path.now result.0.now result.1.now }
+{
+    let Some((folder, name)) = path.rsplit_once('/') else {
+        return (".", path);
+    };
+    if folder.is_empty() {
+        return ("/", name);
     }
+    (folder, name)
+}
+
+/// Whether two names in folders, which may not exist, name the same directory entry.
+fn is_one_entry(
+    one_folder: Option<FileIdentity>,
+    one_name: &str,
+    other_folder: Option<FileIdentity>,
+    other_name: &str,
+) -> bool
+    ensures { result ≡ true ↔ IsOneEntry one_folder one_name.now other_folder other_name.now }
+{
+    one_folder.is_some() && one_folder == other_folder && one_name == other_name
 }
 
 /// Returns whether a path names a pipe, a device or a socket; opening one may block.

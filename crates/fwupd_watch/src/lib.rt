@@ -28,6 +28,7 @@ pub use files::{
     is_same_file, is_special,
 };
 pub use history::HistoryFile;
+pub use history_opening::history_path;
 pub use output::Output;
 pub use places::{FileCalls, OutputPlaces, WholeFiles, write_file};
 pub use recording::Recording;

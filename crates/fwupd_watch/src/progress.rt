@@ -2,7 +2,7 @@
 
 ghost use Rattle.std.specs.Prelude.{◌≡◌, IfOk, OnOk, codes};
 ghost use Rattle.fw_text.specs.Printing.{AppendsText, word_and_number};
-ghost use Rattle.fwupd_watch.specs.Progress.{end_asked, progress_line};
+ghost use Rattle.fwupd_watch.specs.Progress.{end_asked, latest_end, progress_line};
 ghost use Rattle.mctp_wire.specs.Packet.{packet_of};
 ghost use Rattle.mctp_wire.specs.declared.unit.Unit.TheVariants.{U128};
 
@@ -53,17 +53,20 @@ fn asked_by(packet: &[u8], device: u8) -> Option<u32>
     }
 }
 
-/// The number of bytes of its image that a device has requested, by the latest packets of its pair.
-fn asked(packets: &SentPackets<'_>, device: u8) -> u32 {
-    for back in 1..LATEST.min(packets.len()) + 1 {
-        let Some(packet) = packets.get(packets.len() - back) else {
-            return 0;
+/// The end of the bytes of its image that a device requested last, by the latest packets of its
+/// pair; 0 if it requested none in them.
+fn asked(packets: &SentPackets<'_>, device: u8) -> u32
+    ensures { result ≡ latest_end device packets.now }
+{
+    let latest = packets.behind(packets.len().saturating_sub(LATEST));
+    let mut end = 0;
+    for place in 0..latest.len() {
+        let Some(packet) = latest.get(place) else {
+            unreachable!()
         };
-        if let Some(end) = asked_by(packet.bytes, device) {
-            return end;
-        }
+        end = asked_by(packet.bytes, device).unwrap_or(end);
     }
-    0
+    end
 }
 
 /// The progress line of a device that loads an image of `size` bytes for a component and has

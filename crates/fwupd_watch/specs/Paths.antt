@@ -1,0 +1,20 @@
+-- Paths, as bytes.
+use Rattle.std.specs.Prelude.{ℕ, ◌≡◌, ◌≢◌, ◌⊎◌, List, [], ◌++◌, codes}
+use Rattle.std.specs.List.{AllByRecursion}
+
+-- the path of a name in a folder
+abbrev pub path_in : (folder name : List ℕ) → List ℕ
+path_in folder name = folder ++ (codes "/" ++ name)
+
+-- The folder of a path, and the name in it, which has no slash. A path without a slash is a name in
+-- the working folder, `.`, and one whose only slash is its first byte is a name in the root folder,
+-- `/`.
+pub record IsFolderAndName (path folder name : List ℕ) : Type 0 where
+  pub plain : AllByRecursion (λ byte. byte ≢ 47) name
+  pub parts : ((folder ≡ codes ".") × (path ≡ name))
+      ⊎ (((folder ≡ codes "/") × (path ≡ path_in [] name))
+      ⊎ ((folder ≢ []) × (path ≡ path_in folder name)))
+
+-- the path of the history of the stores in a folder
+abbrev pub history_path : (folder : List ℕ) → List ℕ
+history_path folder = path_in folder (codes "history")
