@@ -2,7 +2,6 @@
 #![tactic(auto)]
 
 mod banks;
-mod device_folder;
 mod forecast_laws;
 mod forecast_text;
 mod foretold;
@@ -12,13 +11,12 @@ mod store_banks;
 mod stores;
 
 pub use banks::{Banks, BanksFault, MemBanks, mem_bank};
-pub use device_folder::DeviceFolder;
 pub use forecast_laws::forecasts_sessions;
 pub use forecast_text::{forecast, known};
 pub use foretold::{
     component_word, first_lacked, key, passed, plan_word, running, sent_stamp, update_word,
 };
-pub use nodes::{opening_world, opening_world_over};
+pub use nodes::{device_node, opening_world, opening_world_over};
 pub use stocks::{configured_images, stock};
 pub use store_banks::StoreBanks;
 pub use stores::{Stores, SystemStores, Unopened, open_stores, read_stores};

@@ -62,9 +62,13 @@ fn device<B: Bank + Drop, M: Banks<B>>(
     Ok(Device::new(unit, descriptors, components, bank))
 }
 
-/// Creates the node of a device of the configuration.
+/// Creates the node of a device of the configuration, in a network with this transmission unit,
+/// before its first packet. Its agent has the endpoint identifier `agent`.
+///
+/// # Errors
+/// The fault of the device's bank, or `Memory` if memory for it is refused.
 #[tactic(auto, using(crate::proofs::Making::new_made))]
-fn node<B: Bank + Drop, M: Banks<B>>(
+pub fn device_node<B: Bank + Drop, M: Banks<B>>(
     alloc: Global,
     unit: Unit,
     agent: u8,
@@ -74,6 +78,7 @@ fn node<B: Bank + Drop, M: Banks<B>>(
     requires { IsDevice (device_of config.now) }
     ensures is { IfOk result (λ n. n ≡ node_made unit agent (device_of config.now)) }
     ensures new { IfOk result (IsNewNode unit agent) }
+    ensures components { IfOk result (λ n. HasComponents n.half.core.device) }
 {
     let device = device(alloc, unit, config, banks)?;
     Ok(DeviceNode::new(config.endpoint, agent, device))
@@ -93,7 +98,7 @@ fn node_all<B: Bank + Drop, M: Banks<B>>(
 {
     let mut nodes = Vec::new(alloc);
     for config in devices {
-        let node = node(alloc, unit, agent, config, banks)?;
+        let node = device_node(alloc, unit, agent, config, banks)?;
         let Ok(()) = nodes.push(node) else {
             return Err(BanksFault::Memory);
         };

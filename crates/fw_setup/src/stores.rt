@@ -7,11 +7,10 @@ ghost use Rattle.fw_setup.specs.Paths.{store_path};
 ghost use Rattle.fw_setup.specs.Stocks.{HaveStoredImages, IsFaulty, HasStoredImages, IsUnmade, IsUnopened, images_configured, stores_in};
 ghost use Rattle.fw_store.specs.Opening.{found_in};
 
-use crate::device_folder::DeviceFolder;
 use crate::stocks::{configured_images, stock};
 use crate::store_banks::StoreBanks;
 use fw_script::{ComponentConfig, DeviceConfig};
-use fw_store::{Folder, FolderStore, MemStore, OpenFault, open_store, read_store};
+use fw_store::{Folder, FolderStore, MemStore, OpenFault, SystemFolder, open_store, read_store};
 use std::alloc::{AllocError, Global};
 
 /// The device whose store isn't opened, and the cause.
@@ -74,24 +73,24 @@ impl<'a> SystemStores<'a> {
     }
 }
 
-impl<'a> Stores<DeviceFolder<'a>> for SystemStores<'a> {
+impl<'a> Stores<SystemFolder<'a>> for SystemStores<'a> {
     ghost is_known = { λ s. false };
 
     ghost files = { λ s root device name. None };
 
-    fn make(&self, alloc: Global, root: &str, device: u8) -> Result<DeviceFolder<'a>, OpenFault> {
+    fn make(&self, alloc: Global, root: &str, device: u8) -> Result<SystemFolder<'a>, OpenFault> {
         let Ok(path) = device_path(alloc, root, device) else {
             return Err(OpenFault::Memory);
         };
-        match DeviceFolder::make(self.rt, path) {
+        match SystemFolder::make(self.rt, path) {
             Ok(folder) => Ok(folder),
             Err(_) => Err(OpenFault::Unreadable),
         }
     }
 
-    fn at(&self, alloc: Global, root: &str, device: u8) -> Result<DeviceFolder<'a>, AllocError> {
+    fn at(&self, alloc: Global, root: &str, device: u8) -> Result<SystemFolder<'a>, AllocError> {
         match device_path(alloc, root, device) {
-            Ok(path) => Ok(DeviceFolder::new(self.rt, path)),
+            Ok(path) => Ok(SystemFolder::new(self.rt, path)),
             Err(_) => Err(AllocError),
         }
     }

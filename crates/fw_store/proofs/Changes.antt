@@ -1,11 +1,12 @@
 -- A folder by its changes.
-use Rattle.std.proofs.Common.{◌≡◌, ◌≢◌, ◌∙◌, ◌+◌, ◌-◌, ◌<◌, ◌++◌, inl, inr, ℕ, zero, suc, Bool, true, false, List, [], ◌∷◌, Option, Some, None, if◌then◌else◌, take, get_or, length, ap, refl, sym, subst, arith}
+use Rattle.std.proofs.Common.{◌≡◌, ◌≢◌, ◌∙◌, ◌+◌, ◌-◌, ◌<◌, ◌++◌, ◌⊎◌, inl, inr, ℕ, false, List, [], ◌∷◌, Option, Some, None, take, get_or, length, ap, refl, sym, subst, arith}
 use Rattle.std.specs.Str.{bytes_eq}
 use Rattle.std.proofs.lemmas.Bool.{cases_Bool}
-use Rattle.std.proofs.lemmas.List.{take_more}
-use Rattle.fw_store.specs.Folders.{Files, IsMoment, ChangesOnlyFile, RemovesFile, RenamesFile, LeavesFiles, WritesFile}
-use Rattle.fw_store.specs.Changes.{ChangeOf, files_after_change, changed_by, files_from, files_of, no_files, states_from, states_of}
-use Rattle.fw_store.specs.declared.known.Kind.{Kind}
+use Rattle.std.proofs.lemmas.List.{take_all, take_more}
+use Rattle.fw_store.specs.Folders.{Files, IsMoment, ChangesOnlyFile, LastsApartFrom, SettlesNames, RemovesFile, RenamesFile, RenamesInOrder, LeavesFiles, WritesFile}
+use Rattle.fw_store.specs.Changes.{ChangeOf, files_after_change, files_from, files_of, no_files, states_from, states_of, unsure_changes}
+use Rattle.fw_store.specs.declared.known.Failing.{Failing}
+use Rattle.fw_store.specs.declared.known.Failing.TheVariants as failing
 use Rattle.fw_store.specs.declared.known.Kind.TheVariants as kinds
 use Rattle.fw_store.proofs.ReadBack.{bytes_equal, bytes_same}
 
@@ -19,7 +20,7 @@ states_push : (f : Files) (past : List Files) (cs : List ChangeOf) (c : ChangeOf
 states_push f past [] c = refl
 states_push f past (x ∷ cs) c = states_push (files_after_change x f) (files_after_change x f ∷ past) cs c
 
-differs : (xs ys : List ℕ) → ys ≢ xs → bytes_eq xs ys ≡ false
+pub differs : (xs ys : List ℕ) → ys ≢ xs → bytes_eq xs ys ≡ false
 differs xs ys other = elim (cases_Bool (bytes_eq xs ys)) [
   | inl same ↦ absurd (other (sym (bytes_equal xs ys same)))
   | inr not ↦ not
@@ -72,13 +73,79 @@ same_files cs ds is = record { all = λ name. rw is refl }
 pub same_only : (cs ds : List ChangeOf) (name : List ℕ) → ds ≡ cs → ChangesOnlyFile (files_of cs) (files_of ds) name
 same_only cs ds name is = record { others = λ other o. rw is refl }
 
+pub one_state : (cs ds : List ChangeOf) (c : ChangeOf) → ds ≡ cs ++ c ∷ [] → states_of ds ≡ files_of ds ∷ states_of cs
+one_state cs ds c is = rw is (states_push no_files [] cs c)
+
 pub one_moment : (cs ds : List ChangeOf) (c : ChangeOf) → ds ≡ cs ++ c ∷ [] → IsMoment (files_of cs) (files_of ds) (states_of cs) (states_of ds)
 one_moment cs ds c is = inl (rw is (states_push no_files [] cs c))
 
 pub no_moment : (cs ds : List ChangeOf) → ds ≡ cs → IsMoment (files_of cs) (files_of ds) (states_of cs) (states_of ds)
 no_moment cs ds is = inr (ap states_of is, same_files cs ds is)
 
-pub ruleset calling = (put_wrote, put_only, moved_renamed, gone_only, same_files, same_only, one_moment, no_moment)
+-- a removal that failed: the file is removed, or nothing has changed
+pub failed_only : (cs ds : List ChangeOf) (name : List ℕ) (may : Type 0) → (ds ≡ cs) ⊎ (may × (ds ≡ cs ++ removing name [] ∷ [])) → ChangesOnlyFile (files_of cs) (files_of ds) name
+failed_only cs ds name may (inl same) = same_only cs ds name same
+failed_only cs ds name may (inr gone) = gone_only cs ds name [] gone.1
+
+pub failed_moment : (cs ds : List ChangeOf) (name : List ℕ) (may : Type 0) → (ds ≡ cs) ⊎ (may × (ds ≡ cs ++ removing name [] ∷ [])) → IsMoment (files_of cs) (files_of ds) (states_of cs) (states_of ds)
+failed_moment cs ds name may (inl same) = no_moment cs ds same
+failed_moment cs ds name may (inr gone) = one_moment cs ds (removing name []) gone.1
+
+-- a renaming that is unsure: the file is renamed, or nothing has changed
+unsure_either : (o : Option Failing) (cs ds : List ChangeOf) (c : ChangeOf) → Some ds ≡ unsure_changes o cs c → (ds ≡ cs) ⊎ (ds ≡ cs ++ c ∷ [])
+unsure_either (Some failing.Half) cs ds c is = inl (cc)
+unsure_either (Some failing.After) cs ds c is = inr (cc)
+unsure_either (Some failing.Before) cs ds c is = absurd (cc)
+unsure_either None cs ds c is = absurd (cc)
+
+unsure_moved : (cs ds : List ChangeOf) (name place : List ℕ) → (ds ≡ cs) ⊎ (ds ≡ cs ++ moving name place ∷ []) → LeavesFiles (files_of cs) (files_of ds) ⊎ RenamesFile (files_of cs) (files_of ds) name place
+unsure_moved cs ds name place (inl same) = inl (same_files cs ds same)
+unsure_moved cs ds name place (inr moved) = inr (moved_renamed cs ds name place moved)
+
+unsure_one : (cs ds : List ChangeOf) (c : ChangeOf) → (ds ≡ cs) ⊎ (ds ≡ cs ++ c ∷ []) → IsMoment (files_of cs) (files_of ds) (states_of cs) (states_of ds)
+unsure_one cs ds c (inl same) = no_moment cs ds same
+unsure_one cs ds c (inr one) = one_moment cs ds c one
+
+pub unsure_renamed : (o : Option Failing) (cs ds : List ChangeOf) (name place : List ℕ) → Some ds ≡ unsure_changes o cs (moving name place)
+    → LeavesFiles (files_of cs) (files_of ds) ⊎ RenamesFile (files_of cs) (files_of ds) name place
+unsure_renamed o cs ds name place is = unsure_moved cs ds name place (unsure_either o cs ds (moving name place) is)
+
+pub unsure_moment : (o : Option Failing) (cs ds : List ChangeOf) (name place : List ℕ) → Some ds ≡ unsure_changes o cs (moving name place)
+    → IsMoment (files_of cs) (files_of ds) (states_of cs) (states_of ds)
+unsure_moment o cs ds name place is = unsure_one cs ds (moving name place) (unsure_either o cs ds (moving name place) is)
+
+pub moved_ordered : (cs ds : List ChangeOf) (name place : List ℕ) → ds ≡ cs ++ moving name place ∷ [] → RenamesInOrder (files_of cs) (files_of cs) (files_of ds) name place
+moved_ordered cs ds name place is = λ settled. inr (record { others = (moved_renamed cs ds name place is).others })
+
+pub same_ordered : (cs ds : List ChangeOf) (name place : List ℕ) → ds ≡ cs → RenamesInOrder (files_of cs) (files_of cs) (files_of ds) name place
+same_ordered cs ds name place is = λ settled. inl ((same_files cs ds is).all place)
+
+either_ordered : (cs ds : List ChangeOf) (name place : List ℕ) → (ds ≡ cs) ⊎ (ds ≡ cs ++ moving name place ∷ []) → RenamesInOrder (files_of cs) (files_of cs) (files_of ds) name place
+either_ordered cs ds name place (inl same) = same_ordered cs ds name place same
+either_ordered cs ds name place (inr moved) = moved_ordered cs ds name place moved
+
+pub unsure_ordered : (o : Option Failing) (cs ds : List ChangeOf) (name place : List ℕ) → Some ds ≡ unsure_changes o cs (moving name place) → RenamesInOrder (files_of cs) (files_of cs) (files_of ds) name place
+unsure_ordered o cs ds name place is = either_ordered cs ds name place (unsure_either o cs ds (moving name place) is)
+
+pub moved_last : (cs ds : List ChangeOf) (name place : List ℕ) → ChangesOnlyFile (files_of cs) (files_of ds) place → LastsApartFrom (files_of cs) (files_of ds) name place
+moved_last cs ds name place only = record { others = λ other a b. only.others other b }
+
+pub same_last : (cs ds : List ChangeOf) (name place : List ℕ) → ds ≡ cs → LastsApartFrom (files_of cs) (files_of ds) name place
+same_last cs ds name place is = record { others = λ other a b. (same_files cs ds is).all other }
+
+pub ruleset calling = (one_state, moved_last, same_last, moved_ordered, same_ordered, unsure_ordered, put_wrote, put_only, moved_renamed, gone_only, gone_removed, failed_only, failed_moment, unsure_renamed, unsure_moment, same_files, same_only, one_moment, no_moment)
+
+-- the names are synced
+pub synced_all : (cs ds : List ChangeOf) → ds ≡ take (length cs) cs → LeavesFiles (files_of cs) (files_of ds)
+synced_all cs ds is = same_files cs ds (is ∙ take_all (length cs) cs (omega arith))
+
+pub synced_settles : (cs ds es : List ChangeOf) → es ≡ take (length cs) cs → SettlesNames (files_of cs) (files_of ds) (files_of es)
+synced_settles cs ds es is = record { each = λ name. inr ((synced_all cs es is).all name) }
+
+pub unsynced_settles : (cs ds es : List ChangeOf) → es ≡ ds → SettlesNames (files_of cs) (files_of ds) (files_of es)
+unsynced_settles cs ds es is = record { each = λ name. inl ((same_files ds es is).all name) }
+
+pub ruleset syncing = (synced_all, synced_settles, unsynced_settles, same_files)
 
 -- READING, FROM THE LAST CHANGE BACK
 

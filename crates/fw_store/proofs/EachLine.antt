@@ -1,6 +1,6 @@
 -- Consecutive lines that are read.
 use Rattle.std.proofs.Common.{◌≡◌, ◌∙◌, ◌+◌, ◌-◌, ◌<◌, ◌++◌, ℕ, zero, suc, List, [], ◌∷◌, Option, Some, None, length, option_map, append_assoc, append-nil, ap, refl, sym, arith}
-use Rattle.fw_store.specs.Active.{ImageEntryOf, entries_after, entries_from, entry_at}
+use Rattle.fw_store.specs.Active.{ImageEntryOf, entries_from, entry_at}
 
 -- some images, and those after them
 abbrev pub with_front : List ImageEntryOf → Option (List ImageEntryOf) → Option (List ImageEntryOf)

@@ -1,8 +1,8 @@
 -- The state of a folder after images were written to it.
-use Rattle.std.proofs.Common.{◌≡◌, ◌∙◌, ◌+◌, ◌<◌, ◌^◌, ◌++◌, ◌⊎◌, inl, inr, ℕ, Bool, true, false, List, [], ◌∷◌, Option, Some, None, is_some, map, option_map, ap, refl, sym, arith}
+use Rattle.std.proofs.Common.{◌≡◌, ◌∙◌, ◌+◌, ◌<◌, ◌^◌, ◌++◌, inl, inr, ℕ, Bool, true, false, List, [], ◌∷◌, Option, Some, None, is_some, map, option_map, ap, refl, sym, arith}
 use Rattle.std.specs.List.{AllByRecursion}
 use Rattle.fw_store.specs.Active.{ImageEntryOf, IsImageEntry}
-use Rattle.fw_store.specs.Folders.{Files, IsAfter, IsBefore, IsBeforeOrAfter, PassesStates, images_of, lines_by, stored_after, stored_in}
+use Rattle.fw_store.specs.Folders.{Files, IsAfter, IsBefore, IsBeforeOrAfter, LeavesFiles, PassesStates, active_name, images_of, lines_by, stored_after, stored_in}
 use Rattle.fw_store.specs.Keeping.{LeavesLowerFiles, WritesImages, IsSettled, MayHaveReplaced, IsSettledIfKnown, entries_after, entry_for, lines_left}
 use Rattle.fw_store.specs.Kept.{KeptOf}
 use Rattle.fw_store.proofs.Folders.{all_left, put_stored, settled_later, stored_of, stored_same}
@@ -60,6 +60,20 @@ ends_ok known n f h images es new small is are settled came = record {
   when = λ k sure. rw is (came_settled n (n + 1) f h images es small (omega arith) (settled.when k refl) (rw is at are) (rw is at came k));
 }
 
+-- what is on the disk is what is stored
+came_stored : (n : ℕ) (images : List KeptOf) (es : List ImageEntryOf) (f h l : Files) → WritesImages n images es f l → LeavesFiles h l → WritesImages n images es f h
+came_stored n images es f h l came same = record {
+  between = came.between;
+  apart = came.apart;
+  written = came.written;
+  put = record { here = sym (same.all active_name) ∙ came.put.here; others = λ name a b. sym (same.all name) ∙ came.put.others name a b };
+}
+
+pub ends_stored : (known : Bool) (n : ℕ) (f h l : Files) (images : List KeptOf) (es new : List ImageEntryOf) → n < 2 ^ 32 → new ≡ entries_after n images es → AllByRecursion IsImageEntry new
+    → IsSettledIfKnown known true n f es → (known ≡ true → WritesImages n images new f l) → (known ≡ true → LeavesFiles h l) → IsSettledIfKnown known true (n + 1) h new
+ends_stored known n f h l images es new small is are settled came same =
+    ends_ok known n f h images es new small is are settled (λ k. came_stored n images new f h l (came k) (same k))
+
 pub found_ok : (known : Bool) (n : ℕ) (f h : Files) (images : List KeptOf) (es new : List ImageEntryOf) → n < 2 ^ 32 → new ≡ entries_after n images es → AllByRecursion IsImageEntry new
     → IsSettledIfKnown known true n f es → known ≡ true → WritesImages n images new f h → IsAfter images f h
 found_ok known n f h images es new small is are settled k came = came_found n f h images es small (settled.when k refl) (rw is at are) (rw is at came)
@@ -78,4 +92,4 @@ pub through : (known : Bool) (n : ℕ) (f : Files) (images : List KeptOf) (es ne
 through known n f images es new past now small is are settled k passes =
     passes_wider (λ g may. moment_found n f images es small (settled.when k refl) (rw is at are) g (rw is at may)) passes
 
-pub ruleset ending = (ends_ok, found_ok, ends_same, found_same, ends_unsure, through, passes_none)
+pub ruleset ending = (ends_ok, ends_stored, found_ok, ends_same, found_same, ends_unsure, through, passes_none)

@@ -1,16 +1,14 @@
 -- The images read from a folder after the calls that keep images in it.
-use Rattle.std.proofs.Common.{◌≡◌, ◌≢◌, ◌∙◌, ◌+◌, ◌<◌, ◌^◌, ◌==◌, ◌&&◌, ◌++◌, ◌⊎◌, inl, inr, ℕ, zero, suc, Bool, true, false, List, [], ◌∷◌, Option, Some, None, codes, if◌then◌else◌, is_some, length, map, option_map, option_and_then, append_assoc, append-nil, ap, refl, sym, subst, arith}
+use Rattle.std.proofs.Common.{◌≡◌, ◌≢◌, ◌∙◌, ◌<◌, ◌^◌, ◌==◌, ◌&&◌, ◌++◌, inl, inr, ℕ, Bool, true, false, List, [], ◌∷◌, Option, Some, None, codes, if◌then◌else◌, is_some, length, map, option_map, option_and_then, append-nil, ap, refl, sym, subst, arith}
 use Rattle.std.specs.List.{AllByRecursion}
-use Rattle.std.proofs.lemmas.Bool.{and_parts, cases_Bool, eq-eqb, eqb-true}
+use Rattle.std.proofs.lemmas.Bool.{cases_Bool, eq-eqb}
 use Rattle.fw_package.specs.Crc.{crc_of}
-use Rattle.fd_core.specs.Banks.{HaveKeysOnce, has_key}
-use Rattle.fd_core.specs.Images.{ImageOf, same_key}
 use Rattle.fwup_wire.specs.declared.values.Key.{Key}
-use Rattle.fw_store.specs.Active.{ImageEntryOf, IsImageEntry, active_text, entries_of, image_name, name_at, key_at, number_at, field_at}
-use Rattle.fw_store.specs.Folders.{Files, ChangesOnlyFile, PassesStates, RenamesFile, LeavesFiles, WritesFile, active_name, image_by, images_of, lines_by, new_name, others_than, stored_after, stored_in, with_image}
+use Rattle.fw_store.specs.Active.{ImageEntryOf, IsImageEntry, image_name, name_at, key_at, number_at, field_at}
+use Rattle.fw_store.specs.Folders.{Files, ChangesOnlyFile, active_name, image_by, images_of, lines_by, new_name, others_than, stored_after, stored_in, with_image}
 use Rattle.fw_store.specs.Keeping.{LeavesLowerFiles, ChangesOnlyNewFile, IsSettled, WritesActive, entries_after, entry_for, entry_key, lines_left, IsKey}
 use Rattle.fw_store.specs.Kept.{KeptOf, image_for}
-use Rattle.fw_store.proofs.ReadBack.{name_apart, name_back, written_is_read}
+use Rattle.fw_store.proofs.ReadBack.{name_apart, name_back}
 
 -- NAMES
 

@@ -1,5 +1,5 @@
 -- Consecutive images that are read, and lines of other components.
-use Rattle.std.proofs.Common.{◌≡◌, ◌∙◌, ◌+◌, ◌<◌, ◌++◌, ℕ, Bool, true, false, List, [], ◌∷◌, Option, Some, None, if◌then◌else◌, drop, get_or, is_some, length, option_map, append_assoc, append-nil, ap, refl, sym, arith}
+use Rattle.std.proofs.Common.{◌≡◌, ◌+◌, ◌<◌, ◌++◌, ℕ, true, false, List, [], ◌∷◌, Option, Some, None, drop, get_or, is_some, length, option_map, append_assoc, append-nil, ap, refl, sym}
 use Rattle.std.proofs.lemmas.List.{drop_all, drop_more}
 use Rattle.fw_store.specs.Active.{ImageEntryOf, image_name}
 use Rattle.fw_store.specs.Folders.{Files, image_by, images_of, with_image}

@@ -1,5 +1,5 @@
 -- Lines that stay, and components that occur once.
-use Rattle.std.proofs.Common.{◌≡◌, ◌∙◌, ◌+◌, ◌-◌, ◌<◌, ◌++◌, ◌||◌, ℕ, Bool, true, false, List, [], ◌∷◌, Option, Some, None, if◌then◌else◌, drop, take, get_or, is_some, length, map, option_map, ap, refl, sym, subst, arith}
+use Rattle.std.proofs.Common.{◌≡◌, ◌+◌, ◌-◌, ◌<◌, ◌++◌, ℕ, Bool, true, false, List, [], ◌∷◌, Option, Some, None, if◌then◌else◌, drop, take, get_or, is_some, length, map, option_map, refl, sym, arith}
 use Rattle.std.specs.List.{AllByRecursion}
 use Rattle.std.proofs.lemmas.List.{drop_more, take_all, take_more}
 use Rattle.std.proofs.lemmas.Bool.{or_from}

@@ -1,5 +1,6 @@
 mod Changes
 mod Decimals
+mod DiskCases
 mod EachLine
 mod Ending
 mod Fields
@@ -8,6 +9,7 @@ mod Found
 mod FoundImages
 mod Keeping
 mod Left
+mod Listing
 mod Moments
 mod ReadBack
 mod Swept

@@ -1,5 +1,5 @@
 -- The states of a folder.
-use Rattle.std.proofs.Common.{◌≡◌, ◌≢◌, ◌∙◌, ◌+◌, ◌<◌, ◌^◌, ◌==◌, ◌||◌, ◌++◌, ◌⊎◌, inl, inr, ℕ, Bool, true, false, List, [], ◌∷◌, Option, Some, None, drop, take, get_or, length, subst, map, ap, refl, sym, arith}
+use Rattle.std.proofs.Common.{◌≡◌, ◌≢◌, ◌∙◌, ◌+◌, ◌<◌, ◌^◌, ◌++◌, ◌⊎◌, inl, inr, ℕ, true, false, List, [], ◌∷◌, drop, take, get_or, length, subst, map, ap, refl, sym}
 use Rattle.std.specs.List.{AllByRecursion}
 use Rattle.std.specs.Prelude.{Result, Ok, Err, IfErr, OnOk}
 use Rattle.std.proofs.lemmas.List.{drop_more, take-append-drop, take_more}
@@ -9,7 +9,7 @@ use Rattle.fd_core.specs.Images.{same_key}
 use Rattle.fwup_wire.specs.declared.values.Key.{Key}
 use Rattle.fw_store.specs.Active.{ImageEntryOf, active_text, image_name}
 use Rattle.fw_store.specs.Folders.{Files, IsMoment, ChangesOnlyFile, PassesStates, RenamesFile, LeavesFiles, WritesFile, active_name, new_name}
-use Rattle.fw_store.specs.Keeping.{LeavesLowerFiles, AreWritten, ChangesOnlyNewFile, WritesImages, IsKey, IsStoring, ReplacesActive, ReplacesOnDisk, IsStopped, FailsToReplaceActive, IsWriting, MayHaveReplaced, WritesActive}
+use Rattle.fw_store.specs.Keeping.{LeavesLowerFiles, AreWritten, ChangesOnlyNewFile, HoldsText, WritesImages, IsKey, IsStoring, ReplacesActive, ReplacesOnDisk, IsStopped, FailsToReplaceActive, IsWriting, MayHaveReplaced}
 use Rattle.fw_store.specs.Kept.{KeptOf}
 use Rattle.fw_store.proofs.Folders.{apart_image, apart_new, apart_self, active_not_new, keys_apart, no_new}
 
@@ -142,6 +142,11 @@ when_ok (Err e) f p q = tt
 pub when_err : {A E : Type 0} {P Q : E → Type 0} (r : Result A E) → ((e : E) → P e → Q e) → IfErr r P → IfErr r Q
 when_err (Ok x) f h = tt
 when_err (Err e) f h = f e h
+
+-- the text is whole under one of its two names
+pub held_whole : (f g h : Files) (text : List ℕ) → WritesFile f g new_name text → LeavesFiles g h ⊎ RenamesFile g h new_name active_name → HoldsText text h
+held_whole f g h text wrote (inl same) = inl (same.all new_name ∙ wrote.here)
+held_whole f g h text wrote (inr renamed) = inr (renamed.here ∙ wrote.here)
 
 -- the two calls, on the disk
 pub put_lasting : (f g h l : Files) (text : List ℕ) → WritesFile f g new_name text → RenamesFile g h new_name active_name → LeavesFiles h l → ReplacesOnDisk text f l

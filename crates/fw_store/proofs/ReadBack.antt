@@ -1,5 +1,5 @@
 -- An encoded list of images reads back.
-use Rattle.std.proofs.Common.{◌≡◌, ◌∙◌, ◌<◌, ◌≤◌, ◌^◌, ◌-◌, ◌/◌, ◌%◌, ◌==◌, ◌&&◌, ◌++◌, take, ℕ, zero, suc, Bool, true, false, List, [], ◌∷◌, Ok, Option, Some, None, codes, decimal, if◌then◌else◌, length, length-append, slice_index, append_assoc, append-nil, ap, refl, sym, subst, arith}
+use Rattle.std.proofs.Common.{◌≡◌, ◌∙◌, ◌<◌, ◌≤◌, ◌^◌, ◌-◌, ◌/◌, ◌%◌, ◌==◌, ◌++◌, take, ℕ, zero, suc, Bool, true, false, List, [], ◌∷◌, Ok, Option, Some, None, codes, decimal, if◌then◌else◌, length, length-append, slice_index, append_assoc, append-nil, ap, refl, sym, subst, arith}
 use Rattle.std.specs.Char.{is_ascii_digit}
 use Rattle.std.specs.Int.{from_be_bytes, w32}
 use Rattle.std.specs.List.{AllByRecursion, list_all}
@@ -10,7 +10,6 @@ use Rattle.std.proofs.lemmas.Bool.{and_parts, and_right, eq-eqb, eqb-true, le-le
 use Rattle.std.proofs.lemmas.Bool.Decides.{nat_tests}
 use Rattle.std.proofs.lemmas.Fmt.{decimal_is_IsNumeral}
 use Rattle.std.proofs.lemmas.Grind.{common_steps}
-use Rattle.std.proofs.lemmas.Nat.{from_be_bytes-to_be_bytes_4}
 use Rattle.std.proofs.lemmas.Str.Parse.{digit_from_value}
 use Rattle.hex.proofs.HexLemmas.{IsDigits-upper_digits, decode_of-encode_upper, decode_sized-twice, length-encode_with}
 use Rattle.hex.specs.Hex.{IsBytes, decode_sized, encode_upper, encode_with, hex_digit_value, upper_digits}
@@ -18,7 +17,7 @@ use Rattle.fw_package.specs.Crc.{crc_of}
 use Rattle.fw_text.specs.Printing.{data_text, in_eight, word_and_number}
 use Rattle.fd_core.specs.Images.{LabelOf}
 use Rattle.fwup_wire.specs.declared.values.Key.{Key}
-use Rattle.fw_store.specs.Active.{ImageEntryOf, IsImageEntry, NothingElseIsRead, WhatIsWrittenIsRead, active_text, lines_with_checksum, lines_in, lines_text, checksum_at, checksum_in, data_in, digits_in, entries_from, entries_of, entry_at, field_at, four_bytes, if_written, image_name, key_at, label_at, label_text, line_of, name_at, number_at, number_in}
+use Rattle.fw_store.specs.Active.{ImageEntryOf, IsImageEntry, NothingElseIsRead, WhatIsWrittenIsRead, active_text, lines_with_checksum, lines_in, lines_text, checksum_at, checksum_in, data_in, digits_in, entries_from, entry_at, if_written, image_name, key_at, label_at, label_text, line_of, name_at, number_at, number_in}
 use Rattle.fw_store.specs.Keeping.{IsKey}
 use Rattle.fw_store.proofs.Fields.{HasNone, field_back}
 use Rattle.fw_store.proofs.EachLine.{mapped_id, read_more, with_front}

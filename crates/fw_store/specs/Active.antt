@@ -1,11 +1,11 @@
 -- The text `active`: the active image of each component, and its file.
-use Rattle.std.specs.Prelude.{ℕ, zero, suc, [], ◌∷◌, ◌++◌, ◌+◌, ◌-◌, ◌/◌, ◌<◌, ◌≤◌, ◌≡◌, ◌^◌, ◌&&◌, ◌==◌, Bool, List, None, Option, Result, Ok, Err, Some, codes, decimal, drop, if◌then◌else◌, length, nat_le, option_map, option_and_then, take}
+use Rattle.std.specs.Prelude.{ℕ, zero, suc, [], ◌∷◌, ◌++◌, ◌+◌, ◌-◌, ◌/◌, ◌<◌, ◌≤◌, ◌≡◌, ◌^◌, ◌&&◌, ◌==◌, List, None, Option, Result, Ok, Err, Some, codes, drop, if◌then◌else◌, length, nat_le, max, option_map, option_and_then, take}
 use Rattle.std.specs.Char.{is_ascii_digit}
 use Rattle.std.specs.Int.{from_be_bytes, w32}
 use Rattle.std.specs.List.{AllByRecursion, flat_map, list_all, position}
 use Rattle.std.specs.Str.{bytes_eq}
 use Rattle.std.specs.Str.Parse.{digits_value}
-use Rattle.hex.specs.Hex.{IsBytes, decode_sized, encode_upper}
+use Rattle.hex.specs.Hex.{IsBytes, decode_sized}
 use Rattle.hex.specs.declared.error.FromHexError.{FromHexError}
 use Rattle.fw_package.specs.Crc.{crc_of}
 use Rattle.fw_text.specs.Printing.{data_text, in_eight, word_and_number}
@@ -47,6 +47,15 @@ lines_with_checksum lines = lines ++ in_eight (codes "") (crc_of lines) ++ codes
 
 abbrev pub active_text : List ImageEntryOf → List ℕ
 active_text es = lines_with_checksum (lines_text es)
+
+-- the number after the greatest one of the lines, counted from `next` at least
+abbrev pub number_from : (next : ℕ) → List ImageEntryOf → ℕ
+number_from next [] = next
+number_from next (e ∷ es) = number_from (max next (e.number + 1)) es
+
+-- the number of the next files: the first one is 1
+abbrev pub next_number : List ImageEntryOf → ℕ
+next_number es = number_from 1 es
 
 -- ITS READING
 

@@ -1,16 +1,23 @@
 -- A folder of files, the images that a store reads from it, and the effects of its calls.
-use Rattle.std.specs.Prelude.{ℕ, zero, suc, [], ◌∷◌, ◌++◌, ◌+◌, ◌<◌, ◌≡◌, ◌≢◌, ◌⊎◌, ◌&&◌, ◌==◌, Bool, true, List, None, Option, Some, codes, if◌then◌else◌, is_some, length, map, option_map, option_and_then}
+use Rattle.std.specs.Prelude.{ℕ, [], ◌∷◌, ◌++◌, ◌≡◌, ◌≢◌, ◌⊎◌, ◌&&◌, ◌==◌, ◌||◌, Bool, false, List, None, Option, Some, codes, if◌then◌else◌, is_some, length, option_map, option_and_then}
 use Rattle.std.specs.List.{AllByRecursion}
+use Rattle.std.specs.Str.{bytes_eq}
 use Rattle.fw_package.specs.Crc.{crc_of}
-use Rattle.fd_core.specs.Banks.{has_key}
-use Rattle.fd_core.specs.Images.{same_key}
-use Rattle.fwup_wire.specs.declared.values.Key.{Key}
-use Rattle.fw_store.specs.Active.{ImageEntryOf, IsImageEntry, active_text, entries_of, image_name}
+use Rattle.fw_store.specs.Active.{ImageEntryOf, entries_of, image_name}
 use Rattle.fw_store.specs.Kept.{KeptOf, image_for, kept_after}
 
 -- the files of a folder: the bytes of each existing name
 abbrev pub Files : Type 0
 Files = List ℕ → Option (List ℕ)
+
+-- whether a name is in a list
+abbrev pub has_name : List (List ℕ) → List ℕ → Bool
+has_name [] name = false
+has_name (other ∷ names) name = bytes_eq other name || has_name names name
+
+-- these are the names of all existing files, and no others
+pub record NamesFiles (names : List (List ℕ)) (files : Files) : Type 0 where
+  pub each : (name : List ℕ) → has_name names name ≡ is_some (files name)
 
 -- READING
 

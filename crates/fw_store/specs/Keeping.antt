@@ -1,6 +1,6 @@
 -- Writing images to a folder: their files first, with unused names, and then the text that names
 -- them.
-use Rattle.std.specs.Prelude.{ℕ, [], ◌∷◌, ◌++◌, ◌<◌, ◌^◌, ◌≡◌, ◌≢◌, ◌⊎◌, true, Bool, List, Option, Some, if◌then◌else◌, is_some, length, map}
+use Rattle.std.specs.Prelude.{ℕ, [], ◌∷◌, ◌++◌, ◌<◌, ◌^◌, ◌≡◌, ◌≢◌, ◌⊎◌, true, Bool, List, Some, if◌then◌else◌, is_some, length, map}
 use Rattle.std.specs.List.{AllByRecursion}
 use Rattle.fw_package.specs.Crc.{crc_of}
 use Rattle.fwup_wire.specs.declared.values.Key.{Key}
@@ -85,6 +85,10 @@ pub record ReplacesActive (text : List ℕ) (before after : Files) (past now : L
   pub middle : List Files
   pub first : IsMoment before between past middle
   pub second : IsMoment between after middle now
+
+-- a text is whole under `active.new`, or is `active`
+abbrev pub HoldsText : List ℕ → Files → Type 0
+HoldsText text files = (files new_name ≡ Some text) ⊎ (files active_name ≡ Some text)
 
 -- a text didn't replace `active`, in one call or in two
 pub record FailsToReplaceActive (before after : Files) (past now : List Files) : Type 0 where

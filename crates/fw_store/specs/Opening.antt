@@ -43,9 +43,3 @@ pub record IsUntouched (es : List ImageEntryOf) (before after : Files) : Type 0 
   pub active : after active_name ≡ before active_name
   pub named : AllByRecursion (λ e. after (image_name e.key e.number) ≡ before (image_name e.key e.number)) es
   pub others : (name : List ℕ) → is_ours name ≡ false → name ≢ active_name → after name ≡ before name
-
--- a file with a store's name that no line names and that isn't `active`
-pub record IsUnnamedFile (es : List ImageEntryOf) (name : List ℕ) : Type 0 where
-  pub ours : is_ours name ≡ true
-  pub other : active_name ≢ name
-  pub unnamed : AllByRecursion (λ e. image_name e.key e.number ≢ name) es

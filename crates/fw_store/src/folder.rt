@@ -1,7 +1,7 @@
 //! Folders of files.
 
-ghost use Rattle.std.specs.Prelude.{◌≡◌, ◌⊎◌, Bool, IfErr, IfOk, List, OnErr, OnOk, Option, option_map, true, ℕ};
-ghost use Rattle.fw_store.specs.Folders.{ChangesOnlyFile, IsMoment, LeavesFiles, RemovesFile, RenamesFile, RenamesInOrder, WritesFile};
+ghost use Rattle.std.specs.Prelude.{◌≡◌, ◌⊎◌, Bool, IfErr, IfOk, List, OnErr, OnOk, Option, map, option_map, true, ℕ};
+ghost use Rattle.fw_store.specs.Folders.{ChangesOnlyFile, IsMoment, LeavesFiles, NamesFiles, RemovesFile, RenamesFile, RenamesInOrder, WritesFile};
 
 use std::alloc::Global;
 use thiserror::Error;
@@ -28,9 +28,11 @@ pub enum RenameFault {
 /// If the content is known, `files` are the bytes of each name, and `moments` are the states of the
 /// files, one after each call that changed any, the last one first. `stored` are the bytes of each
 /// name that are on the disk, and `lasting` those that a loss of power leaves, which depends on the
-/// names that are on the disk.
+/// names that are on the disk. `may_fail` is whether reading or removing a file can fail.
 pub trait Folder {
     ghost is_known: { Self → Bool };
+
+    ghost may_fail: { Self → Bool };
 
     ghost files: { Self → List ℕ → Option (List ℕ) };
 
@@ -45,7 +47,8 @@ pub trait Folder {
     /// # Errors
     /// The file can't be read, or memory can't be allocated.
     fn read(&self, alloc: Global, name: &[u8]) -> Result<Option<Vec<u8>>, FolderFault>
-        ensures { IfOk result (λ r. is_known self.now ≡ true → option_map (λ b. b.items) r ≡ files self.now name.now) };
+        ensures value { IfOk result (λ r. is_known self.now ≡ true → option_map (λ b. b.items) r ≡ files self.now name.now) }
+        ensures fault { OnErr result (may_fail self.now ≡ true) };
 
     /// Writes a file and syncs its bytes to the disk. An existing file loses its bytes first.
     ///
@@ -55,7 +58,8 @@ pub trait Folder {
         ensures known { is_known self.new ≡ is_known self.old }
         ensures ok { OnOk result (is_known self.old ≡ true → WritesFile (files self.old) (files self.new) name.now bytes.now) }
         ensures err { OnErr result (is_known self.old ≡ true → ChangesOnlyFile (files self.old) (files self.new) name.now) }
-        ensures stored { OnOk result (is_known self.old ≡ true → WritesFile (stored self.old) (stored self.new) name.now bytes.now) }
+        ensures stored { OnOk result (is_known self.old ≡ true
+            → WritesFile (stored self.old) (stored self.new) name.now bytes.now) }
         ensures stays { is_known self.old ≡ true
             → ChangesOnlyFile (stored self.old) (stored self.new) name.now
             × ChangesOnlyFile (lasting self.old) (lasting self.new) name.now }
@@ -78,7 +82,8 @@ pub trait Folder {
             → is_known self.old ≡ true
             → LeavesFiles (files self.old) (files self.new)
             ⊎ RenamesFile (files self.old) (files self.new) name.now place.now) }
-        ensures stored { OnOk result (is_known self.old ≡ true → RenamesFile (stored self.old) (stored self.new) name.now place.now) }
+        ensures stored { OnOk result (is_known self.old ≡ true
+            → RenamesFile (stored self.old) (stored self.new) name.now place.now) }
         ensures lasts { OnOk result (is_known self.old ≡ true → LeavesFiles (stored self.new) (lasting self.new)) }
         ensures ordered { is_known self.old ≡ true
             → RenamesInOrder (stored self.old) (lasting self.old) (lasting self.new) name.now
@@ -92,6 +97,8 @@ pub trait Folder {
     /// The file can't be removed. Then nothing is known of this file.
     fn remove(&mut self, name: &[u8]) -> Result<(), FolderFault>
         ensures known { is_known self.new ≡ is_known self.old }
+        ensures fails { may_fail self.new ≡ may_fail self.old }
+        ensures fault { OnErr result (may_fail self.old ≡ true) }
         ensures ok { OnOk result (is_known self.old ≡ true → RemovesFile (files self.old) (files self.new) name.now) }
         ensures stays { is_known self.old ≡ true
             → ChangesOnlyFile (stored self.old) (stored self.new) name.now
@@ -104,5 +111,8 @@ pub trait Folder {
     ///
     /// # Errors
     /// The names can't be read, or memory can't be allocated.
-    fn names(&self, alloc: Global) -> Result<Vec<Vec<u8>>, FolderFault>;
+    fn names(&self, alloc: Global) -> Result<Vec<Vec<u8>>, FolderFault>
+        ensures names { IfOk result (λ names. is_known self.now ≡ true
+            → NamesFiles (map (λ name. name.items) names.items) (files self.now)) }
+        ensures fault { OnErr result (may_fail self.now ≡ true) };
 }

@@ -1,10 +1,11 @@
 //! A store in a folder.
 
-ghost use Rattle.std.specs.Prelude.{◌≡◌, ◌⊎◌, IfErr, OnErr, OnOk, true};
+ghost use Rattle.std.specs.Prelude.{◌≡◌, ◌⊎◌, ◌+◌, IfErr, OnErr, OnOk, false, true};
 ghost use Rattle.fw_store.specs.Folders.{IsAfter, IsBefore, IsBeforeOrAfter, PassesStates};
 ghost use Rattle.fw_store.specs.Keeping.{IsSettledIfKnown};
 ghost use Rattle.fw_store.specs.Kept.{kept_after};
 ghost use Rattle.fw_store.specs.Opening.{IsUntouched};
+ghost use Rattle.fw_store.specs.Strays.{ChangesOnlyStrays, RemovesStrays};
 
 use crate::entry::ImageEntry;
 use crate::faults::OpenFault;
@@ -20,7 +21,7 @@ use std::alloc::Global;
 ///
 /// The store is settled if the folder's `active` has its lines, the lines' images are there, and
 /// the number of each line is below the store's next one. A number is used once, even if the call
-/// fails.
+/// fails; a call that doesn't use it changes nothing.
 /// The store is sure until the folder can't report whether a text replaced `active`. Then it keeps
 /// no more images, and the next opening of the folder finds the images that were kept or those that
 /// were to be kept.
@@ -111,7 +112,15 @@ impl<F: Folder + Drop> FolderStore<F> {
             → self.old.is_sure ≡ true
             → PassesStates (IsBefore (F.files self.old.folder)) (F.moments self.old.folder)
             (F.moments self.new.folder) }
-        ensures unread { IfErr result (λ e. e ≡ OpenFault.Unreadable → self.new ≡ self.old) }
+        ensures only { F.is_known self.old.folder ≡ true
+            → ChangesOnlyStrays self.old.entries.items (F.files self.old.folder)
+            (F.files self.new.folder) }
+        ensures swept { OnOk result (F.is_known self.old.folder ≡ true
+            → F.may_fail self.old.folder ≡ false
+            → RemovesStrays self.old.entries.items (F.files self.old.folder)
+            (F.files self.new.folder)) }
+        ensures unread { IfErr result (λ e. e ≡ OpenFault.Unreadable
+            → (self.new ≡ self.old) × (F.may_fail self.old.folder ≡ true)) }
         ensures fault { IfErr result (λ e. (e ≡ OpenFault.Unreadable) ⊎ (e ≡ OpenFault.Memory)) }
     {
         let Ok(names) = self.folder.names(self.alloc) else {
@@ -139,6 +148,8 @@ impl<F: Folder + Drop> FolderStore<F> {
         ensures err { OnErr result (self.new.memory.images.items ≡ self.old.memory.images.items) }
         ensures known { F.is_known self.new.folder ≡ F.is_known self.old.folder }
         ensures sure { OnOk result (self.new.is_sure ≡ true) }
+        ensures next { OnOk result (self.new.next ≡ self.old.next + 1) }
+        ensures unused { OnErr result ((self.new.next ≡ self.old.next + 1) ⊎ (self.new ≡ self.old)) }
         ensures settled { IsSettledIfKnown (F.is_known self.old.folder) self.old.is_sure
             self.old.next (F.files self.old.folder) self.old.entries.items
             → IsSettledIfKnown (F.is_known self.new.folder) self.new.is_sure self.new.next
@@ -151,6 +162,10 @@ impl<F: Folder + Drop> FolderStore<F> {
             self.old.next (F.stored self.old.folder) self.old.entries.items
             → F.is_known self.old.folder ≡ true
             → IsAfter images.now (F.stored self.old.folder) (F.lasting self.new.folder)) }
+        ensures stored { OnOk result (IsSettledIfKnown (F.is_known self.old.folder)
+            self.old.is_sure self.old.next (F.stored self.old.folder) self.old.entries.items
+            → IsSettledIfKnown (F.is_known self.new.folder) self.new.is_sure self.new.next
+            (F.stored self.new.folder) self.new.entries.items) }
         ensures stays { OnErr result (IsSettledIfKnown (F.is_known self.old.folder) self.old.is_sure
             self.old.next (F.files self.old.folder) self.old.entries.items
             → F.is_known self.old.folder ≡ true

@@ -1,8 +1,8 @@
 //! A folder in memory whose content, present and past, is known.
 
-ghost use Rattle.std.specs.Prelude.{◌≡◌, ◌∷◌, ◌++◌, [], IfOk, List, OnErr, OnOk, Option, length, option_map, take, true, ℕ};
-ghost use Rattle.fw_store.specs.Folders.{IsMoment, ChangesOnlyFile, RenamesFile, LeavesFiles, WritesFile};
-ghost use Rattle.fw_store.specs.Changes.{files_after_change, files_of, seen_by, states_of};
+ghost use Rattle.std.specs.Prelude.{◌≡◌, ◌∷◌, ◌++◌, ◌+◌, ◌-◌, ◌<◌, ◌^◌, ◌⊎◌, [], IfErr, IfOk, List, None, OnErr, OnOk, Option, Some, length, map, option_map, take, true, ℕ};
+ghost use Rattle.fw_store.specs.Folders.{ChangesOnlyFile, IsMoment, WritesFile, has_name};
+ghost use Rattle.fw_store.specs.Changes.{ListsName, failure_of, files_after_change, files_of, may_remove, moved_to, name_after, removal_of, seen_by, states_of, unsure_changes};
 
 use crate::folder::{Folder, FolderFault, RenameFault};
 use std::alloc::{AllocError, Global};
@@ -32,7 +32,7 @@ pub enum Kind {
 
 /// A change of one file.
 #[derive(Drop)]
-struct Change {
+pub(crate) struct Change {
     kind: Kind,
     name: Vec<u8>,
     /// The file's bytes, or its new name.
@@ -52,14 +52,14 @@ impl Model for Change {
 #[derive(Drop)]
 pub struct KnownFolder {
     alloc: Global,
-    changes: Vec<Change>,
+    pub(crate) changes: Vec<Change>,
     calls: u32,
     fails: u32,
     failing: Failing,
 }
 
 /// Returns a copy of bytes.
-fn copied(alloc: Global, bytes: &[u8]) -> Result<Vec<u8>, AllocError>
+pub(crate) fn copied(alloc: Global, bytes: &[u8]) -> Result<Vec<u8>, AllocError>
     ensures { IfOk result (λ copy. copy.items ≡ bytes.now) }
 {
     let mut copy = Vec::new(alloc);
@@ -68,7 +68,12 @@ fn copied(alloc: Global, bytes: &[u8]) -> Result<Vec<u8>, AllocError>
 }
 
 /// Returns a change of a file.
-fn change_of(alloc: Global, kind: Kind, name: &[u8], other: &[u8]) -> Result<Change, AllocError>
+pub(crate) fn change_of(
+    alloc: Global,
+    kind: Kind,
+    name: &[u8],
+    other: &[u8],
+) -> Result<Change, AllocError>
     ensures { IfOk result (λ c. c ≡ record { kind = kind; name = name.now; other = other.now }) }
 {
     let name = copied(alloc, name)?;
@@ -96,6 +101,28 @@ fn see<'a>(change: &'a Change, name: &'a [u8]) -> Seen<'a>
         Kind::Moved | Kind::Gone if change.name.as_slice() == name => Seen::Nothing,
         _ => Seen::Before(name),
     }
+}
+
+/// Returns the name of the file that a change may have created.
+fn new_name(change: &Change) -> &[u8]
+    ensures { result.now ≡ name_after change.now }
+{
+    match change.kind {
+        Kind::Moved => &change.other,
+        Kind::Put | Kind::Gone => &change.name,
+    }
+}
+
+/// Returns whether a name is in the list.
+fn is_listed(names: &[Vec<u8>], name: &[u8]) -> bool
+    ensures { result ≡ has_name (map (λ n. n.items) names.now) name.now }
+{
+    for other in names {
+        if other.as_slice() == name {
+            return true;
+        }
+    }
+    false
 }
 
 impl KnownFolder {
@@ -154,7 +181,10 @@ impl KnownFolder {
 
     /// Counts a call, and returns how it fails, if it does.
     fn counted(&mut self) -> Option<Failing>
-        ensures { self.new.changes ≡ self.old.changes }
+        ensures changes { self.new.changes ≡ self.old.changes }
+        ensures number { self.old.calls < 2 ^ 32 - 1 → self.new.calls ≡ self.old.calls + 1 }
+        ensures failing { result ≡ failure_of self.new.calls self.new.fails self.new.failing }
+        ensures same { (self.new.fails ≡ self.old.fails) × (self.new.failing ≡ self.old.failing) }
     {
         self.calls = self.calls.saturating_add(1);
         if self.calls == self.fails {
@@ -169,6 +199,9 @@ impl KnownFolder {
         ensures ok { OnOk result (self.new.changes.items ≡ self.old.changes.items
             ++ record { kind = kind; name = name.now; other = other.now } ∷ []) }
         ensures err { OnErr result (self.new.changes.items ≡ self.old.changes.items) }
+        ensures calls { self.new.calls ≡ self.old.calls }
+        ensures fails { self.new.fails ≡ self.old.fails }
+        ensures failing { self.new.failing ≡ self.old.failing }
     {
         let change = match change_of(self.alloc, kind, name, other) {
             Ok(change) => change,
@@ -180,12 +213,27 @@ impl KnownFolder {
         }
     }
 
+    /// Appends a name to the list, if its file exists and the name isn't in the list.
+    #[tactic(auto, using(crate::proofs::Listing::listing))]
+    fn list(&self, alloc: Global, names: &mut Vec<Vec<u8>>, name: &[u8]) -> Result<(), AllocError>
+        ensures { OnOk result (ListsName (files_of self.now.changes.items) name.now
+            (map (λ n. n.items) names.old.items) (map (λ n. n.items) names.new.items)) }
+    {
+        if is_listed(names.as_slice(), name) || self.bytes(name).is_none() {
+            return Ok(());
+        }
+        names.push(copied(alloc, name)?)?;
+        Ok(())
+    }
+
     /// Writes these bytes to a file.
     #[tactic(auto, using(crate::proofs::Changes::calling))]
-    fn put(&mut self, name: &[u8], bytes: &[u8]) -> Result<(), FolderFault>
+    pub(crate) fn put(&mut self, name: &[u8], bytes: &[u8]) -> Result<(), FolderFault>
         ensures ok { OnOk result (WritesFile (files_of self.old.changes.items)
             (files_of self.new.changes.items) name.now bytes.now) }
         ensures only { ChangesOnlyFile (files_of self.old.changes.items) (files_of self.new.changes.items) name.now }
+        ensures state { OnOk result (states_of self.new.changes.items
+            ≡ files_of self.new.changes.items ∷ states_of self.old.changes.items) }
         ensures moment { IsMoment (files_of self.old.changes.items)
             (files_of self.new.changes.items) (states_of self.old.changes.items)
             (states_of self.new.changes.items) }
@@ -196,17 +244,51 @@ impl KnownFolder {
         }
     }
 
-    /// Renames a file.
-    #[tactic(auto, using(crate::proofs::Changes::calling))]
-    fn give(&mut self, name: &[u8], place: &[u8]) -> Result<(), FolderFault>
-        ensures ok { OnOk result (RenamesFile (files_of self.old.changes.items)
-            (files_of self.new.changes.items) name.now place.now) }
-        ensures err { OnErr result (LeavesFiles (files_of self.old.changes.items) (files_of self.new.changes.items)) }
-        ensures moment { IsMoment (files_of self.old.changes.items)
-            (files_of self.new.changes.items) (states_of self.old.changes.items)
-            (states_of self.new.changes.items) }
+    /// Renames a file, or fails.
+    fn give_or_fail(&mut self, name: &[u8], place: &[u8]) -> Result<(), RenameFault>
+        ensures ok { OnOk result ((failure_of self.new.calls self.new.fails self.new.failing ≡ None)
+            × (self.new.changes.items ≡ self.old.changes.items ++ moved_to name.now place.now ∷ [])) }
+        ensures unchanged { IfErr result (λ e. e ≡ RenameFault.Unchanged
+            → self.new.changes.items ≡ self.old.changes.items) }
+        ensures unsure { IfErr result (λ e. e ≡ RenameFault.Unsure
+            → Some self.new.changes.items
+            ≡ unsure_changes (failure_of self.new.calls self.new.fails self.new.failing)
+            self.old.changes.items (moved_to name.now place.now)) }
     {
+        match self.counted() {
+            None => {}
+            Some(Failing::Before) => return Err(RenameFault::Unchanged),
+            Some(Failing::Half) => return Err(RenameFault::Unsure),
+            Some(Failing::After) => {
+                return match self.note(Kind::Moved, name, place) {
+                    Ok(()) => Err(RenameFault::Unsure),
+                    Err(_) => Err(RenameFault::Unchanged),
+                };
+            }
+        }
         match self.note(Kind::Moved, name, place) {
+            Ok(()) => Ok(()),
+            Err(_) => Err(RenameFault::Unchanged),
+        }
+    }
+
+    /// Removes a file, or fails.
+    fn drop_or_fail(&mut self, name: &[u8]) -> Result<(), FolderFault>
+        ensures ok { OnOk result ((failure_of self.new.calls self.new.fails self.new.failing ≡ None)
+            × (self.new.changes.items ≡ self.old.changes.items ++ removal_of name.now ∷ [])) }
+        ensures err { OnErr result ((self.new.changes.items ≡ self.old.changes.items)
+            ⊎ (may_remove (failure_of self.new.calls self.new.fails self.new.failing) ≡ true)
+            × (self.new.changes.items ≡ self.old.changes.items ++ removal_of name.now ∷ [])) }
+    {
+        match self.counted() {
+            None => {}
+            Some(Failing::Before) => return Err(FolderFault),
+            Some(_) => {
+                let _ = self.note(Kind::Gone, name, &[]);
+                return Err(FolderFault);
+            }
+        }
+        match self.note(Kind::Gone, name, &[]) {
             Ok(()) => Ok(()),
             Err(_) => Err(FolderFault),
         }
@@ -215,6 +297,8 @@ impl KnownFolder {
 
 impl Folder for KnownFolder {
     ghost is_known = { λ f. true };
+
+    ghost may_fail = { λ f. true };
 
     ghost files = { λ f. files_of f.changes.items };
 
@@ -251,54 +335,21 @@ impl Folder for KnownFolder {
 
     #[tactic(auto, using(crate::proofs::Changes::calling))]
     fn rename(&mut self, name: &[u8], place: &[u8]) -> Result<(), RenameFault> {
-        let failing = self.counted();
-        match failing {
-            Some(Failing::Before) => return Err(RenameFault::Unchanged),
-            Some(Failing::Half) => return Err(RenameFault::Unsure),
-            _ => {}
-        }
-        match self.give(name, place) {
-            Ok(()) if failing.is_some() => Err(RenameFault::Unsure),
-            Ok(()) => Ok(()),
-            Err(_) => Err(RenameFault::Unchanged),
-        }
+        self.give_or_fail(name, place)
     }
 
     #[tactic(auto, using(crate::proofs::Changes::calling))]
     fn remove(&mut self, name: &[u8]) -> Result<(), FolderFault> {
-        let failing = self.counted();
-        if failing == Some(Failing::Before) {
-            return Err(FolderFault);
-        }
-        match self.note(Kind::Gone, name, &[]) {
-            Ok(()) => {}
-            Err(_) => return Err(FolderFault),
-        }
-        if failing.is_some() {
-            return Err(FolderFault);
-        }
-        Ok(())
+        self.drop_or_fail(name)
     }
 
     fn names(&self, alloc: Global) -> Result<Vec<Vec<u8>>, FolderFault> {
-        let mut names: Vec<Vec<u8>> = Vec::new(alloc);
+        let mut names = Vec::new(alloc);
         for change in &self.changes {
-            let name = match change.kind {
-                Kind::Moved => &change.other,
-                Kind::Put | Kind::Gone => &change.name,
-            };
-            let is_listed = names
-                .iter()
-                .any(|other| other.as_slice() == name.as_slice());
-            if is_listed || self.bytes(name).is_none() {
-                continue;
+            match self.list(alloc, &mut names, new_name(change)) {
+                Ok(()) => {}
+                Err(_) => return Err(FolderFault),
             }
-            let Ok(name) = copied(alloc, name) else {
-                return Err(FolderFault);
-            };
-            let Ok(()) = names.push(name) else {
-                return Err(FolderFault);
-            };
         }
         Ok(names)
     }

@@ -1,6 +1,7 @@
 //! Laws of kept images.
 
 ghost use Rattle.fw_store.specs.Active.{NothingElseIsRead, WhatIsWrittenIsRead};
+ghost use Rattle.fw_store.specs.DiskCases.{RenamingsAreJudged};
 ghost use Rattle.fw_store.specs.Folders.{WhatIsKeptIsFound};
 
 /// An encoded list of images reads back as exactly that list, if its numbers have their widths.
@@ -17,4 +18,10 @@ pub fn nothing_else_reads()
 /// components, and no others.
 pub fn what_is_kept_is_found()
     ensures { WhatIsKeptIsFound }
+{}
+
+/// Losses of power by hand, each allowed or refused by the definitions of a renaming's order on the
+/// disk.
+pub fn renamings_are_judged()
+    ensures { RenamingsAreJudged }
 {}

@@ -9,6 +9,7 @@ mod faults;
 mod folder;
 mod folder_store;
 mod known;
+mod known_calls;
 mod laws;
 mod lines;
 mod looking;
@@ -20,6 +21,7 @@ mod store;
 mod sweeping;
 mod synced;
 mod system;
+mod system_folder;
 mod writing;
 
 pub use bank::KeptBank;
@@ -30,12 +32,15 @@ pub use faults::OpenFault;
 pub use folder::{Folder, FolderFault, RenameFault};
 pub use folder_store::FolderStore;
 pub use known::{Failing, KnownFolder};
-pub use laws::{active_reads_back, nothing_else_reads, what_is_kept_is_found};
+pub use known_calls::{KnownCalls, KnownFile};
+pub use laws::{
+    active_reads_back, nothing_else_reads, renamings_are_judged, what_is_kept_is_found,
+};
 pub use looking::read_store;
 pub use memory::{MemStore, Stored};
 pub use opening::open_store;
 pub use reading::read_active;
 pub use store::{Kept, Store, StoreFault};
 pub use synced::SyncedFolder;
-pub use system::{SystemFolder, SystemFolderCalls, make_folder, system_folder};
+pub use system_folder::SystemFolder;
 pub use writing::{active_text, image_name};

@@ -23,6 +23,7 @@ fn lines<F: Folder>(alloc: Global, folder: &F) -> Result<Option<Vec<ImageEntry>>
     ensures ok { IfOk result (λ r. F.is_known folder.now ≡ true
         → option_map (λ v. v.items) r ≡ lines_by (F.files folder.now active_name)) }
     ensures err { IfErr result (λ e. (e ≡ OpenFault.Unreadable) ⊎ (e ≡ OpenFault.Memory)) }
+    ensures unread { IfErr result (λ e. e ≡ OpenFault.Unreadable → F.may_fail folder.now ≡ true) }
 {
     let found = match folder.read(alloc, ACTIVE) {
         Ok(found) => found,
@@ -57,6 +58,7 @@ fn image<F: Folder>(
     ensures ok { IfOk result (λ r. F.is_known folder.now ≡ true
         → r ≡ image_by entry.now (F.files folder.now (name_of entry.now.key entry.now.number))) }
     ensures err { IfErr result (λ e. (e ≡ OpenFault.Unreadable) ⊎ (e ≡ OpenFault.Memory)) }
+    ensures unread { IfErr result (λ e. e ≡ OpenFault.Unreadable → F.may_fail folder.now ≡ true) }
 {
     let Ok(name) = image_name(alloc, entry.key, entry.number) else {
         return Err(OpenFault::Memory);
@@ -78,6 +80,7 @@ fn images<F: Folder>(
     ensures ok { IfOk result (λ r. F.is_known folder.now ≡ true
         → option_map (λ v. v.items) r ≡ images_by (F.files folder.now) entries.now) }
     ensures err { IfErr result (λ e. (e ≡ OpenFault.Unreadable) ⊎ (e ≡ OpenFault.Memory)) }
+    ensures unread { IfErr result (λ e. e ≡ OpenFault.Unreadable → F.may_fail folder.now ≡ true) }
 {
     let mut images = Vec::new(alloc);
     for entry in entries {
@@ -158,6 +161,7 @@ pub(crate) fn look<F: Folder>(
     ensures foreign { IfErr result (λ e. e ≡ OpenFault.Foreign
         → F.is_known folder.now ≡ true
         → found_in components.now (F.files folder.now) ≡ Err OpenFault.Foreign) }
+    ensures unread { IfErr result (λ e. e ≡ OpenFault.Unreadable → F.may_fail folder.now ≡ true) }
 {
     let entries = match lines(alloc, folder) {
         Ok(Some(entries)) => entries,
@@ -198,6 +202,7 @@ pub fn read_store<F: Folder>(
     ensures foreign { IfErr result (λ e. e ≡ OpenFault.Foreign
         → F.is_known folder.now ≡ true
         → found_in components.now (F.files folder.now) ≡ Err OpenFault.Foreign) }
+    ensures unread { IfErr result (λ e. e ≡ OpenFault.Unreadable → F.may_fail folder.now ≡ true) }
 {
     match look(alloc, folder, components) {
         Ok((_, store)) => Ok(store),

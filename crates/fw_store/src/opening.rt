@@ -2,6 +2,7 @@
 
 ghost use Rattle.std.specs.Prelude.{◌≡◌, ◌<◌, Err, IfErr, IfOk, Ok, OnOk, true};
 ghost use Rattle.std.specs.List.{AllByRecursion};
+ghost use Rattle.fw_store.specs.Active.{next_number};
 ghost use Rattle.fw_store.specs.Keeping.{IsSettledIfKnown};
 ghost use Rattle.fw_store.specs.Opening.{found_in};
 
@@ -14,10 +15,10 @@ use crate::looking::look;
 use crate::store::Kept;
 use std::alloc::Global;
 
-/// Returns a number above those of the lines.
-#[tactic(auto, using(crate::proofs::Swept::below_more))]
+/// Returns the number of the next files, which is above those of the lines.
 fn next_after(entries: &[ImageEntry]) -> u64
-    ensures { AllByRecursion (λ e. e.number < result) entries.now }
+    ensures value { result ≡ next_number entries.now }
+    ensures above { AllByRecursion (λ e. e.number < result) entries.now }
 {
     let mut next: u64 = 1;
     for entry in entries {
@@ -44,6 +45,7 @@ pub fn open_store<F: Folder + Drop>(
     ensures sure { IfOk result (λ s. s.is_sure ≡ true) }
     ensures settled { IfOk result (λ s. IsSettledIfKnown (F.is_known s.folder) s.is_sure s.next
         (F.files s.folder) s.entries.items) }
+    ensures next { IfOk result (λ s. s.next ≡ next_number s.entries.items) }
     ensures untouched { IfOk result (λ s. s.folder ≡ folder) }
     ensures damaged { IfErr result (λ e. e ≡ OpenFault.Damaged
         → F.is_known folder ≡ true
@@ -51,6 +53,7 @@ pub fn open_store<F: Folder + Drop>(
     ensures foreign { IfErr result (λ e. e ≡ OpenFault.Foreign
         → F.is_known folder ≡ true
         → found_in components.now (F.files folder) ≡ Err OpenFault.Foreign) }
+    ensures unread { IfErr result (λ e. e ≡ OpenFault.Unreadable → F.may_fail folder ≡ true) }
 {
     let (entries, memory) = match look(alloc, &folder, components) {
         Ok(found) => found,

@@ -3,8 +3,8 @@
 ghost use Rattle.std.specs.Prelude.{◌≡◌, ◌⊎◌, ◌^◌, ◌<◌, IfErr, IfOk, OnErr, OnOk, map, true};
 ghost use Rattle.fd_core.specs.Banks.{HaveKeysOnce};
 ghost use Rattle.fw_store.specs.Active.{image_name as name_of};
-ghost use Rattle.fw_store.specs.Folders.{PassesStates};
-ghost use Rattle.fw_store.specs.Keeping.{LeavesLowerFiles, WritesImages, IsKey, IsStoring, ReplacesActive, ReplacesOnDisk, IsStopped, FailsToReplaceActive, IsWriting, MayHaveReplaced};
+ghost use Rattle.fw_store.specs.Folders.{LeavesFiles, PassesStates};
+ghost use Rattle.fw_store.specs.Keeping.{HoldsText, LeavesLowerFiles, WritesImages, IsKey, IsStoring, ReplacesActive, ReplacesOnDisk, IsStopped, FailsToReplaceActive, IsWriting, MayHaveReplaced};
 
 use crate::entry::ImageEntry;
 use crate::folder::{Folder, FolderFault, RenameFault};
@@ -67,6 +67,8 @@ fn put_text<F: Folder>(folder: &mut F, text: &[u8]) -> Result<(), RenameFault>
         (F.moments folder.new)) }
     ensures lasts { OnOk result (F.is_known folder.old ≡ true
         → ReplacesOnDisk text.now (F.stored folder.old) (F.lasting folder.new)) }
+    ensures all { OnOk result (F.is_known folder.old ≡ true
+        → LeavesFiles (F.stored folder.new) (F.lasting folder.new)) }
     ensures unchanged { IfErr result (λ e. e ≡ RenameFault.Unchanged
         → F.is_known folder.old ≡ true
         → FailsToReplaceActive (F.files folder.old) (F.files folder.new) (F.moments folder.old)
@@ -77,6 +79,9 @@ fn put_text<F: Folder>(folder: &mut F, text: &[u8]) -> Result<(), RenameFault>
         (F.moments folder.new)
         ⊎ ReplacesActive text.now (F.files folder.old) (F.files folder.new) (F.moments folder.old)
         (F.moments folder.new)) }
+    ensures whole { IfErr result (λ e. e ≡ RenameFault.Unsure
+        → F.is_known folder.old ≡ true
+        → HoldsText text.now (F.files folder.new)) }
 {
     match folder.write(ACTIVE_NEW, text) {
         Ok(()) => folder.rename(ACTIVE_NEW, ACTIVE),
@@ -105,6 +110,8 @@ pub(crate) fn put_images<F: Folder>(
     ensures lasts { OnOk result (F.is_known folder.old ≡ true
         → WritesImages number images.now entries.now (F.stored folder.old)
         (F.lasting folder.new)) }
+    ensures all { OnOk result (F.is_known folder.old ≡ true
+        → LeavesFiles (F.stored folder.new) (F.lasting folder.new)) }
     ensures unchanged { IfErr result (λ e. e ≡ RenameFault.Unchanged
         → F.is_known folder.old ≡ true
         → LeavesLowerFiles number (F.files folder.old) (F.files folder.new)) }

@@ -1,10 +1,9 @@
 //! Unnamed files in a store's folder.
 
-ghost use Rattle.std.specs.Prelude.{◌≡◌, ◌≢◌, IfOk, List, false, true};
-ghost use Rattle.std.specs.List.{AllByRecursion};
-ghost use Rattle.fw_store.specs.Active.{image_name as name_of};
+ghost use Rattle.std.specs.Prelude.{◌≡◌, IfOk, List, OnOk, false, map, true};
 ghost use Rattle.fw_store.specs.Folders.{Files, PassesStates};
-ghost use Rattle.fw_store.specs.Opening.{IsUnnamedFile, IsUntouched, is_ours as has_our_name};
+ghost use Rattle.fw_store.specs.Opening.{IsUntouched, is_ours as has_our_name};
+ghost use Rattle.fw_store.specs.Strays.{ChangesOnlyStrays, SweepsName, SweepsNames, is_stray as is_unnamed, names_file};
 
 use crate::entry::ImageEntry;
 use crate::folder::Folder;
@@ -30,7 +29,7 @@ fn is_ours(alloc: Global, name: &[u8]) -> Result<bool, AllocError>
 
 /// Returns whether a line names a file.
 fn is_named(alloc: Global, entries: &[ImageEntry], name: &[u8]) -> Result<bool, AllocError>
-    ensures { IfOk result (λ b. b ≡ false → AllByRecursion (λ e. name_of e.key e.number ≢ name.now) entries.now) }
+    ensures { IfOk result (λ b. b ≡ names_file entries.now name.now) }
 {
     for entry in entries {
         let written = image_name(alloc, entry.key, entry.number)?;
@@ -42,8 +41,9 @@ fn is_named(alloc: Global, entries: &[ImageEntry], name: &[u8]) -> Result<bool, 
 }
 
 /// Returns whether a file is one of this store that no line names.
+#[tactic(auto, unfolding(crate::specs::Strays::is_stray))]
 fn is_stray(alloc: Global, entries: &[ImageEntry], name: &[u8]) -> Result<bool, AllocError>
-    ensures { IfOk result (λ b. b ≡ true → IsUnnamedFile entries.now name.now) }
+    ensures { IfOk result (λ b. b ≡ is_unnamed entries.now name.now) }
 {
     if name == ACTIVE || !is_ours(alloc, name)? {
         return Ok(false);
@@ -69,6 +69,13 @@ fn sweep_one<F: Folder>(
         → IsUntouched entries.now first (F.files folder.old)
         → PassesStates (IsUntouched entries.now first) past (F.moments folder.old)
         → PassesStates (IsUntouched entries.now first) past (F.moments folder.new) }
+    ensures fails { F.may_fail folder.new ≡ F.may_fail folder.old }
+    ensures only { F.is_known folder.old ≡ true
+        → ChangesOnlyStrays entries.now (F.files folder.old) (F.files folder.new) }
+    ensures swept { OnOk result (F.is_known folder.old ≡ true
+        → F.may_fail folder.old ≡ false
+        → SweepsName entries.now name.now (F.files folder.old) (F.files folder.new)) }
+    ensures stays { OnOk result (is_unnamed entries.now name.now ≡ false → folder.new ≡ folder.old) }
 {
     match is_stray(alloc, entries, name) {
         Ok(true) => {}
@@ -92,6 +99,12 @@ pub(crate) fn sweep<F: Folder>(
     ensures moments { F.is_known folder.old ≡ true
         → PassesStates (IsUntouched entries.now (F.files folder.old)) (F.moments folder.old)
         (F.moments folder.new) }
+    ensures only { F.is_known folder.old ≡ true
+        → ChangesOnlyStrays entries.now (F.files folder.old) (F.files folder.new) }
+    ensures swept { OnOk result (F.is_known folder.old ≡ true
+        → F.may_fail folder.old ≡ false
+        → SweepsNames entries.now (map (λ name. name.items) names.now) (F.files folder.old)
+        (F.files folder.new)) }
 {
     for name in names {
         match sweep_one(alloc, folder, entries, name) {

@@ -1,7 +1,8 @@
 //! A folder whose files are on the disk when a call on it ends.
 
-ghost use Rattle.std.specs.Prelude.{◌≡◌, OnOk};
+ghost use Rattle.std.specs.Prelude.{◌≡◌, IfErr, OnOk, true};
 ghost use Rattle.std.specs.Io.KnownBytes.{Appends};
+ghost use Rattle.fw_store.specs.Folders.{IsMoment, LeavesFiles, RenamesFile, RenamesInOrder};
 
 use crate::calls::FolderCalls;
 use crate::durable::Durable;
@@ -23,6 +24,13 @@ impl<C: Drop> SyncedFolder<C> {
     {
         SyncedFolder { calls }
     }
+
+    /// Returns the calls.
+    pub fn calls(&self) -> &C
+        ensures { result.now ≡ self.now.calls }
+    {
+        &self.calls
+    }
 }
 
 /// Writes bytes to a file, and syncs them to the disk.
@@ -42,6 +50,8 @@ fn write_synced<W: Durable>(file: &mut W, bytes: &[u8]) -> Result<(), FolderFaul
 impl<C: FolderCalls + Drop> Folder for SyncedFolder<C> {
     ghost is_known = { λ f. C.is_known f.calls };
 
+    ghost may_fail = { λ f. C.may_fail f.calls };
+
     ghost files = { λ f. C.files f.calls };
 
     ghost stored = { λ f. C.stored f.calls };
@@ -57,11 +67,31 @@ impl<C: FolderCalls + Drop> Folder for SyncedFolder<C> {
     fn write(&mut self, name: &[u8], bytes: &[u8]) -> Result<(), FolderFault> {
         let mut file = self.calls.create(name)?;
         let written = write_synced(&mut file, bytes);
-        self.calls.close(name, file);
+        self.calls.close(name, file)?;
         written
     }
 
-    fn rename(&mut self, name: &[u8], place: &[u8]) -> Result<(), RenameFault> {
+    fn rename(&mut self, name: &[u8], place: &[u8]) -> Result<(), RenameFault>
+        ensures known { C.is_known self.new.calls ≡ C.is_known self.old.calls }
+        ensures ok { OnOk result (C.is_known self.old.calls ≡ true
+            → RenamesFile (C.files self.old.calls) (C.files self.new.calls) name.now place.now) }
+        ensures unchanged { IfErr result (λ e. e ≡ RenameFault.Unchanged
+            → C.is_known self.old.calls ≡ true
+            → LeavesFiles (C.files self.old.calls) (C.files self.new.calls)) }
+        ensures unsure { IfErr result (λ e. e ≡ RenameFault.Unsure
+            → C.is_known self.old.calls ≡ true
+            → RenamesFile (C.files self.old.calls) (C.files self.new.calls) name.now place.now) }
+        ensures stored { OnOk result (C.is_known self.old.calls ≡ true
+            → RenamesFile (C.stored self.old.calls) (C.stored self.new.calls) name.now place.now) }
+        ensures lasts { OnOk result (C.is_known self.old.calls ≡ true
+            → LeavesFiles (C.stored self.new.calls) (C.lasting self.new.calls)) }
+        ensures ordered { C.is_known self.old.calls ≡ true
+            → RenamesInOrder (C.stored self.old.calls) (C.lasting self.old.calls)
+            (C.lasting self.new.calls) name.now place.now }
+        ensures moment { C.is_known self.old.calls ≡ true
+            → IsMoment (C.files self.old.calls) (C.files self.new.calls) (C.moments self.old.calls)
+            (C.moments self.new.calls) }
+    {
         if self.calls.sync_names().is_err() || self.calls.rename(name, place).is_err() {
             return Err(RenameFault::Unchanged);
         }

@@ -1,10 +1,9 @@
-//! The files of a folder of the system.
+//! The calls of the system on the files of a folder.
 
-ghost use Rattle.std.specs.Prelude.{◌≡◌, [], None, false};
+ghost use Rattle.std.specs.Prelude.{◌≡◌, [], None, false, true};
 
 use crate::calls::FolderCalls;
 use crate::folder::FolderFault;
-use crate::synced::SyncedFolder;
 use std::alloc::Global;
 use std::fs::{self, File};
 use std::io::{ErrorKind, Read};
@@ -12,32 +11,17 @@ use std::io::{ErrorKind, Read};
 /// The calls of the system on the files of one of its folders; their content isn't known to the
 /// proofs.
 #[derive(Drop)]
-pub struct SystemFolderCalls<'a> {
+pub(crate) struct SystemFolderCalls<'a> {
     rt: &'a HostRuntime,
     path: String,
 }
 
-/// A folder of the system.
-pub type SystemFolder<'a> = SyncedFolder<SystemFolderCalls<'a>>;
-
-/// Returns the folder with this path. Creates it and its parents if they don't exist.
-///
-/// # Errors
-/// `FolderFault` if it can't be created.
-pub fn make_folder(rt: &HostRuntime, path: String) -> Result<SystemFolder<'_>, FolderFault> {
-    match fs::create_dir_all(rt, path.as_str()) {
-        Ok(()) => Ok(system_folder(rt, path)),
-        Err(_) => Err(FolderFault),
-    }
-}
-
-/// Returns the folder with this path, which may not exist: then it has no files, and none can be
-/// written.
-pub fn system_folder(rt: &HostRuntime, path: String) -> SystemFolder<'_> {
-    SyncedFolder::new(SystemFolderCalls { rt, path })
-}
-
 impl<'a> SystemFolderCalls<'a> {
+    /// Returns the calls on the files of the folder with this path.
+    pub(crate) fn new(rt: &'a HostRuntime, path: String) -> SystemFolderCalls<'a> {
+        SystemFolderCalls { rt, path }
+    }
+
     /// Returns the path of a file.
     fn path_of(&self, name: &[u8]) -> Result<String, FolderFault> {
         let Ok(name) = str::from_utf8(name) else {
@@ -80,6 +64,8 @@ impl<'a> FolderCalls for SystemFolderCalls<'a> {
 
     ghost is_known = { λ c. false };
 
+    ghost may_fail = { λ c. true };
+
     ghost files = { λ c name. None };
 
     ghost stored = { λ c name. None };
@@ -111,7 +97,9 @@ impl<'a> FolderCalls for SystemFolderCalls<'a> {
         }
     }
 
-    fn close(&mut self, _name: &[u8], _file: File) {}
+    fn close(&mut self, _name: &[u8], _file: File) -> Result<(), FolderFault> {
+        Ok(())
+    }
 
     fn rename(&mut self, name: &[u8], place: &[u8]) -> Result<(), FolderFault> {
         let name = self.path_of(name)?;

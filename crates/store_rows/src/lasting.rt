@@ -6,8 +6,8 @@ ghost use Rattle.fw_store.specs.Opening.{found_in};
 
 use fd_core::{Key, Label};
 use fw_store::{
-    Failing, Folder, FolderFault, FolderStore, ImageEntry, Kept, KnownFolder, MemStore, OpenFault,
-    Store, Stored, active_text, open_store, read_active, read_store,
+    Failing, Folder, FolderFault, FolderStore, ImageEntry, Kept, KnownCalls, KnownFolder, MemStore,
+    OpenFault, Store, Stored, SyncedFolder, active_text, open_store, read_active, read_store,
 };
 use fwup_wire::{TypedText, Version};
 use std::alloc::Global;
@@ -67,7 +67,7 @@ fn found(
 }
 
 /// Opens a store over AA and BB BB.
-fn open(alloc: Global, folder: KnownFolder) -> Result<FolderStore<KnownFolder>, OpenFault> {
+fn open<F: Folder + Drop>(alloc: Global, folder: F) -> Result<FolderStore<F>, OpenFault> {
     let label = label(1, 1, b"a");
     let components = [
         Kept {
@@ -85,7 +85,11 @@ fn open(alloc: Global, folder: KnownFolder) -> Result<FolderStore<KnownFolder>, 
 }
 
 /// Stores these bytes of both components.
-fn keep<'a>(store: &mut FolderStore<KnownFolder>, first: &'a [u8], second: &'a [u8]) -> bool {
+fn keep<'a, F: Folder + Drop>(
+    store: &mut FolderStore<F>,
+    first: &'a [u8],
+    second: &'a [u8],
+) -> bool {
     let label = label(2, 1, b"b");
     let images = [
         Kept {
@@ -166,6 +170,44 @@ fn a_crash_between_calls_leaves_the_images_before_or_after(rt: HostRuntime) -> R
     for call in 1..6 {
         for failing in [Failing::Before, Failing::Half, Failing::After] {
             assert!(rt; stands(rt.alloc(), call, failing)?);
+        }
+    }
+    Ok(())
+}
+
+/// The images that a loss of power leaves, which comes before call `call` of a second `keep`.
+#[derive(Clone, Copy)]
+struct Left {
+    begun: bool,
+    kept: bool,
+    before: bool,
+    after: bool,
+}
+
+/// Keeps images twice, and loses the power at a call of the second time. Each time there are nine
+/// calls: two for each image's file and for the text's, and a sync before and after the renaming.
+fn left_without_power(alloc: Global, call: u32, is_early: bool) -> Result<Left, Fail> {
+    let calls = KnownCalls::new(alloc, call.saturating_add(9), is_early);
+    let mut store = open(alloc, SyncedFolder::new(calls))?;
+    let begun = keep(&mut store, &[1], &[2, 2]);
+    let kept = keep(&mut store, &[3, 3, 3], &[4, 4, 4, 4]);
+    let again = open(alloc, sound(store.folder().calls().lasting())?)?;
+    Ok(Left {
+        begun,
+        kept,
+        before: are(again.images(), &[1], &[2, 2]),
+        after: are(again.images(), &[3, 3, 3], &[4, 4, 4, 4]),
+    })
+}
+
+#[test]
+fn a_loss_of_power_leaves_the_images_before_or_after(rt: HostRuntime) -> Result<(), Fail> {
+    for call in 1..11 {
+        for is_early in [false, true] {
+            let left = left_without_power(rt.alloc(), call, is_early)?;
+            let has_come = call == 10 || (call == 9 && is_early);
+            assert!(rt; left.begun && left.kept == (call == 10));
+            assert!(rt; left.after == has_come && left.before == !has_come);
         }
     }
     Ok(())

@@ -4,8 +4,8 @@ use Rattle.fw_setup.specs.Nodes.{nodes_made}
 use Rattle.fw_setup.proofs.Making.{device_at, new_more, nodes_next}
 use Rattle.fw_setup.proofs.nodes.node_all.Goals as goal
 
-pub node-requires : goal.node-requires
-node-requires g c = (device_at c.args.devices.now c.loop-config.config-index c.config-item.result (search rules) c.config-item.is c.loop-config.invariant.left).0
+pub device_node-requires : goal.device_node-requires
+device_node-requires g c = (device_at c.args.devices.now c.loop-config.config-index c.config-item.result (search rules) c.config-item.is c.loop-config.invariant.left).0
 
 pub loop-config-preserved : goal.loop-config-preserved
 loop-config-preserved g c = record {

@@ -1,4 +1,4 @@
-use Rattle.std.proofs.Common.{◌≡◌, ◌∙◌, ap, arith}
+use Rattle.std.proofs.Common.{◌∙◌, ap, arith}
 use Rattle.fw_store.specs.Kept.{KeptOf}
 use Rattle.fw_store.proofs.Left.{apart_whole, none_found}
 use Rattle.fw_store.proofs.lines.+are_apart.Goals as goal

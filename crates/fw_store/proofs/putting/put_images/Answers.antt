@@ -1,4 +1,4 @@
-use Rattle.std.proofs.Common.{◌≡◌, ◌∙◌, ◌<◌, ◌^◌, inl, inr, arith}
+use Rattle.std.proofs.Common.{◌∙◌, arith}
 use Rattle.fw_store.proofs.Moments.{came_or_not, came_through, unput_apart, unput_through, through_either}
 use Rattle.fw_store.proofs.putting.put_images.Goals as goal
 

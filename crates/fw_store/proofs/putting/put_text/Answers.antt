@@ -1,5 +1,5 @@
 use Rattle.std.proofs.Common.{◌∙◌, inl, inr}
-use Rattle.fw_store.proofs.Moments.{put_both, put_lasting, unput_second, when_err, when_ok}
+use Rattle.fw_store.proofs.Moments.{held_whole, put_both, put_lasting, unput_second, when_err, when_ok}
 use Rattle.fw_store.proofs.putting.put_text.Goals as goal
 
 pub returns-in-Ok-clause-lasts : goal.returns-in-Ok-clause-lasts
@@ -16,3 +16,12 @@ returns-in-Ok-clause-unsure g c =
       | inr renamed ↦ inr (put_both _ _ _ _ _ _ _ (c.in-Ok.ensures.ok k) (c.in-Ok.ensures.moment k) renamed (c.rename.ensures.moment (c.in-Ok.ensures.known ∙ k)))
     ])
     c.rename.ensures.unsure
+
+pub returns-in-Ok-clause-whole : goal.returns-in-Ok-clause-whole
+returns-in-Ok-clause-whole g c =
+    when_err c.rename.result
+    (λ e h unsure k. held_whole _ _ _ _ (c.in-Ok.ensures.ok k) (h unsure (c.in-Ok.ensures.known ∙ k)))
+    c.rename.ensures.unsure
+
+pub returns-in-Ok-clause-all : goal.returns-in-Ok-clause-all
+returns-in-Ok-clause-all g c = when_ok c.rename.result (λ lasts same k. lasts (c.in-Ok.ensures.known ∙ k)) c.rename.ensures.lasts c.rename.ensures.lasts

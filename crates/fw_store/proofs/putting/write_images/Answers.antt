@@ -1,4 +1,4 @@
-use Rattle.std.proofs.Common.{◌≡◌, ◌∙◌, subst}
+use Rattle.std.proofs.Common.{◌∙◌, subst}
 use Rattle.fw_store.specs.Active.{image_name}
 use Rattle.fw_store.specs.Folders.{WritesFile}
 use Rattle.fw_store.specs.Keeping.{IsKey}

@@ -1,8 +1,7 @@
-use Rattle.std.proofs.Common.{◌≢◌, take}
-use Rattle.std.specs.List.{AllByRecursion}
-use Rattle.fw_store.specs.Active.{image_name as name_of}
+use Rattle.std.proofs.Common.{◌≡◌, drop}
+use Rattle.fw_store.specs.Strays.{names_file}
 use Rattle.fw_store.proofs.sweeping.is_named.Given as goal
 
--- no line so far names the file
+-- the answer of the lines that are left is the answer of all
 abbrev pub invariant-loop-entry : goal.invariant-loop-entry
-invariant-loop-entry l = AllByRecursion (λ e. name_of e.key e.number ≢ l.name) (take l.entry-index l.entries)
+invariant-loop-entry l = names_file (drop l.entry-index l.entries) l.name ≡ names_file l.entries l.name

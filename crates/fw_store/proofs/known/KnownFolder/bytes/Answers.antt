@@ -1,4 +1,4 @@
-use Rattle.std.proofs.Common.{rules, ◌≡◌, ◌+◌, ◌-◌, ◌<◌, ◌∙◌, ℕ, Some, None, length, take, sym, arith}
+use Rattle.std.proofs.Common.{rules, ◌-◌, Some, None, length, take, sym}
 use Rattle.fw_store.specs.Changes.{files_of}
 use Rattle.fw_store.proofs.Changes.{at_back, seen_before, seen_on}
 use Rattle.fw_store.proofs.known.KnownFolder.bytes.Goals as goal
