@@ -3,12 +3,13 @@ use Rattle.std.specs.Prelude.{ℕ, ◌≡◌, ◌≤◌, ◌∷◌, [], All, Con
 use Rattle.std.proofs.Common.{ap, refl, sym, subst, arith, inl, zero, suc}
 use Rattle.std.proofs.lemmas.List.Elements.{All-nil, All-cons, All-head, All-tail}
 use Rattle.fw_package.specs.Choice.{image_for}
+use Rattle.fw_package.specs.Package.{DescriptorOf}
 use Rattle.fwup_wire.specs.declared.values.Key.{Key}
 use Rattle.fd_core.specs.Images.{ImageOf, KeyedImage}
 use Rattle.ua_core.specs.Lent.{package_at}
 use Rattle.ua_core.specs.declared.planned.Recorded.{Recorded}
-use Rattle.fw_message.specs.Headline.{ActivationOf, EntryOf, IsFrom, IsNamedComponent, IsOfOnePackage, WasApplied, activations, applied_count, read_along, recorded_count}
-use Rattle.fw_message.specs.Cases.{HistoriesAreJudged, SafeRefuses, TiedAccepts, TiedRefuses, activates, applies, bank, board, boot, fabric, image, is_safe, is_tied, new_boot, new_fabric, old_boot, packages, keyed_image, recorded_component, records, worked_update}
+use Rattle.fw_message.specs.Headline.{ActivationOf, EntryOf, HeadlineHolds, IsFrom, IsNamedComponent, IsOfOnePackage, WasApplied, activations, applied_count, read_along, recorded_count}
+use Rattle.fw_message.specs.Cases.{HeadlineRefuses, HistoriesAreJudged, SafeRefuses, TiedAccepts, TiedRefuses, activates, applies, at_opening, when_updated, bank, board, boot, fabric, image, is_safe, is_tied, new_boot, new_fabric, old_boot, packages, keyed_image, recorded_component, records, worked_update}
 
 -- THE WORKED UPDATE
 
@@ -66,12 +67,12 @@ safe (suc (suc (suc (suc n)))) = record { activated = one_activated; named = one
 
 -- HISTORIES THAT AREN'T SAFE
 
--- the first activation of a history, and its first image
-first_image : (p : KeyedImage) (ps : List KeyedImage) (before : List Recorded) (rest : List ActivationOf)
-    → All (IsOfOnePackage packages board) (record { before = before; images = p ∷ ps } ∷ rest) → (n : ℕ) × IsFrom packages board before n p
-first_image p ps before rest h =
-    let one : IsOfOnePackage packages board (record { before = before; images = p ∷ ps }) = All-head (IsOfOnePackage packages board) (record { before = before; images = p ∷ ps }) rest h in
-    (one.0, All-head (IsFrom packages board before one.0) p ps one.1)
+-- the first activation of a device's history, and its first image
+pub first_image : (device : List DescriptorOf) (p : KeyedImage) (ps : List KeyedImage) (before : List Recorded) (rest : List ActivationOf)
+    → All (IsOfOnePackage packages device) (record { before = before; images = p ∷ ps } ∷ rest) → (n : ℕ) × IsFrom packages device before n p
+first_image device p ps before rest h =
+    let one : IsOfOnePackage packages device (record { before = before; images = p ∷ ps }) = All-head (IsOfOnePackage packages device) (record { before = before; images = p ∷ ps }) rest h in
+    (one.0, All-head (IsFrom packages device before one.0) p ps one.1)
 
 -- only the first package names an image of this component, and `new_boot` is that image
 boot_named : (n : ℕ) (bytes : List ℕ) → image_for (package_at packages n) board 10 1 ≡ Some bytes → (n ≡ 1) × (new_boot ≡ bytes)
@@ -82,18 +83,18 @@ boot_named (suc (suc (suc n))) bytes e = absurd (cc)
 
 unrecorded : is_safe (applies boot new_boot ∷ activates boot new_boot ∷ []) → ⊥
 unfolding read_along
-unrecorded h = (first_image (keyed_image boot new_boot) [] [] [] h.activated).1.recorded
+unrecorded h = (first_image board (keyed_image boot new_boot) [] [] [] h.activated).1.recorded
 
 recorded_before : is_safe (applies boot new_boot ∷ records 1 0 ∷ activates boot new_boot ∷ applies boot new_boot ∷ activates boot new_boot ∷ []) → ⊥
 unfolding read_along
 recorded_before h =
     let second = All-tail (IsOfOnePackage packages board) (record { before = recorded_component 1 0 ∷ []; images = keyed_image boot new_boot ∷ [] }) (record { before = []; images = keyed_image boot new_boot ∷ [] } ∷ []) h.activated in
-    (first_image (keyed_image boot new_boot) [] [] [] second).1.recorded
+    (first_image board (keyed_image boot new_boot) [] [] [] second).1.recorded
 
 other_bytes : is_safe (applies boot (7 ∷ []) ∷ applies boot new_boot ∷ records 1 0 ∷ activates boot (7 ∷ []) ∷ []) → ⊥
 unfolding read_along
 other_bytes h =
-    let from = first_image (keyed_image boot (7 ∷ [])) [] (recorded_component 1 0 ∷ []) [] h.activated in
+    let from = first_image board (keyed_image boot (7 ∷ [])) [] (recorded_component 1 0 ∷ []) [] h.activated in
     let same = (boot_named from.0 (7 ∷ []) from.1.named).1 in
     absurd (cc)
 
@@ -205,5 +206,20 @@ tied_refuses =
       not_there = not_there;
     }
 
+-- THE HEADLINE OF TWO WORLDS
+
+holds : HeadlineHolds at_opening when_updated
+holds zero = record { safe = safe 3; tied = accepts.when_activated }
+holds (suc eid) = tt
+
+headline_refuses : HeadlineRefuses
+headline_refuses =
+    record {
+      gone = λ h. h 0;
+      unsafe = λ h. unrecorded (h 0).safe;
+      untied = λ h. old_runs (h 0).tied;
+      no_packages = λ h. All-head (IsNamedComponent [] board) (recorded_component 1 0) [] (h 0).safe.named;
+    }
+
 pub histories_are_judged : HistoriesAreJudged
-histories_are_judged = record { safe = safe; unsafe = refuses; tied = accepts; untied = tied_refuses }
+histories_are_judged = record { safe = safe; unsafe = refuses; tied = accepts; untied = tied_refuses; holds = holds; fails = headline_refuses }

@@ -1,12 +1,12 @@
 -- Histories by hand, to test the definitions of a safe and a tied history: the worked update, and a
 -- history for each refusal.
-use Rattle.std.specs.Prelude.{ℕ, ◌∷◌, [], List, None, Option, Some, take}
+use Rattle.std.specs.Prelude.{ℕ, zero, suc, ◌∷◌, [], List, None, Option, Some, take}
 use Rattle.fw_package.specs.Choice.{no_text}
 use Rattle.fw_package.specs.Package.{ComponentOf, DescriptorOf, PackageText, RecordOf}
 use Rattle.fwup_wire.specs.declared.values.Key.{Key}
 use Rattle.fd_core.specs.Images.{ImageOf, KeyedImage, RowOf}
 use Rattle.ua_core.specs.declared.planned.Recorded.{Recorded}
-use Rattle.fw_message.specs.Headline.{EntryOf, IsSafe, IsTied}
+use Rattle.fw_message.specs.Headline.{EntryOf, HeadlineHolds, IsSafe, IsTied, Shown, ShownDevice}
 
 -- a device of one descriptor, and two of its components
 abbrev pub board : List DescriptorOf
@@ -108,10 +108,41 @@ pub record TiedRefuses : Type 0 where
   pub not_made : is_tied (bank old_boot (Some (image new_boot))) (recorded_component 1 0 ∷ []) (take 1 worked_update) → ⊥
   pub not_there : is_tied (bank new_boot None) [] worked_update → ⊥
 
+-- the device as it is shown, with these components, records of the agent and history
+abbrev pub shown_board : List RowOf → List Recorded → List EntryOf → ShownDevice
+shown_board rows made es = record { descriptors = board; components = rows; records = made; entries = es }
+
+-- a device under identifier 0, and none under another one
+abbrev pub only_device : Option ShownDevice → ℕ → Option ShownDevice
+only_device d zero = d
+only_device d (suc eid) = None
+
+-- the packages, and this device alone
+abbrev pub shown : Option ShownDevice → Shown
+shown d = record { packages = packages; device = only_device d }
+
+-- what is shown at the opening, and after the worked update
+abbrev pub at_opening : Shown
+at_opening = shown (Some (shown_board (bank old_boot None) [] []))
+
+abbrev pub when_updated : Shown
+when_updated = shown (Some (shown_board (bank new_boot None) (recorded_component 1 0 ∷ []) worked_update))
+
+-- Where the headline doesn't hold: the device isn't shown any more, its history isn't safe, or
+-- isn't tied, or the opening's packages have no such image, whatever the later ones have.
+pub record HeadlineRefuses : Type 0 where
+  pub gone : HeadlineHolds at_opening (shown None) → ⊥
+  pub unsafe : HeadlineHolds at_opening
+      (shown (Some (shown_board (bank new_boot None) [] (applies boot new_boot ∷ activates boot new_boot ∷ [])))) → ⊥
+  pub untied : HeadlineHolds at_opening (shown (Some (shown_board (bank old_boot None) (recorded_component 1 0 ∷ []) worked_update))) → ⊥
+  pub no_packages : HeadlineHolds (record at_opening { packages = [] }) when_updated → ⊥
+
 -- The definitions of a safe and of a tied history accept the worked update at each moment, and
--- refuse the other histories.
+-- refuse the other histories; so does the headline.
 pub record HistoriesAreJudged : Type 0 where
   pub safe : (n : ℕ) → is_safe (take n worked_update)
   pub unsafe : SafeRefuses
   pub tied : TiedAccepts
   pub untied : TiedRefuses
+  pub holds : HeadlineHolds at_opening when_updated
+  pub fails : HeadlineRefuses

@@ -6,15 +6,15 @@
 -- `Steps` of that crate say which worlds are openings, and which steps there are.
 --
 -- Assumed, and not proved:
--- - Storage: a device's storage keeps the contract of `Bank` (`fd_core`); a call of it may fail if
---   its count of failures says so. What runs, the records and the packages survive a restart.
--- - Network: it delivers a packet unaltered within 8 units of time, or not at all: several times,
---   in any order and to any node.
+-- - Storage: a device's storage keeps the contract of `Bank` (`fd_core`): a call of it may fail,
+--   and a failure is counted. The running images, the records and the packages survive a restart.
+-- - Network: it may lose a packet, deliver it several times, after later ones, and to any node; but
+--   only unaltered, and at most 8 units of time after it was sent.
 -- - Senders: only the agent and its devices send.
--- - Time: each of them counts at least eight of nine units of time as its ticks.
+-- - Time: of any nine units of time in a row, a node counts at least eight as its ticks.
 --
--- With this page it rests on 59 definitions, 188 lines in 7 files. To be read first, in this order,
--- with the lines that it needs of each:
+-- This page included, it rests on 59 definitions, 188 lines in 7 files, without the standard
+-- library's. To be read first, in this order, with the lines that it needs of each:
 -- 1. `crates/fw_package/specs/Package.antt`, 23 lines: `PackageText`, an update package.
 -- 2. `crates/fw_package/specs/Choice.antt`, 28 lines: `image_for`, the image that it names.
 -- 3. `crates/fwup_wire/src/values.rt`, 4 lines: `Key`, which names a component of a device.
@@ -54,7 +54,8 @@ pub record Shown : Type 0 where
 
 -- THE ACTIVATIONS OF A HISTORY
 
--- One activation: its images, and the records between the previous activated image and its first.
+-- One activation: its images in order, and the records that were made before its first image, since
+-- the last image of the activation before it.
 pub record ActivationOf : Type 0 where
   pub before : List Recorded
   pub images : List KeyedImage
@@ -156,9 +157,10 @@ recorded_count packages key bytes (EntryOf.Applied p ∷ es) = recorded_count pa
 recorded_count packages key bytes (EntryOf.Recording r ∷ es) = one_if (records_image packages key bytes r) + recorded_count packages key bytes es
 recorded_count packages key bytes (EntryOf.Activated p ∷ es) = recorded_count packages key bytes es
 
--- A safe history of a device: the images of each activation are those that one package names for
--- it, each recorded since the previous activation; each record is of a component that its package
--- names for it; and at no moment were any key and bytes recorded more often than applied.
+-- A safe history of a device: for each activation there is one package such that each image of the
+-- activation is the one that this package names for the device and its key, recorded since the
+-- activation before it; each record is of a component that its package names for the device; and at
+-- no moment were any key and bytes recorded more often than applied.
 pub record IsSafe (packages : List PackageText) (device : List DescriptorOf) (es : List EntryOf) : Type 0 where
   pub activated : All (IsOfOnePackage packages device) (activations es)
   pub named : All (IsNamedComponent packages device) (recorded_in es)

@@ -1,9 +1,9 @@
 -- Worlds by hand, to test the definitions of two tied moments, of a step that needs memory and of a
 -- step that calls a bank.
-use Rattle.std.specs.Prelude.{ℕ, ◌≡◌, ◌∷◌, [], Bool, List, None, Option, Some, false, map, take, true}
-use Rattle.fwup_wire.specs.Values.{AnswerOf, CommandOf}
+use Rattle.std.specs.Prelude.{◌≡◌, ◌∷◌, [], List, None, Option, Some, false, map, take, true}
+use Rattle.fwup_wire.specs.Values.{CommandOf}
 use Rattle.fd_core.specs.Images.{RowOf}
-use Rattle.fd_core.specs.States.{DeviceState, Phase, UpdateOf, WorkOf}
+use Rattle.fd_core.specs.States.{Phase, UpdateOf, WorkOf}
 use Rattle.fd_core.specs.declared.states.Progress.TheVariants as progress
 use Rattle.fd_core.specs.declared.states.Verdict.TheVariants as verdicts
 use Rattle.ua_core.specs.declared.planned.Recorded.{Recorded}
@@ -14,7 +14,6 @@ use Rattle.fw_message.specs.Pairs.{PairOf, Stepped, step_without_entries}
 use Rattle.fw_message.specs.RunLaws.{IsMessageWorldTiedBetween}
 use Rattle.fw_message.specs.Worlds.{NodeOf, NotedOf, MessageWorldOf, needs_memory, noted_of}
 use Rattle.fw_message.specs.declared.side.Way.TheVariants as ways
-use Rattle.fw_message.specs.declared.step.MessageStep.{MessageStep}
 use Rattle.fw_message.specs.declared.step.MessageStep.TheVariants as steps
 
 -- TWO MOMENTS

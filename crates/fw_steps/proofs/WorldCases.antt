@@ -1,17 +1,20 @@
 -- The worlds by hand, judged.
-use Rattle.std.specs.Prelude.{ℕ, ◌≡◌, ◌∷◌, [], IfSome, IsSomeAnd, List, None, Some, length, map, take}
+use Rattle.std.specs.Prelude.{ℕ, ◌≡◌, ◌+◌, ◌∷◌, [], IfSome, IsSomeAnd, List, None, Some, length, map, take}
 use Rattle.std.proofs.Common.{ap, arith, refl, sym, subst, inl, inr}
 use Rattle.std.proofs.lemmas.Bool.Decides.{eqb_tells}
+use Rattle.fw_package.specs.Package.{DescriptorOf}
 use Rattle.fd_core.specs.Images.{RowOf}
 use Rattle.fd_core.specs.States.{DeviceState}
+use Rattle.ua_core.specs.Lent.{package_descriptor}
 use Rattle.ua_core.specs.Session.{SessionOf}
 use Rattle.ua_core.specs.declared.planned.Recorded.{Recorded}
-use Rattle.fw_message.specs.Cases.{bank, image, new_boot, old_boot, recorded_component, worked_update}
+use Rattle.fw_message.specs.Cases.{activates, applies, bank, boot, image, keyed_image, new_boot, old_boot, packages, recorded_component, worked_update}
+use Rattle.fw_message.specs.Headline.{IsSafe, read_along}
 use Rattle.fw_message.specs.Worlds.{NotedOf, noted_of}
 use Rattle.fw_message.specs.WorldLaws.{history_of}
-use Rattle.fw_message.proofs.Cases.{accepts, applied_before as unapplied, wrong_bytes}
+use Rattle.fw_message.proofs.Cases.{accepts, applied_before as unapplied, first_image, wrong_bytes}
 use Rattle.fw_steps.specs.Moments.{IsTiedBetween, IsTiedFrom, entries_between}
-use Rattle.fw_steps.specs.WorldCases.{PartsOf, SameWorlds, TiedMoments, UnfailedBanks, UntiedMoments, WorldsAreJudged, half_with, site_with, world_of}
+use Rattle.fw_steps.specs.WorldCases.{PartsOf, SameWorlds, TiedMoments, UnfailedBanks, UnpromisedWorlds, UntiedMoments, WorldsAreJudged, after_update, half_with, site_with, world_of}
 use Rattle.fw_steps.specs.Worlds.{pair_for}
 
 -- a world of one device is tied with another if this device is
@@ -75,6 +78,11 @@ messages = record {
   none = λ p h. absurd (let e : 0 ≡ 9 = ap head_or h.eids in cc);
 }
 
+-- an image was activated that wasn't recorded, whatever the device is
+unsafe : (device : List DescriptorOf) → IsSafe packages device (applies boot new_boot ∷ activates boot new_boot ∷ []) → ⊥
+unfolding read_along
+unsafe device h = (first_image device (keyed_image boot new_boot) [] [] [] h.activated).1.recorded
+
 banks : UnfailedBanks
 banks = record {
   same = λ p. record { unrisen = omega arith; counted = λ e. absurd (omega (arith, e)) };
@@ -84,5 +92,15 @@ banks = record {
   second_rose = λ p h. absurd (omega (arith, h.unrisen));
 }
 
+unpromised : UnpromisedWorlds
+unpromised = record {
+  gone = λ p ss h. absurd (let e : 0 ≡ 1 = ap length h.devices in cc);
+  unrecorded = λ p ss h. unsafe (map package_descriptor p.site.node.half.core.device.descriptors) (h.safe 9).safe;
+  old_runs = λ p ss h. wrong_bytes (h.tied 9).active;
+  lost = λ p ss h. absurd (let e : 0 ≡ length (after_update p).history + length (entries_between (after_update p) (world_of p (bank new_boot None) (recorded_component 1 0 ∷ []) [])) = ap length h.grown in cc);
+  device_late = λ p w h. absurd (omega (arith, (h.clocks 9 refl).1));
+  agent_late = λ p w h. absurd (omega (arith, (h.clocks 8 refl).1));
+}
+
 pub worlds_are_judged : WorldsAreJudged
-worlds_are_judged = record { tied = tied; untied = untied; messages = messages; banks = banks }
+worlds_are_judged = record { tied = tied; untied = untied; messages = messages; banks = banks; unpromised = unpromised }

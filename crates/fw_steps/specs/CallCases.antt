@@ -1,5 +1,5 @@
 -- Packets and steps by hand, to test the definition of the calls of a bank.
-use Rattle.std.specs.Prelude.{ℕ, ◌≡◌, ◌∷◌, [], Bool, List, None, Some, false, replicate, true}
+use Rattle.std.specs.Prelude.{ℕ, ◌≡◌, ◌∷◌, [], Bool, List, None, false, replicate, true}
 use Rattle.mctp_wire.specs.declared.unit.Unit.TheVariants.{U64}
 use Rattle.mctp_reasm.specs.Pieces.{MessageOf}
 use Rattle.fd_core.specs.Images.{RowOf}

@@ -1,7 +1,7 @@
 -- What is promised of every run of steps (`Steps`) from an opening world (`Opening`): the headline
 -- (`fw_message`, `Headline`), and what any two moments of a run have to do with each other
 -- (`Moments`, `Clocks`, `Messages`). `IsPromised` holds of every value of the type `World`.
-use Rattle.std.specs.Prelude.{ℕ, ◌≡◌, ◌++◌, true, List, map}
+use Rattle.std.specs.Prelude.{ℕ, ◌≡◌, ◌++◌, true, List}
 use Rattle.std.specs.Option.{option_map}
 use Rattle.fw_message.specs.Headline.{HeadlineHolds, Shown}
 use Rattle.fw_message.specs.Laws.{shown_pair}

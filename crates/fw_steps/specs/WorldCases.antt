@@ -1,18 +1,20 @@
--- Worlds by hand, to test three definitions: two tied moments, the same world over whole messages,
--- and a bank that didn't fail.
+-- Worlds by hand, to test four definitions: two tied moments, the same world over whole messages, a
+-- bank that didn't fail, and what is promised of a run.
 use Rattle.std.specs.Prelude.{ℕ, ◌-◌, ◌^◌, ◌∷◌, [], List, None, Some, map, take}
 use Rattle.fd_core.specs.Images.{RowOf}
 use Rattle.fd_core.specs.States.{Phase}
 use Rattle.ua_core.specs.Session.{TimedOf}
 use Rattle.ua_core.specs.declared.planned.Recorded.{Recorded}
-use Rattle.fw_message.specs.Cases.{activates, bank, boot, image, new_boot, old_boot, packages, recorded_component, worked_update}
+use Rattle.fw_message.specs.Cases.{activates, applies, bank, boot, image, new_boot, old_boot, packages, recorded_component, worked_update}
 use Rattle.fw_message.specs.Worlds.{NodeOf, NotedOf, MessageWorldOf as MessageWorldOf, noted_of}
 use Rattle.fw_node.specs.Halves.{HalfOf}
 use Rattle.fw_steps.specs.Isolation.{IsUnfailed}
 use Rattle.fw_steps.specs.Messages.{IsSameWorld}
 use Rattle.fw_steps.specs.Moments.{IsTiedBetween}
-use Rattle.fw_steps.specs.StepCases.{with_agent}
+use Rattle.fw_steps.specs.Promises.{IsPromisedSince}
+use Rattle.fw_steps.specs.StepCases.{missed_by, with_agent}
 use Rattle.fw_steps.specs.Worlds.{SiteOf, WorldOf}
+use Rattle.fw_steps.specs.declared.step.Step.{Step}
 
 -- any parts of a world
 pub record PartsOf : Type 0 where
@@ -143,9 +145,27 @@ pub record UnfailedBanks : Type 0 where
   pub last : (p : PartsOf) → IsUnfailed 9 (banks_failed p (2 ^ 64 - 1) 0) (banks_failed p (2 ^ 64 - 1) 0) → ⊥
   pub second_rose : (p : PartsOf) → IsUnfailed 10 (banks_failed p 3 0) (banks_failed p 3 1) → ⊥
 
+-- WHAT IS PROMISED
+
+-- What is promised since a world, by whatever steps, doesn't hold where a device is gone, an image
+-- was activated that wasn't recorded, the old image still runs, or an entry of the history is lost;
+-- nor, of whatever world, where a device missed two ticks in a row, or the agent did.
+pub record UnpromisedWorlds : Type 0 where
+  pub gone : (p : PartsOf) (ss : List Step) → IsPromisedSince (before_update p) ss (world_with p [] [] []) → ⊥
+  pub unrecorded : (p : PartsOf) (ss : List Step) →
+      IsPromisedSince (before_update p) ss
+      (world_of p (bank new_boot None) [] (map (noted_of 9) (applies boot new_boot ∷ activates boot new_boot ∷ []))) → ⊥
+  pub old_runs : (p : PartsOf) (ss : List Step) →
+      IsPromisedSince (before_update p) ss (world_of p (bank old_boot None) (recorded_component 1 0 ∷ []) (map (noted_of 9) worked_update)) → ⊥
+  pub lost : (p : PartsOf) (ss : List Step) →
+      IsPromisedSince (after_update p) ss (world_of p (bank new_boot None) (recorded_component 1 0 ∷ []) []) → ⊥
+  pub device_late : (p : PartsOf) (w : WorldOf) → IsPromisedSince (before_update p) (missed_by (9 ∷ []) ∷ missed_by (9 ∷ []) ∷ []) w → ⊥
+  pub agent_late : (p : PartsOf) (w : WorldOf) → IsPromisedSince (before_update p) (missed_by (8 ∷ []) ∷ missed_by (8 ∷ []) ∷ []) w → ⊥
+
 -- The definitions accept and refuse as they should.
 pub record WorldsAreJudged : Type 0 where
   pub tied : TiedMoments
   pub untied : UntiedMoments
   pub messages : SameWorlds
   pub banks : UnfailedBanks
+  pub unpromised : UnpromisedWorlds

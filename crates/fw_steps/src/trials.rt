@@ -11,9 +11,9 @@ pub fn steps_are_judged()
     ensures memory { MemoryIsJudged }
 {}
 
-/// Two tied moments, the same world over whole messages and a bank that didn't fail, tested by
-/// hand: these definitions accept the worked update, and refuse each variant that differs from it
-/// in one point.
+/// Two tied moments, the same world over whole messages, a bank that didn't fail and what is
+/// promised of a run, tested by hand: these definitions refuse each variant that differs from the
+/// worked update in one point, and the first three accept it.
 pub fn worlds_are_judged()
     ensures { WorldsAreJudged }
 {}
