@@ -1,3 +1,5 @@
+mod Answering
 mod Digits
+mod Servers
 mod Streams
 mod Uses

@@ -1,4 +1,6 @@
+pub mod Answering
 pub mod Answers
 pub mod Inspection
 pub mod Lines
+pub mod Serving
 pub mod Stream

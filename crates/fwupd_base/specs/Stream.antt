@@ -7,15 +7,6 @@ use Rattle.fwupd_base.specs.Lines.{lines_with_ends, AreLines, IsOneLine}
 use Rattle.fwupd_base.specs.declared.stream.AnswerFault.{AnswerFault}
 use Rattle.fwupd_base.specs.declared.stream.AnswerFault.TheVariants.{Read}
 
--- The whole lines of a text are answered, and `part` is the beginning of the next line.
-pub record HasAnsweredLines (e : Endpoint) (tid : ℕ) (text : List ℕ) (before now : Option (List ℕ)) (part : List ℕ) : Type 0 where
-  pub lines : List (List ℕ)
-  pub each : AreLines lines
-  pub one : IsOneLine part
-  pub is : text ≡ lines_with_ends lines ++ part
-  pub written : Appends before now (lines_text e 0 lines)
-  pub terminus : tid ≡ tid_along e 0 lines
-
 -- The reader is at its end, and the answers to its text are written. If a reader's bytes aren't
 -- known, it gave some text.
 pub record AnswerOk (e : Endpoint) (read_before read_now written_before written_now : Option (List ℕ)) : Type 0 where
@@ -70,17 +61,6 @@ pub record AnswerWriteErr (e : Endpoint) (read_before read_now written_before wr
   pub most : length past ≤ 1
   pub read : Consumes read_before read_now (text ++ past)
   pub off : BreaksOffAnswer e text written_before written_now
-
--- `count` bytes were read. Each whole line of them, without the byte past the limit, is answered,
--- and `part` follows the lines.
-pub record ReadsPart (e : Endpoint) (tid count : ℕ) (read_before read_now written_before written_now : Option (List ℕ)) (part : List ℕ) : Type 0 where
-  pub text : List ℕ
-  pub past : List ℕ
-  pub within : length text ≤ 16777216
-  pub limit : past ≢ [] → (length past ≡ 1) × (length text ≡ 16777216)
-  pub size : length text + length past ≡ count
-  pub read : Consumes read_before read_now (text ++ past)
-  pub stands : HasAnsweredLines e tid text written_before written_now part
 
 -- There was no room for `most` more digits than are held, or none for the bytes that they encode
 -- together.

@@ -7,6 +7,7 @@ mod inspection;
 mod responder;
 mod retries;
 mod roughness;
+mod serving;
 mod stream;
 mod text;
 
@@ -15,4 +16,5 @@ pub use forms::Form;
 pub use inspection::{InspectFault, beginning_of, inspect, inspect_beginning};
 pub use retries::{read_some, write_whole};
 pub use roughness::Roughness;
+pub use serving::{LineServer, serve_stream};
 pub use stream::{AnswerFault, answer_stream};

@@ -62,7 +62,8 @@ fn push_digits(packet: &[u8], text: &mut LineText)
 
 /// Writes the output line of a reply: the packet in digits, or the cause why there is none.
 fn write_line(reply: Result<(), LineDropCause>, packet: &RawPacket, text: &mut LineText)
-    ensures { text.new.items ≡ line_text_of (result_map_both (λ _. packet.now.items) (λ e. e) reply) }
+    ensures text { text.new.items ≡ line_text_of (result_map_both (λ _. packet.now.items) (λ e. e) reply) }
+    ensures short { length text.new.items ≤ MAX_LINE }
 {
     text.clear();
     match reply {
@@ -86,6 +87,7 @@ pub fn answer_line(
 )
     requires room { length digits.now ≤ 2 * vec_capacity bytes.old }
     ensures text { text.new.items ≡ text_for_line responder.old.endpoint responder.old.tid digits.now }
+    ensures short { length text.new.items ≤ MAX_LINE }
     ensures after { responder.new ≡ record responder.old {
       tid = tid_after_line responder.old.endpoint responder.old.tid digits.now;
     } }

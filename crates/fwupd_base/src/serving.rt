@@ -1,0 +1,286 @@
+//! Lines in, lines out: a server of lines behind any reader and writer.
+
+ghost use Rattle.std.specs.Prelude.{[], Bool, true, false, ◌≡◌, ◌≢◌, ◌≤◌, ◌<◌, ◌+◌, ◌*◌, ◌-◌, ◌^◌, ◌++◌, IfErr, List, OnErr, OnOk, Option, length, vec_capacity, ℕ};
+ghost use Rattle.std.specs.Io.KnownBytes.{Keeps};
+ghost use Rattle.fwupd_base.specs.Stream.{LacksDigitRoom};
+ghost use Rattle.fwupd_base.specs.Serving.{BreaksOffLine, BreaksOffText, HasServedLines, ServeErr, ServeOk, ServesText, ServeWriteErr, StopsAtLine, WritesLine};
+
+use crate::retries::{read_some, write_whole};
+use crate::stream::AnswerFault;
+use memchr::memchr;
+use std::alloc::{AllocError, Global};
+use std::io::{Read, Write};
+
+/// The most bytes of one read.
+const PIECE: usize = 65_536;
+
+/// The room that a text has, in bytes, for a server that needs no memory of its own.
+const TEXT_ROOM: usize = 512;
+
+/// A server of lines. In contracts, `serves s line t text` says that a server `s` serves a line, is
+/// `t` afterwards, and prints `text`. If `may_lack` is false, memory is never refused to the
+/// server: it gets buffers with room for what it needs, and leaves them with that room.
+pub trait LineServer {
+    ghost serves: { Self → (line : List ℕ) → Self → (text : List ℕ) → Type 0 };
+
+    ghost may_lack: { Bool };
+
+    /// Serves a line, which is given without its line feed, and puts what it prints into `text`,
+    /// which must be empty. `bytes` is a buffer of any content, with room for the bytes that the
+    /// line's digits encode.
+    ///
+    /// # Errors
+    /// `AllocError` if memory is refused. The server and the text are unspecified then.
+    fn serve(
+        &mut self,
+        line: &[u8],
+        bytes: &mut Vec<u8>,
+        text: &mut Vec<u8>,
+    ) -> Result<(), AllocError>
+        requires empty { text.old.items ≡ [] }
+        requires digits { may_lack ≡ false → length line.now ≤ 2 * vec_capacity bytes.old }
+        requires room { may_lack ≡ false → 512 ≤ vec_capacity text.old }
+        ensures ok { OnOk result (serves self.old line.now self.new text.new.items) }
+        ensures err { OnErr result (may_lack ≡ true) }
+        ensures digits_room { may_lack ≡ false → vec_capacity bytes.old ≤ vec_capacity bytes.new }
+        ensures text_room { may_lack ≡ false → vec_capacity text.old ≤ vec_capacity text.new };
+}
+
+/// The buffers of a run: the bytes that a line's digits encode, and what a line prints.
+#[derive(Drop)]
+pub(crate) struct Buffers {
+    bytes: Vec<u8>,
+    text: Vec<u8>,
+}
+
+/// Serves a line, and writes what it prints.
+fn serve_line<S: LineServer, W: Write>(
+    server: &mut S,
+    line: &[u8],
+    buffers: &mut Buffers,
+    writer: &mut W,
+) -> Result<(), AnswerFault>
+    requires digits { S.may_lack ≡ false → length line.now ≤ 2 * vec_capacity buffers.old.bytes }
+    requires room { S.may_lack ≡ false → 512 ≤ vec_capacity buffers.old.text }
+    ensures ok { OnOk result (WritesLine S.serves server.old line.now server.new
+        (W.contents writer.old) (W.contents writer.new)) }
+    ensures broken { IfErr result (λ e. e ≡ AnswerFault.Write → BreaksOffLine S.serves server.old
+        line.now server.new (W.contents writer.old) (W.contents writer.new)) }
+    ensures memory { IfErr result (λ e. e ≢ AnswerFault.Write → (e ≡ AnswerFault.Memory)
+        × (S.may_lack ≡ true)
+        × Keeps (W.contents writer.old) (W.contents writer.new)) }
+    ensures digits_room { S.may_lack ≡ false → vec_capacity buffers.old.bytes ≤ vec_capacity buffers.new.bytes }
+    ensures text_room { S.may_lack ≡ false → vec_capacity buffers.old.text ≤ vec_capacity buffers.new.text }
+{
+    buffers.text.clear();
+    let Ok(()) = server.serve(line, &mut buffers.bytes, &mut buffers.text) else {
+        return Err(AnswerFault::Memory);
+    };
+    match write_whole(writer, &buffers.text) {
+        Ok(()) => Ok(()),
+        Err(_) => Err(AnswerFault::Write),
+    }
+}
+
+/// Flushes the writer.
+fn flush<W: Write>(writer: &mut W) -> Result<(), AnswerFault>
+    ensures kept { Keeps (W.contents writer.old) (W.contents writer.new) }
+    ensures fault { IfErr result (λ e. e ≡ AnswerFault.Write) }
+{
+    match writer.flush() {
+        Ok(()) => Ok(()),
+        Err(_) => Err(AnswerFault::Write),
+    }
+}
+
+/// Reserves room for `most` more digits in `held`, and in `bytes` for the bytes that the held
+/// digits then encode.
+fn make_room(held: &mut Vec<u8>, bytes: &mut Vec<u8>, most: usize) -> Result<(), AnswerFault>
+    ensures same { held.new.items ≡ held.old.items }
+    ensures holds { OnOk result (length held.new.items + most ≤ vec_capacity held.new) }
+    ensures decodes { OnOk result (length held.new.items + most ≤ 2 * vec_capacity bytes.new) }
+    ensures fault { IfErr result (λ e. e ≡ AnswerFault.Memory) }
+    ensures lacked { OnErr result (LacksDigitRoom (length held.old.items) most (vec_capacity held.old) (vec_capacity bytes.old)) }
+{
+    let Ok(()) = held.reserve(most) else {
+        return Err(AnswerFault::Memory);
+    };
+    bytes.clear();
+    let Ok(()) = bytes.reserve((held.len() + most) / 2 + 1) else {
+        return Err(AnswerFault::Memory);
+    };
+    Ok(())
+}
+
+/// Serves the line made of the held bytes and then `bytes`; afterwards no bytes are held.
+fn serve_ended<S: LineServer, W: Write>(
+    server: &mut S,
+    held: &mut Vec<u8>,
+    bytes: &[u8],
+    buffers: &mut Buffers,
+    writer: &mut W,
+) -> Result<(), AnswerFault>
+    requires holds { length held.old.items + length bytes.now ≤ vec_capacity held.old }
+    requires digits { S.may_lack ≡ false
+        → length held.old.items + length bytes.now ≤ 2 * vec_capacity buffers.old.bytes }
+    requires room { S.may_lack ≡ false → 512 ≤ vec_capacity buffers.old.text }
+    ensures ok { OnOk result (WritesLine S.serves server.old (held.old.items ++ bytes.now) server.new
+        (W.contents writer.old) (W.contents writer.new)) }
+    ensures none { OnOk result (held.new.items ≡ []) }
+    ensures broken { IfErr result (λ e. e ≡ AnswerFault.Write → BreaksOffLine S.serves server.old
+        (held.old.items ++ bytes.now) server.new (W.contents writer.old) (W.contents writer.new)) }
+    ensures memory { IfErr result (λ e. e ≢ AnswerFault.Write → (e ≡ AnswerFault.Memory)
+        × (S.may_lack ≡ true)
+        × Keeps (W.contents writer.old) (W.contents writer.new)) }
+    ensures held_room { vec_capacity held.old ≤ vec_capacity held.new }
+    ensures digits_room { S.may_lack ≡ false → vec_capacity buffers.old.bytes ≤ vec_capacity buffers.new.bytes }
+    ensures text_room { S.may_lack ≡ false → vec_capacity buffers.old.text ≤ vec_capacity buffers.new.text }
+{
+    if held.is_empty() {
+        return serve_line(server, bytes, buffers, writer);
+    }
+    let _ = held.extend_from_slice(bytes);
+    let end = serve_line(server, held, buffers, writer);
+    held.clear();
+    end
+}
+
+/// Serves the lines that end in a piece of the input, and holds the bytes after them. A line that
+/// is whole in the piece isn't copied.
+fn serve_piece<S: LineServer, W: Write>(
+    server: &mut S,
+    held: &mut Vec<u8>,
+    piece: &[u8],
+    buffers: &mut Buffers,
+    writer: &mut W,
+) -> Result<(), AnswerFault>
+    requires holds { length held.old.items + length piece.now ≤ vec_capacity held.old }
+    requires digits { S.may_lack ≡ false
+        → length held.old.items + length piece.now ≤ 2 * vec_capacity buffers.old.bytes }
+    requires room { S.may_lack ≡ false → 512 ≤ vec_capacity buffers.old.text }
+    ensures ok { (s : S) (all : List ℕ) (before : Option (List ℕ))
+        → HasServedLines S.serves s server.old all before (W.contents writer.old) held.old.items
+        → OnOk result (HasServedLines S.serves s server.new (all ++ piece.now) before
+        (W.contents writer.new) held.new.items) }
+    ensures stopped { (s : S) (all : List ℕ) (before : Option (List ℕ))
+        → HasServedLines S.serves s server.old all before (W.contents writer.old) held.old.items
+        → IfErr result (λ e. e ≢ AnswerFault.Write → (S.may_lack ≡ true)
+        × StopsAtLine S.serves s (all ++ piece.now) before (W.contents writer.new)) }
+    ensures broken { (s : S) (all : List ℕ) (before : Option (List ℕ))
+        → HasServedLines S.serves s server.old all before (W.contents writer.old) held.old.items
+        → IfErr result (λ e. e ≡ AnswerFault.Write → BreaksOffText S.serves s server.new
+        (all ++ piece.now) before (W.contents writer.new)) }
+    ensures fault { IfErr result (λ e. e ≢ AnswerFault.Read) }
+    ensures text_room { S.may_lack ≡ false → vec_capacity buffers.old.text ≤ vec_capacity buffers.new.text }
+{
+    let mut from = 0;
+    while let Some(count) = memchr(b'\n', &piece[from..]) {
+        match serve_ended(server, held, &piece[from..from + count], buffers, writer) {
+            Ok(()) => from += count + 1,
+            Err(fault) => return Err(fault),
+        }
+    }
+    let _ = held.extend_from_slice(&piece[from..]);
+    Ok(())
+}
+
+/// Serves the bytes after the last line feed: a line, unless they are empty.
+fn finish<S: LineServer, W: Write>(
+    server: &mut S,
+    held: &[u8],
+    buffers: &mut Buffers,
+    writer: &mut W,
+) -> Result<(), AnswerFault>
+    requires digits { S.may_lack ≡ false → length held.now ≤ 2 * vec_capacity buffers.old.bytes }
+    requires room { S.may_lack ≡ false → 512 ≤ vec_capacity buffers.old.text }
+    ensures ok { (s : S) (all : List ℕ) (before : Option (List ℕ))
+        → HasServedLines S.serves s server.old all before (W.contents writer.old) held.now
+        → OnOk result (ServesText S.serves s server.new all before (W.contents writer.new)) }
+    ensures stopped { (s : S) (all : List ℕ) (before : Option (List ℕ))
+        → HasServedLines S.serves s server.old all before (W.contents writer.old) held.now
+        → IfErr result (λ e. e ≢ AnswerFault.Write → (S.may_lack ≡ true)
+        × StopsAtLine S.serves s all before (W.contents writer.new)) }
+    ensures broken { (s : S) (all : List ℕ) (before : Option (List ℕ))
+        → HasServedLines S.serves s server.old all before (W.contents writer.old) held.now
+        → IfErr result (λ e. e ≡ AnswerFault.Write → BreaksOffText S.serves s server.new all
+        before (W.contents writer.new)) }
+    ensures fault { IfErr result (λ e. e ≢ AnswerFault.Read) }
+{
+    if held.is_empty() {
+        return Ok(());
+    }
+    match serve_line(server, held, buffers, writer) {
+        Ok(()) => flush(writer),
+        Err(fault) => Err(fault),
+    }
+}
+
+/// Reads lines, has the server serve each, and writes what it prints. A line feed ends a line; the
+/// bytes after the last one are a line too, unless they are empty.
+///
+/// Before the next read, all whole lines of the last read are served and what they print is
+/// flushed. So a peer over a pipe never waits for what a line that it has sent prints. Beside the
+/// server's, work is linear in the input. Interrupted reads and writes are retried.
+///
+/// # Errors
+/// - `Read` if the reader fails, or at the first byte past `limit`: exactly the whole lines before
+/// are served;
+/// - `Memory` if memory for a line is refused: the lines before are served, and nothing that the
+/// line prints is written;
+/// - `Write` if the writer fails: the lines before are served, and a beginning of what the next
+/// line prints may be written.
+pub fn serve_stream<R: Read, W: Write, S: LineServer>(
+    alloc: Global,
+    reader: &mut R,
+    writer: &mut W,
+    server: &mut S,
+    limit: usize,
+) -> Result<(), AnswerFault>
+    requires { limit < 2 ^ 64 - 1 }
+    ensures ok { OnOk result (ServeOk S.serves limit server.old server.new (R.remaining reader.old)
+        (R.remaining reader.new) (W.contents writer.old) (W.contents writer.new)) }
+    ensures stopped { IfErr result (λ e. e ≢ AnswerFault.Write → ServeErr S.serves S.may_lack limit
+        server.old server.new e (R.remaining reader.old) (R.remaining reader.new) (W.contents writer.old)
+        (W.contents writer.new)) }
+    ensures broken { IfErr result (λ e. e ≡ AnswerFault.Write → ServeWriteErr S.serves limit
+        server.old server.new (R.remaining reader.old) (R.remaining reader.new)
+        (W.contents writer.old) (W.contents writer.new)) }
+{
+    let mut held: Vec<u8> = Vec::new(alloc);
+    let mut buffers = Buffers {
+        bytes: Vec::new(alloc),
+        text: Vec::new(alloc),
+    };
+    let mut storage: Vec<u8> = Vec::new(alloc);
+    let Ok(()) = storage.resize(PIECE, 0) else {
+        return Err(AnswerFault::Memory);
+    };
+    let Ok(()) = buffers.text.reserve(TEXT_ROOM) else {
+        return Err(AnswerFault::Memory);
+    };
+    let buffer = storage.as_mut_slice();
+    let mut count = 0;
+    while count <= limit {
+        let most = PIECE.min(limit + 1 - count);
+        match make_room(&mut held, &mut buffers.bytes, most) {
+            Ok(()) => {}
+            Err(fault) => return Err(fault),
+        }
+        let read = match read_some(reader, buffer, most) {
+            Ok(0) => return finish(server, &held, &mut buffers, writer),
+            Ok(read) => read,
+            Err(_) => return Err(AnswerFault::Read),
+        };
+        let within = read.min(limit - count);
+        match serve_piece(server, &mut held, &buffer[..within], &mut buffers, writer) {
+            Ok(()) => {}
+            Err(fault) => return Err(fault),
+        }
+        match flush(writer) {
+            Ok(()) => {}
+            Err(fault) => return Err(fault),
+        }
+        count += read;
+    }
+    Err(AnswerFault::Read)
+}
