@@ -1,5 +1,5 @@
 -- A capture decodes to its packets.
-use Rattle.std.proofs.Common.{◌≡◌, ◌∙◌, ◌<◌, ◌≤◌, ◌+◌, ◌-◌, ◌^◌, ◌==◌, ℕ, zero, suc, Bool, true, false, if◌then◌else◌, List, [], ◌∷◌, ◌++◌, length, None, Some, refl, sym, ap, arith}
+use Rattle.std.proofs.Common.{◌≡◌, ◌∙◌, ◌<◌, ◌≤◌, ◌+◌, ◌-◌, ◌^◌, ◌==◌, ◌&&◌, ℕ, zero, suc, Bool, true, false, if◌then◌else◌, List, [], ◌∷◌, ◌++◌, length, None, Some, refl, sym, ap, arith}
 use Rattle.std.specs.Prelude.{Option, drop, option_map, slice_index}
 use Rattle.std.specs.List.{AllByRecursion}
 use Rattle.std.proofs.Math.Nat.{mod-eq_of_lt}
@@ -20,7 +20,7 @@ unfolding word
 word_read n rest small = little_number-reads_back 4 n rest small
 
 -- the captured size is that of the packet plus 16
-size_fits : (bytes : List ℕ) → 16 + length bytes < 2 ^ 32 → captured_size bytes ≡ 16 + length bytes
+pub size_fits : (bytes : List ℕ) → 16 + length bytes < 2 ^ 32 → captured_size bytes ≡ 16 + length bytes
 size_fits bytes small = mod-eq_of_lt small
 
 type_read : (b : Bool) → (type_of b == 4) ≡ b
@@ -28,30 +28,40 @@ type_read true = refl
 type_read false = refl
 
 -- the header of the first record gives its size, and the packet
-size_read : (p : CapturedOf) (rest : List ℕ) → IsCapturable p → size_in (capture_record p ++ rest) ≡ 16 + length p.bytes
+pub size_read : (p : CapturedOf) (rest : List ℕ) → IsCapturable p → size_in (capture_record p ++ rest) ≡ 16 + length p.bytes
 unfolding capture_record record_head word
 size_read p rest fits =
     word_read (captured_size p.bytes) (word (captured_size p.bytes) ++ behind p rest) (rw (size_fits p.bytes fits.1) fits.1) ∙ size_fits p.bytes fits.1
 
-turn_read : (p : CapturedOf) (rest : List ℕ) → IsCapturable p → little_number 4 (capture_record p ++ rest) ≡ p.turn
+pub turn_read : (p : CapturedOf) (rest : List ℕ) → IsCapturable p → little_number 4 (capture_record p ++ rest) ≡ p.turn
 unfolding capture_record record_head word
 turn_read p rest fits =
     word_read p.turn (word 0 ++ (word (captured_size p.bytes) ++ (word (captured_size p.bytes) ++ behind p rest))) fits.0
+
+-- so does the original size, and the protocol is MCTP
+pub original_read : (p : CapturedOf) (rest : List ℕ) → IsCapturable p → little_number 4 (drop 12 (capture_record p ++ rest)) ≡ 16 + length p.bytes
+unfolding capture_record record_head word
+original_read p rest fits =
+    word_read (captured_size p.bytes) (behind p rest) (rw (size_fits p.bytes fits.1) fits.1) ∙ size_fits p.bytes fits.1
+
+pub protocol_read : (p : CapturedOf) (rest : List ℕ) → (slice_index (capture_record p ++ rest) 30 == 0x00) && (slice_index (capture_record p ++ rest) 31 == 0xFA) ≡ true
+unfolding capture_record record_head word
+protocol_read p rest = refl
 
 way_read : (p : CapturedOf) (rest : List ℕ) → (slice_index (capture_record p ++ rest) 17 == 4) ≡ p.is_sent
 unfolding capture_record record_head word
 way_read p rest = type_read p.is_sent
 
-bytes_read : (p : CapturedOf) (rest : List ℕ) → drop 32 (capture_record p ++ rest) ≡ p.bytes ++ rest
+pub bytes_read : (p : CapturedOf) (rest : List ℕ) → drop 32 (capture_record p ++ rest) ≡ p.bytes ++ rest
 unfolding capture_record record_head word
 bytes_read p rest = refl
 
-rest_read : (p : CapturedOf) (rest : List ℕ) → drop (16 + (16 + length p.bytes)) (capture_record p ++ rest) ≡ rest
+pub rest_read : (p : CapturedOf) (rest : List ℕ) → drop (16 + (16 + length p.bytes)) (capture_record p ++ rest) ≡ rest
 rest_read p rest =
     let more : 16 + (16 + length p.bytes) ≡ 32 + length p.bytes = omega arith in
     ap (λ n. drop n (capture_record p ++ rest)) more ∙ sym (drop-drop (length p.bytes) 32 (capture_record p ++ rest)) ∙ ap (drop (length p.bytes)) (bytes_read p rest) ∙ drop-append_seam p.bytes rest
 
-length_record : (p : CapturedOf) (rest : List ℕ) → length (capture_record p ++ rest) ≡ 32 + (length p.bytes + length rest)
+pub length_record : (p : CapturedOf) (rest : List ℕ) → length (capture_record p ++ rest) ≡ 32 + (length p.bytes + length rest)
 unfolding capture_record record_head word
 length_record p rest = omega (arith, length-append p.bytes rest)
 

@@ -3,12 +3,15 @@ pub mod Bases
 pub mod Captures
 pub mod Commands
 pub mod Control
+pub mod Decoding
 pub mod Hearings
+pub mod Inputs
 pub mod Laws
 pub mod Lines
 pub mod Messages
 pub mod Names
 pub mod Pieces
 pub mod Records
+pub mod Seen
 pub mod Sent
 pub mod Tables

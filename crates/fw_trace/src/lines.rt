@@ -1,10 +1,12 @@
 //! A line for each packet between an agent and a device. Each function's only error is
 //! `AllocError`.
 
-ghost use Rattle.std.specs.Prelude.{◌≡◌, ◌≤◌, ◌++◌, codes, length, OnOk};
+ghost use Rattle.std.specs.Prelude.{◌≡◌, ◌≤◌, ◌++◌, codes, length, IfOk, OnOk};
 ghost use Rattle.mctp_reasm.specs.Pieces.{packet_of};
+ghost use Rattle.mctp_wire.specs.Packet as wire;
 ghost use Rattle.mctp_wire.specs.Units.{bytes_of};
 ghost use Rattle.fw_text.specs.Printing.{AppendsText};
+ghost use Rattle.fw_trace.specs.Decoding.{head_in, packet_says};
 ghost use Rattle.fw_trace.specs.Lines.{after_packet, fed_text, head_text, outcome_of_packet, outcome_text, new_reader, packet_line, packet_text, part_text, place_text, reader_after};
 ghost use Rattle.fw_trace.specs.Messages.{message_text};
 ghost use Rattle.fw_trace.specs.Names.{cause_name};
@@ -144,6 +146,31 @@ impl PacketReader {
         let heard = self.assemble(&packet);
         push_packet_line(alloc, text, place, &packet, &heard)
     }
+
+    /// Reads the next packet: returns its head, if the bytes are a packet, and appends what it says
+    /// to `text`. The reader is updated whatever the result.
+    ///
+    /// # Errors
+    /// `AllocError` if memory is refused; the text's content is unspecified then.
+    #[tactic(auto, unfolding(crate::specs::Decoding::packet_says, crate::specs::Lines::reader_after))]
+    pub(crate) fn read(
+        &mut self,
+        alloc: Global,
+        text: &mut Vec<u8>,
+        bytes: &[u8],
+    ) -> Result<Option<Head>, AllocError>
+        ensures head { IfOk result (λ h. h ≡ head_in (wire.packet_of self.old.unit bytes.now)) }
+        ensures text { OnOk result (AppendsText text.old.items text.new.items (packet_says self.old bytes.now)) }
+        ensures after { self.new ≡ reader_after self.old bytes.now }
+    {
+        let Ok(packet) = mctp_wire::decode(self.unit(), bytes) else {
+            push_digits(alloc, text, " bytes ", bytes)?;
+            return Ok(None);
+        };
+        let heard = self.assemble(&packet);
+        push_outcome(alloc, text, &packet, &heard)?;
+        Ok(Some(packet.head))
+    }
 }
 
 /// Appends the tick at which a packet was sent, its device, and its number.
@@ -159,7 +186,7 @@ fn push_place(alloc: Global, text: &mut Vec<u8>, place: Place) -> Result<(), All
 
 /// Appends the packet's source and destination, and its tag.
 #[tactic(auto, unfolding(crate::specs::Lines::head_text))]
-fn push_head(alloc: Global, text: &mut Vec<u8>, head: &Head) -> Result<(), AllocError>
+pub(crate) fn push_head(alloc: Global, text: &mut Vec<u8>, head: &Head) -> Result<(), AllocError>
     ensures { OnOk result (AppendsText text.old.items text.new.items (head_text head.now)) }
 {
     push_byte(alloc, text, " ", head.source)?;

@@ -8,6 +8,8 @@ mod bases;
 #[cfg(test)]
 mod commands;
 #[cfg(test)]
+mod decoded;
+#[cfg(test)]
 mod memory;
 #[cfg(test)]
 mod packets;

@@ -1,10 +1,10 @@
 //! Random bytes as packets.
 
-use fw_trace::PacketReader;
+use fw_trace::{PacketReader, TraceLines, decode_file_in};
 use mctp_wire::{RawPacket, Unit};
 use rand_core::utils::NextWord;
 use rand_pcg::Pcg32;
-use std::alloc::Global;
+use std::alloc::{AllocError, Global};
 
 /// The number of packets.
 const PACKETS: usize = 4_000;
@@ -87,4 +87,65 @@ fn lines_of_randoms(alloc: Global, unit: Unit, seed: u64) -> usize {
 fn random_bytes_get_lines(rt: HostRuntime) {
     assert_eq!(rt; lines_of_randoms(rt.alloc(), Unit::U64, 42), PACKETS);
     assert_eq!(rt; lines_of_randoms(rt.alloc(), Unit::U128, 7), PACKETS);
+}
+
+/// The number of random lines.
+const LINES: usize = 100_000;
+
+/// The bytes that random lines are mostly made of.
+const PLAIN: &[u8] = b"0123456789ABCDEFabcdef 0123456789 to-device to-agent 0109080C";
+
+/// Appends a random line: mostly digits, or words of a trace.
+fn push_random_line(random: &mut Pcg32, text: &mut Vec<u8>) -> Result<(), AllocError> {
+    let begins: &[u8] = match below(random, 4) {
+        0 => b"010908C",
+        1 => b"7 9 to-device 010908",
+        2 => b"8 12 to-agent 01080C",
+        _ => b"",
+    };
+    text.extend_from_slice(begins)?;
+    for _ in 0..below(random, 40) {
+        let place = usize::from(below(random, 60));
+        let byte = match below(random, 50) {
+            0 => below(random, 256),
+            _ => PLAIN.get(place).copied().unwrap_or(b'0'),
+        };
+        if byte != b'\n' {
+            text.push(byte)?;
+        }
+    }
+    text.push(b'\n')?;
+    Ok(())
+}
+
+/// Whether a line is that of an input.
+fn is_input_line(line: &[u8]) -> bool {
+    for byte in line {
+        if !(b' '..=b'~').contains(byte) {
+            return false;
+        }
+    }
+    match line {
+        [] => true,
+        [first, ..] => {
+            line.starts_with(b"drop ") || line.starts_with(b"- ") || first.is_ascii_digit()
+        }
+    }
+}
+
+#[test]
+fn each_random_line_gets_a_line(rt: HostRuntime) -> Result<(), AllocError> {
+    let mut random = Pcg32::new(7, 54);
+    let mut lines = Vec::new(rt.alloc());
+    for _ in 0..LINES {
+        push_random_line(&mut random, &mut lines)?;
+    }
+    let text = decode_file_in(rt.alloc(), Unit::U64, &TraceLines, &lines)?;
+    let mut count = 0usize;
+    for line in text.split(|byte| *byte == b'\n') {
+        assert!(rt; is_input_line(line));
+        count = count.saturating_add(1);
+    }
+    assert_eq!(rt; count, LINES + 1);
+    Ok(())
 }
