@@ -22,10 +22,16 @@ mod values;
 pub use config::{ComponentConfig, Config, DeviceConfig};
 pub use draft::read_config;
 pub use faults::{ScriptCause, ScriptFault};
+pub use lines::{MAX_FIELDS, fields_after, first_word, is_skipped};
 pub use names::{cause_name, session_name, state_name};
 pub use package_spec::{PackageSpec, SpecComponent, SpecDescriptor, SpecNumbers, SpecRecord};
-pub use reports::{push_history, report, rising_keys, session_of};
-pub use schedule::{read_lines, read_schedule};
+pub use reports::{
+    SentCount, push_agent_alone, push_device_alone, push_history, push_log, push_sessions, report,
+    rising_keys, session_of,
+};
+pub use schedule::{
+    Directive, directive_of, read_lines, read_schedule, read_step, read_ticks, read_verdict,
+};
 pub use schedule_laws::schedules_read_back;
 pub use schedule_lines::{LineSteps, NextStep, ScheduleLine, step_count};
 pub use schedule_text::{ScheduleText, write_schedule};

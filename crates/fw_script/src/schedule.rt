@@ -28,21 +28,30 @@ const MAX_MISSED: usize = 17;
 
 /// The first word of a line.
 #[derive(Clone, Copy, PartialEq, Eq)]
-enum Directive {
+pub enum Directive {
+    /// `tick`: ticks that all nodes count.
     Tick,
+    /// `miss`: a tick that nodes miss.
     Miss,
+    /// `deliver`: a packet is delivered.
     Deliver,
+    /// `start`: an update of a device starts.
     Start,
+    /// `cancel`: the update of a device is cancelled.
     Cancel,
+    /// `activate`: a device activates its images.
     Activate,
+    /// `verdict`: a verdict on an image.
     Verdict,
+    /// `restart`: a node restarts.
     Restart,
+    /// `sel`: a request to the event log.
     Sel,
 }
 
-/// The directive with this word, if there is one.
+/// Returns the directive with this word, if there is one.
 #[tactic(auto, unfolding(crate::specs::Schedules::directive_of))]
-fn directive_of(word: &[u8]) -> Option<Directive>
+pub fn directive_of(word: &[u8]) -> Option<Directive>
     ensures { result ≡ directive_named word.now }
 {
     if word == b"tick".as_slice() {
@@ -68,9 +77,9 @@ fn directive_of(word: &[u8]) -> Option<Directive>
     }
 }
 
-/// The verdict with this word.
+/// Parses the word of a verdict.
 #[tactic(auto, unfolding(crate::specs::Schedules::verdict_of))]
-fn verdict(word: &[u8]) -> Result<Verdict, ScriptCause>
+pub fn read_verdict(word: &[u8]) -> Result<Verdict, ScriptCause>
     ensures { result ≡ verdict_of word.now }
 {
     if word == b"verify-ok".as_slice() {
@@ -96,8 +105,8 @@ fn place(word: &[u8]) -> Result<usize, ScriptCause>
     }
 }
 
-/// The number of ticks of a line.
-fn ticks(fields: &[&[u8]]) -> Result<u64, ScriptCause>
+/// Parses the fields of a line of ticks: their number, 1 if it is left out.
+pub fn read_ticks(fields: &[&[u8]]) -> Result<u64, ScriptCause>
     ensures { result ≡ ticks_of (map (λ f. f.now) fields.now) }
 {
     match fields {
@@ -147,7 +156,7 @@ fn verdict_step(fields: &[&[u8]]) -> Result<Step, ScriptCause>
     let [device, word] = fields else {
         return Err(ScriptCause::Fields);
     };
-    match both(eid(device), verdict(word)) {
+    match both(eid(device), read_verdict(word)) {
         Ok((device, verdict)) => Ok(Step::Verdict(device, verdict)),
         Err(cause) => Err(cause),
     }
@@ -238,8 +247,8 @@ fn sel(alloc: Global, fields: &[&[u8]]) -> Result<Step, ScriptCause>
     Ok(Step::Sel(request))
 }
 
-/// The step of a line that is a single step.
-fn step(alloc: Global, directive: Directive, fields: &[&[u8]]) -> Result<Step, ScriptCause>
+/// Parses the fields of a line that is a single step, of a directive other than `Tick`.
+pub fn read_step(alloc: Global, directive: Directive, fields: &[&[u8]]) -> Result<Step, ScriptCause>
     requires { directive ≢ Directive.Tick }
     ensures { AnswersUnlessMemory (λ s. s) result (step_of directive (map (λ f. f.now) fields.now)) }
 {
@@ -270,12 +279,12 @@ fn said(alloc: Global, directive: Directive, fields: &[&[u8]]) -> Result<Schedul
     ensures { AnswersUnlessMemory line_steps result (steps_of_directive directive (map (λ f. f.now) fields.now)) }
 {
     if let Directive::Tick = directive {
-        return match ticks(fields) {
+        return match read_ticks(fields) {
             Ok(count) => Ok(ScheduleLine::Ticks(count)),
             Err(cause) => Err(cause),
         };
     }
-    match step(alloc, directive, fields) {
+    match read_step(alloc, directive, fields) {
         Ok(step) => Ok(ScheduleLine::Step(step)),
         Err(cause) => Err(cause),
     }
