@@ -41,13 +41,13 @@ run_left w v steps None h = subst (λ ss. Run w ss v) (sym (take_all (length ste
 run_left w v steps (Some f) h = h.1
 
 -- The laws of runs from an opening world.
-pub record LawsOfRuns : Type 0 where
+pub record ReplayLaws : Type 0 where
   pub promised : RunsArePromised
   pub tied : RunsStayTied
   pub time : RunsKeepTime
 
 -- the world after a replay is safe, and tied with the first
-pub replayed_by : (w x v : WorldOf) (steps : List Step) (fault : Option (ℕ × StepFault)) (form : Form) (text : List ℕ) → x ≡ w → IsOpeningWorld x → LawsOfRuns
+pub replayed_by : (w x v : WorldOf) (steps : List Step) (fault : Option (ℕ × StepFault)) (form : Form) (text : List ℕ) → x ≡ w → IsOpeningWorld x → ReplayLaws
     → LeavesWorld x steps fault v → text ≡ report_in form v → IsReplayed w steps fault form text
 replayed_by w x v steps fault form text is opens laws left report =
     let run = run_left x v steps fault left in
