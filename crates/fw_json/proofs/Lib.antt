@@ -1,6 +1,9 @@
 mod Chains
 mod Numbers
 mod Reading
+mod Said
 mod Inspected
 mod Reported
+mod NodesAlone
 mod Planned
+mod DecodedDepths

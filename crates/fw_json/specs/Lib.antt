@@ -1,3 +1,5 @@
+pub mod Alone
+pub mod Decoded
 pub mod Values
 pub mod Writing
 pub mod Inspections

@@ -46,33 +46,33 @@
 -- - `Recording`: the entries of the agent's records after a packet.
 -- - `Judging`: the entries after a verdict.
 mod Absences
-mod Activating
+pub mod Activating
 mod Aging
 mod CallCases
 mod Cases
-mod Components
+pub mod Components
 mod DevicesAreIsolated
 mod Fit
-mod Judging
+pub mod Judging
 mod Leading
 pub mod LinksAreLanes
 mod LinksAreMessages
-mod NodesAlone
-mod Noting
+pub mod NodesAlone
+pub mod Noting
 mod Opening
-mod PacketsAreSafe
-mod PacketsAreTheirs
+pub mod PacketsAreSafe
+pub mod PacketsAreTheirs
 mod Places
 mod PlaysAreRuns
 mod ProcessesAreSafe
 pub mod Reaching
-mod Recording
+pub mod Recording
 mod Rooms
 pub mod Running
 mod ReadingBack
 mod Spans
 mod StepCases
-mod Ticking
+pub mod Ticking
 mod TracesAreCut
 mod TracesArePlays
 mod TracesAreSafe

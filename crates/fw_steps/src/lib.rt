@@ -33,6 +33,7 @@ pub use processes::{
     absences_are_deeds, nodes_are_alone, packets_are_theirs, plays_are_runs, plays_are_safe,
     processes_are_safe, traces_are_cut, traces_are_plays, traces_are_safe,
 };
+pub use recorded::deliver_and_record;
 pub use step::{LogRequest, Missed, Refusal, Step, StepFault};
 pub use trials::{bank_calls_are_judged, steps_are_judged, worlds_are_judged};
 pub use world::World;

@@ -17,7 +17,7 @@ use ua_core::Recorded;
 /// The agent handles the bytes of a packet. The component that it records is noted. There must be
 /// room for that entry.
 #[tactic(auto, using(crate::proofs::Recording::noted_behind))]
-pub(crate) fn deliver_and_record<'p>(
+pub fn deliver_and_record<'p>(
     agent: &mut AgentNode,
     packages: &'p [Package<'p>],
     bytes: &[u8],

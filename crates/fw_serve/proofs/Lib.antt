@@ -1,0 +1,16 @@
+-- The proofs of nodes by themselves.
+--
+-- - `Lists`: items of lists.
+-- - `Notes`: the entries after a call of a device's node alone.
+-- - `Calls`: the calls of a device's node by itself.
+-- - `Parts`: what the nodes of a run print for their parts of it.
+-- - `NothingElse`: where no call of a bank fails, a device prints nothing else.
+-- - `Ends`: the line of packets, from the packets with a space after each.
+mod Calls
+mod Ends
+mod Lists
+mod NothingElse
+mod Notes
+mod Parts
+mod Prints
+mod Turns

@@ -1,0 +1,6 @@
+pub mod Agents
+pub mod Lines
+pub mod Noting
+pub mod Parts
+pub mod Serving
+pub mod Texts

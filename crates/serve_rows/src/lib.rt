@@ -1,0 +1,5 @@
+//! Tests of nodes by themselves.
+#![tactic(auto)]
+
+#[cfg(test)]
+mod tests;

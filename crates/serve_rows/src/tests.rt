@@ -1,0 +1,7 @@
+//! A device and the agent as servers of lines.
+
+mod agent_lines;
+mod device_lines;
+mod joined;
+mod setup;
+mod streams;

@@ -1,0 +1,122 @@
+//! The worked device and its agent, each by itself.
+
+ghost use Rattle.std.specs.Prelude.{IfOk};
+ghost use Rattle.fd_core.specs.Components.{HasComponents};
+
+use arrayvec::ArrayVec;
+use fd_core::{BankComponent, Device, Key, Label, MemBank};
+use fw_node::DeviceNode;
+use fw_package::{Package, PackageFault};
+use fw_serve::{AgentFilter, DeviceFilter};
+use fwup_wire::{DescriptorList, DeviceDescriptor, TypedText, Version};
+use fwupd_base::LineServer;
+use mctp_ctl::Endpoint;
+use mctp_wire::Unit;
+use std::alloc::{AllocError, Global};
+use uuid::Uuid;
+
+/// The header of the worked package: one record of the descriptor 0000 with data 34 12, set text
+/// `A`, and component (10, 1) with stamp 2, options 0002, text `v2` and 241 bytes.
+const HEADER: &[u8] = &[
+    0xF0, 0x18, 0x87, 0x8C, 0xCB, 0x7D, 0x49, 0x43, 0x98, 0, 0xA0, 0x2F, 0x05, 0x9A, 0xCA, 0x02,
+    0x01, 0x56, 0, 0, 0, 0, 0, 0, 0, 0, 0, 0, 0, 0, 0, 0, 0x08, 0, 0x01, 0, 0x01, 0x13, 0, 0x01, 0,
+    0, 0, 0, 0x01, 0x01, 0, 0, 0x01, 0x41, 0, 0, 0x02, 0, 0x34, 0x12, 0x01, 0, 0x0A, 0, 0x01, 0,
+    0x02, 0, 0, 0, 0x02, 0, 0, 0, 0x56, 0, 0, 0, 0xF1, 0, 0, 0, 0x01, 0x02, 0x76, 0x32, 0xFE, 0x65,
+    0x62, 0x75,
+];
+
+/// The file of the worked package: its header and its image, whose byte i is i.
+pub fn file(alloc: Global) -> Result<Vec<u8>, AllocError> {
+    let mut out = Vec::new(alloc);
+    out.extend_from_slice(HEADER)?;
+    for byte in 0..=240 {
+        out.push(byte)?;
+    }
+    Ok(out)
+}
+
+/// `Package::read`; its contract isn't needed in the proofs of the tests.
+pub fn package(bytes: &[u8]) -> Result<Package<'_>, PackageFault> {
+    Package::read(bytes)
+}
+
+/// An endpoint without a UUID.
+fn endpoint(eid: u8) -> Endpoint {
+    Endpoint {
+        eid,
+        uuid: Uuid::nil(),
+    }
+}
+
+/// The worked device: descriptor 0000 with data 34 12, and component (10, 1) with stamp 1, text
+/// `1.0` and image AA.
+fn device(alloc: Global) -> Result<Device<MemBank>, AllocError>
+    ensures { IfOk result (λ d. HasComponents d.device) }
+{
+    let key = Key {
+        classification: 10,
+        identifier: 1,
+    };
+    let label = Label::new(&Version {
+        stamp: 1,
+        text: TypedText {
+            text_type: 1,
+            bytes: b"1.0",
+        },
+    });
+    let mut bank = MemBank::new(alloc);
+    let Ok(()) = bank.add(key, &label, &[0xAA]) else {
+        return Err(AllocError);
+    };
+    let mut components = ArrayVec::new();
+    components.push(BankComponent { key, index: 0 });
+    let mut descriptors = DescriptorList::new();
+    descriptors.push(&DeviceDescriptor {
+        kind: 0,
+        bytes: &[0x34, 0x12],
+    });
+    Ok(Device::new(Unit::U64, descriptors, components, bank))
+}
+
+/// The worked device 9 of the agent 8, as a server of lines.
+pub fn device_filter(alloc: Global, auto: bool) -> Result<DeviceFilter<MemBank>, AllocError> {
+    let device = device(alloc)?;
+    let node = DeviceNode::new(endpoint(9), 8, device);
+    DeviceFilter::new(alloc, node, auto)
+}
+
+/// The agent 8 of the device 9, as a server of lines.
+pub fn agent_filter<'p>(
+    alloc: Global,
+    packages: &'p [Package<'p>],
+    auto: bool,
+) -> Result<AgentFilter<'p>, AllocError> {
+    AgentFilter::new(alloc, Unit::U64, endpoint(8), &[9], packages, auto)
+}
+
+/// Serves a line, and returns what it prints.
+pub fn served<S: LineServer>(
+    alloc: Global,
+    server: &mut S,
+    line: &[u8],
+) -> Result<Vec<u8>, AllocError> {
+    let mut bytes = Vec::with_capacity(alloc, line.len())?;
+    let mut text = Vec::with_capacity(alloc, 512)?;
+    server.serve(line, &mut bytes, &mut text)?;
+    Ok(text)
+}
+
+/// Returns whether each line prints its text.
+pub fn serves_all<S: LineServer>(
+    alloc: Global,
+    server: &mut S,
+    lines: &[(&str, &str)],
+) -> Result<bool, AllocError> {
+    for (line, text) in lines {
+        let printed = served(alloc, server, line.as_bytes())?;
+        if printed.as_slice() != text.as_bytes() {
+            return Ok(false);
+        }
+    }
+    Ok(true)
+}
