@@ -1,14 +1,15 @@
 -- A run: its first world, its steps, and the world after them.
-use Rattle.std.specs.Prelude.{ℕ, ◌≡◌, List}
+use Rattle.std.specs.Prelude.{ℕ, [], ◌∷◌, ◌++◌, ◌≡◌, ◌⊎◌, List, Some}
 use Rattle.mctp_ctl.specs.declared.answers.Endpoint.{Endpoint}
 use Rattle.mctp_wire.specs.declared.unit.Unit.{«Unit»}
 use Rattle.fw_package.specs.Package.{PackageText}
 use Rattle.fw_script.specs.Configs.{DeviceConfigOf}
 use Rattle.fw_setup.specs.Nodes.{nodes_made}
 use Rattle.fw_steps.specs.Opening.{new_world}
-use Rattle.fw_steps.specs.Steps.{Run}
+use Rattle.fw_steps.specs.Steps.{Run, StepsTo, may_step}
 use Rattle.fw_steps.specs.Worlds.{WorldOf}
 use Rattle.fw_steps.specs.declared.step.Step.{Step}
+use Rattle.fw_steps.specs.declared.step.StepFault.{StepFault}
 
 -- the setup of the runs: the agent, the transmission unit of its network, its devices as
 -- configured, and the packages
@@ -30,6 +31,21 @@ pub record CourseOf : Type 0 where
 -- The steps lead to the world from the world before the first step.
 abbrev pub IsCourse : SetupOf → CourseOf → Type 0
 IsCourse s c = Run (opening_of s) c.steps c.world
+
+-- a step is taken
+pub record TakesStep (s : Step) (c d : CourseOf) : Type 0 where
+  pub step : StepsTo c.world s d.world
+  pub listed : d.steps ≡ c.steps ++ s ∷ []
+
+-- a step isn't allowed, and nothing has changed
+pub record LeavesStep (s : Step) (c d : CourseOf) : Type 0 where
+  pub fault : StepFault
+  pub refused : may_step c.world s ≡ Some fault
+  pub same : d ≡ c
+
+-- a step is taken if it is allowed
+abbrev pub TriesStep : Step → CourseOf → CourseOf → Type 0
+TriesStep s c d = TakesStep s c d ⊎ LeavesStep s c d
 
 -- A run continues: a run from any world to the first state continues to the second.
 pub record ContinuesRun (c d : CourseOf) : Type 0 where

@@ -1,3 +1,4 @@
+pub mod Chances
 pub mod Checking
 pub mod Checks
 pub mod Counts

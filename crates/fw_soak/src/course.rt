@@ -1,9 +1,9 @@
 //! A run: its steps, and the world after them.
 
-ghost use Rattle.std.specs.Prelude.{[], ◌≡◌, IfOk, map};
+ghost use Rattle.std.specs.Prelude.{[], ◌≡◌, IfOk, OnErr, OnOk, map};
 ghost use Rattle.fw_script.specs.Seen.{device_of};
 ghost use Rattle.fw_script.specs.Whole.{AreWhole};
-ghost use Rattle.fw_soak.specs.Courses.{ContinuesRun, opening_of};
+ghost use Rattle.fw_soak.specs.Courses.{ContinuesRun, TriesStep, opening_of};
 ghost use Rattle.fw_soak.specs.Setups.{setup_of};
 
 use crate::chances::Chances;
@@ -69,7 +69,9 @@ impl<'a> SoakCourse<'a> {
     /// `AllocError` if memory is refused; nothing has changed then.
     #[tactic(auto, using(crate::proofs::Coursing::going))]
     pub(crate) fn take(&mut self, step: Step) -> Result<bool, AllocError>
-        ensures { ContinuesRun self.old self.new }
+        ensures goes { ContinuesRun self.old self.new }
+        ensures tried { OnOk result (TriesStep step self.old self.new) }
+        ensures same { OnErr result (self.new ≡ self.old) }
     {
         let Ok(()) = self.steps.reserve(1) else {
             return Err(AllocError);

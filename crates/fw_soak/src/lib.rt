@@ -5,6 +5,7 @@ mod chances;
 mod checker;
 mod counts;
 mod course;
+mod decisions;
 mod naming;
 mod setup;
 mod soaking;

@@ -4,11 +4,13 @@ ghost use Rattle.std.specs.Prelude.{◌≡◌, IfOk, map};
 ghost use Rattle.fw_script.specs.Seen.{device_of};
 ghost use Rattle.fw_script.specs.Whole.{AreWhole};
 ghost use Rattle.fw_steps.specs.Opening.{IsOpeningWorld};
+ghost use Rattle.fw_soak.specs.Chances.{failing_call, generator_past};
 ghost use Rattle.fw_soak.specs.Courses.{opening_of};
 ghost use Rattle.fw_soak.specs.Setups.{setup_of};
 
 use crate::chances::Chances;
-use fd_core::FailBank;
+use crate::decisions::failing_drawn;
+use fd_core::{FailBank, MemBank};
 use fw_package::Package;
 use fw_script::{ComponentConfig, DeviceConfig};
 use fw_setup::{Banks, BanksFault, mem_bank, opening_world_over};
@@ -30,6 +32,17 @@ pub struct Setup<'a> {
     pub packages: &'a [Package<'a>],
 }
 
+/// Returns a bank of which at random one call fails, or none.
+fn failing_bank(bank: MemBank, chances: &mut Chances) -> FailBank
+    ensures bank { result.bank ≡ bank }
+    ensures left { result.left ≡ failing_call chances.old.generator }
+    ensures faults { result.faults ≡ 0 }
+    ensures after { chances.new.generator ≡ generator_past 2 chances.old.generator }
+{
+    let failing = failing_drawn(chances);
+    FailBank::new(bank, failing)
+}
+
 /// At random, one call of each bank fails, or none.
 impl Banks<FailBank> for Chances {
     fn make(
@@ -41,9 +54,7 @@ impl Banks<FailBank> for Chances {
         let Ok(bank) = mem_bank(alloc, components) else {
             return Err(BanksFault::Memory);
         };
-        let calls = 1 << self.below(10);
-        let failing = u64::from(self.below(calls));
-        Ok(FailBank::new(bank, failing))
+        Ok(failing_bank(bank, self))
     }
 }
 

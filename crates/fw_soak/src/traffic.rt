@@ -1,11 +1,12 @@
 //! The packets of a run, and their fates.
 
-ghost use Rattle.fw_soak.specs.Courses.{ContinuesRun};
+ghost use Rattle.std.specs.Prelude.{[], ◌∷◌, ◌++◌, ◌+◌, ◌-◌, ◌^◌, ◌≡◌, ◌≢◌, OnOk, min};
+ghost use Rattle.fw_soak.specs.Courses.{ContinuesRun, TriesStep};
 
 use crate::chances::Chances;
 use crate::course::SoakCourse;
+use crate::decisions::delays;
 use fd_core::FailBank;
-use fw_edge::Fate;
 use fw_world::{Step, World};
 use fwupd_base::Roughness;
 use std::alloc::{AllocError, Global};
@@ -59,7 +60,8 @@ fn next_of(world: &World<'_, FailBank>, place: usize, met: usize) -> Option<Arri
 /// Delivers a packet, if it is allowed.
 #[tactic(auto, using(crate::proofs::Coursing::going))]
 fn arrive(course: &mut SoakCourse<'_>, arrival: Arrival) -> Result<(), AllocError>
-    ensures { ContinuesRun course.old course.new }
+    ensures goes { ContinuesRun course.old course.new }
+    ensures tried { OnOk result (TriesStep (Step.Deliver arrival.pair arrival.number arrival.node) course.old course.new) }
 {
     course.take(Step::Deliver(arrival.pair, arrival.number, arrival.node))?;
     Ok(())
@@ -92,7 +94,15 @@ impl Traffic {
         arrival: Arrival,
         wait: u32,
     ) -> Result<(), AllocError>
-        ensures { ContinuesRun course.old course.new }
+        ensures goes { ContinuesRun course.old course.new }
+        ensures at_once { OnOk result (wait ≡ 0
+            → TriesStep (Step.Deliver arrival.pair arrival.number arrival.node) course.old
+            course.new × (self.new.late.items ≡ self.old.late.items)) }
+        ensures later { OnOk result (wait ≢ 0
+            → (course.new ≡ course.old)
+            × (self.new.late.items ≡ self.old.late.items
+            ++ record { arrival = arrival; due = min (course.old.world.now + wait) (2 ^ 32 - 1) } ∷ [])) }
+        ensures met { self.new.met ≡ self.old.met }
     {
         if wait == 0 {
             return arrive(course, arrival);
@@ -114,14 +124,11 @@ impl Traffic {
     ) -> Result<(), AllocError>
         ensures { ContinuesRun course.old course.new }
     {
-        match chances.fate(self.roughness) {
-            Fate::Lost => Ok(()),
-            Fate::Once(wait) => self.send(course, arrival, wait),
-            Fate::Twice(first, second) => {
-                self.send(course, arrival, first)?;
-                self.send(course, arrival, second)
-            }
+        let delays = delays(chances.fate(self.roughness));
+        for wait in &delays {
+            self.send(course, arrival, *wait)?;
         }
+        Ok(())
     }
 
     /// Gives the next packet of the pair at `place` its fate, if there is one.

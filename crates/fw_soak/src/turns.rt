@@ -1,13 +1,16 @@
 //! The turns of a run, with every kind of fault.
 
-ghost use Rattle.std.specs.Prelude.{◌<◌, IfOk, map};
+ghost use Rattle.std.specs.Prelude.{◌<◌, ◌≡◌, IfOk, IfSome, OnOk, map, slice_get};
+ghost use Rattle.fw_edge.specs.Fates.{word_after};
 ghost use Rattle.fw_script.specs.Seen.{device_of};
 ghost use Rattle.fw_script.specs.Whole.{AreWhole};
-ghost use Rattle.fw_soak.specs.Courses.{ContinuesRun, IsCourse};
+ghost use Rattle.fw_soak.specs.Chances.{drawn_package};
+ghost use Rattle.fw_soak.specs.Courses.{ContinuesRun, IsCourse, TriesStep};
 ghost use Rattle.fw_soak.specs.Setups.{setup_of};
 
 use crate::chances::Chances;
 use crate::course::SoakCourse;
+use crate::decisions::{Upset, Upsets, package_drawn, upset_drawn, verdict_drawn};
 use crate::setup::Setup;
 use crate::traffic::Traffic;
 use fd_core::{FailBank, Verdict};
@@ -20,47 +23,9 @@ use ua_core::SessionState;
 /// The most turns of a run; three images of the largest size take about 66,000.
 const TURNS: u32 = 80_000;
 
-/// A run has fewer upsets than this.
-const UPSETS: u32 = 8;
-
-/// The number of powers of two from 16 to 2,048. One of them is the average number of turns between
-/// two upsets.
-const RARENESS: u32 = 8;
-
 /// The average number of turns until the operator restarts an update that a restarted agent has
 /// forgotten.
 const PAUSE: u32 = 8;
-
-/// One verdict in this number is bad, on average.
-const BAD: u32 = 16;
-
-/// The upsets of a run.
-#[derive(Clone, Copy)]
-struct Upsets {
-    /// The number of remaining upsets.
-    left: u32,
-    /// One turn in this number has an upset, on average.
-    among: u32,
-}
-
-impl Upsets {
-    /// Draws the upsets of a run.
-    fn new(chances: &mut Chances) -> Upsets {
-        Upsets {
-            left: chances.below(UPSETS),
-            among: 16 << chances.below(RARENESS),
-        }
-    }
-
-    /// Whether an upset occurs in this turn.
-    fn comes(&mut self, chances: &mut Chances) -> bool {
-        if self.left == 0 || self.among == 0 || !chances.one_in(self.among) {
-            return false;
-        }
-        self.left -= 1;
-        true
-    }
-}
 
 /// The state of the session with the device at `place`.
 fn state_at(world: &World<'_, FailBank>, place: usize) -> Option<SessionState> {
@@ -88,9 +53,13 @@ fn start(
     chances: &mut Chances,
 ) -> Result<(), AllocError>
     requires { 0 < packages }
-    ensures { ContinuesRun course.old course.new }
+    ensures goes { ContinuesRun course.old course.new }
+    ensures started { OnOk result (IfSome (slice_get course.old.world.sites place) (λ x. TriesStep
+        (Step.Start x.node.endpoint.eid (drawn_package packages chances.old.generator)) course.old
+        course.new)) }
+    ensures after { chances.new.generator ≡ word_after chances.old.generator }
 {
-    let number = chances.below(packages) as usize + 1;
+    let number = package_drawn(chances, packages);
     let Some(node) = course.world().device_at(place) else {
         return Ok(());
     };
@@ -149,8 +118,7 @@ fn verdict_at(world: &World<'_, FailBank>, place: usize, chances: &mut Chances) 
     } else {
         return None;
     };
-    let verdict = if chances.one_in(BAD) { bad } else { good };
-    Some(Step::Verdict(node.eid(), verdict))
+    Some(Step::Verdict(node.eid(), verdict_drawn(chances, good, bad)))
 }
 
 /// The activation that the session with the device at `place` waits for.
@@ -191,11 +159,11 @@ fn upset(
         return Ok(());
     };
     let device = node.eid();
-    let step = match chances.below(4) {
-        0 => Step::Restart(course.world().agent().eid()),
-        1 => Step::Restart(device),
-        2 => Step::Cancel(device),
-        _ => return traffic.repeat(course, place, chances),
+    let step = match upset_drawn(chances) {
+        Upset::RestartAgent => Step::Restart(course.world().agent().eid()),
+        Upset::RestartDevice => Step::Restart(device),
+        Upset::Cancel => Step::Cancel(device),
+        Upset::Repeat => return traffic.repeat(course, place, chances),
     };
     course.take(step)?;
     Ok(())

@@ -66,6 +66,20 @@ fn soaks_the_worked_devices(rt: HostRuntime) {
 }
 
 #[test]
+fn another_seed_makes_other_runs(rt: HostRuntime) {
+    let alloc = rt.alloc();
+    let mut observer = Counting { seen: 0, last: 0 };
+    let (Some(one), Some(other)) = (
+        soaked(alloc, 7, 3, &mut observer),
+        soaked(alloc, 8, 3, &mut observer),
+    ) else {
+        return;
+    };
+    assert!(rt; one.summary.losses > 0 && other.summary.losses > 0);
+    assert!(rt; one.summary != other.summary);
+}
+
+#[test]
 fn tells_a_summary(rt: HostRuntime) {
     let summary = Summary {
         runs: 1,
