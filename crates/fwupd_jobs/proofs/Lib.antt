@@ -5,6 +5,7 @@ mod Ended
 mod Examined
 mod Foretold
 mod Linked
+mod Lone
 mod Lines
 mod Named
 mod Names

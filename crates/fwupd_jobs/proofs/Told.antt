@@ -66,8 +66,8 @@ replayed_by w x v steps fault form text is opens laws left report =
 -- the observer doesn't begin
 pub unbegun : (files : List ℕ → FileOf) (source : SourceOf) (number : ℕ) (show : ShowOf) (refuses : List ℕ → Bool) (lacks : ℕ → Bool) (told : JobFault) (watched : ObserverOf) (before : OutputOf)
     → (told ≡ faults.Memory) ⊎ LacksTrace files source number show refuses told watched → UpdateEnds files source number show refuses lacks told watched before before
-unbegun files source number show refuses lacks told watched before (inl e) = inr (inr (record { kept = refl; cause = inl e }))
-unbegun files source number show refuses lacks told watched before (inr h) = inr (inr (record { kept = refl; cause = inr (inr (inr (inr (inl h)))) }))
+unbegun files source number show refuses lacks told watched before (inl e) = inr (inr (inl e, refl))
+unbegun files source number show refuses lacks told watched before (inr h) = inr (inr (inr (inr (inr (inr (inl h)))), refl))
 
 -- a link can't be opened
 unopened : (files : List ℕ → FileOf) (source : SourceOf) (number : ℕ) (show : ShowOf) (refuses : List ℕ → Bool) (lacks : ℕ → Bool) (w : WorldOf) (told : JobFault) (watched : ObserverOf) → IsObservedSetup files source number show w
@@ -88,18 +88,18 @@ update_ends files source number show refuses lacks w v told watched before now b
 update_ends files source number show refuses lacks w v told watched before now begins shown promised sees lost recorded kept (inr (inl h)) =
     inr (inl (record { is = h.0; world = w; begins = begins; left = v; promised = promised; begun = h.1 }))
 update_ends files source number show refuses lacks w v told watched before now begins shown promised sees lost recorded kept (inr (inr h)) =
-    inr (inr (record { kept = h.1; cause = unopened files source number show refuses lacks w told watched begins h.0 }))
+    inr (inr (unopened files source number show refuses lacks w told watched begins h.0, h.1))
 
 -- the store of a device can't be opened
 pub stores_end : (files : List ℕ → FileOf) (source : SourceOf) (number : ℕ) (show : ShowOf) (refuses : List ℕ → Bool) (lacks : ℕ → Bool) (told : JobFault) (watched : ObserverOf) (before : OutputOf)
     → (told ≡ faults.Memory) ⊎ StoresFail files source told → UpdateEnds files source number show refuses lacks told watched before before
-stores_end files source number show refuses lacks told watched before (inl e) = inr (inr (record { kept = refl; cause = inl e }))
-stores_end files source number show refuses lacks told watched before (inr h) = inr (inr (record { kept = refl; cause = inr (inr (inr (inl h))) }))
+stores_end files source number show refuses lacks told watched before (inl e) = inr (inr (inl e, refl))
+stores_end files source number show refuses lacks told watched before (inr h) = inr (inr (inr (inr (inr (inl h))), refl))
 
 pub stores_end_replay : (files : List ℕ → FileOf) (config : SourceOf) (schedule : List ℕ) (show : ShowOf) (refuses : List ℕ → Bool) (told : JobFault) (watched : ObserverOf) (before : OutputOf)
     → (told ≡ faults.Memory) ⊎ StoresFail files config told → ReplayEnds files config schedule show refuses told watched before before
-stores_end_replay files config schedule show refuses told watched before (inl e) = inr (inr (inl (record { kept = refl; cause = inl e })))
-stores_end_replay files config schedule show refuses told watched before (inr h) = inr (inr (inl (record { kept = refl; cause = inr (inr (inl h)) })))
+stores_end_replay files config schedule show refuses told watched before (inl e) = inr (inr (inl (inl e, refl)))
+stores_end_replay files config schedule show refuses told watched before (inr h) = inr (inr (inl (inr (inr (inl h)), refl)))
 
 -- later faults aren't those of a store
 pub barred_of_none : (files : List ℕ → FileOf) (refuses : List ℕ → Bool) (show : ShowOf) (paths : List (List ℕ)) (told : JobFault) (watched : ObserverOf)
@@ -126,16 +126,16 @@ driven_of_none number form lacks w v told watched before now (inr (inr h)) tells
 -- a replay whose schedule can't be read
 pub schedule_ends : (files : List ℕ → FileOf) (config : SourceOf) (schedule : List ℕ) (show : ShowOf) (refuses : List ℕ → Bool) (w : WorldOf) (told : JobFault) (watched : ObserverOf) (before : OutputOf) → IsSetup files config w
     → (told ≡ faults.Memory) ⊎ TextFails script_of files schedule told → ReplayEnds files config schedule show refuses told watched before before
-schedule_ends files config schedule show refuses w told watched before setup (inl e) = inr (inr (inl (record { kept = refl; cause = inl e })))
+schedule_ends files config schedule show refuses w told watched before setup (inl e) = inr (inr (inl (inl e, refl)))
 schedule_ends files config schedule show refuses w told watched before setup (inr f) =
-    inr (inr (inl (record { kept = refl; cause = inr (inr (inr (record { world = w; setup = setup; fails = f }))) })))
+    inr (inr (inl (inr (inr (inr (record { world = w; setup = setup; fails = f }))), refl)))
 
 -- a replay whose observer doesn't begin
 pub unkept_ends : (files : List ℕ → FileOf) (config : SourceOf) (schedule : List ℕ) (show : ShowOf) (refuses : List ℕ → Bool) (told : JobFault) (watched : ObserverOf) (before : OutputOf) (c : ConfigOf) (paths : List (List ℕ))
     → Says config_of (files config.path) c → paths ≡ c.packages → (told ≡ faults.Memory) ⊎ IsBarred files refuses show (schedule ∷ config.path ∷ paths) told watched → ReplayEnds files config schedule show refuses told watched before before
-unkept_ends files config schedule show refuses told watched before c paths says same (inl e) = inr (inr (inl (record { kept = refl; cause = inl e })))
+unkept_ends files config schedule show refuses told watched before c paths says same (inl e) = inr (inr (inl (inl e, refl)))
 unkept_ends files config schedule show refuses told watched before c paths says same (inr b) =
-    inr (inr (inr (inr (record { kept = refl; says = c; is = says; barred = subst (λ ps. IsBarred files refuses show (schedule ∷ config.path ∷ ps) told watched) same b }))))
+    inr (inr (inr (inr (record { says = c; is = says; barred = subst (λ ps. IsBarred files refuses show (schedule ∷ config.path ∷ ps) told watched) same b }, refl))))
 
 -- a replay whose report is written, and whose observer had a fault
 pub unseen_ends : (files : List ℕ → FileOf) (config : SourceOf) (schedule : List ℕ) (show : ShowOf) (refuses : List ℕ → Bool) (fault : ObserverFault) (told : JobFault) (watched : ObserverOf) (before now : OutputOf)

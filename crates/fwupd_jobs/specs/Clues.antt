@@ -33,22 +33,22 @@ clue_to_shown show fault = None
 
 -- a job that reads packages of a configuration
 abbrev pub clue_to_package : Job → Option ClueOf
-clue_to_package (jobs.Replay config schedule show) = Some (ClueOf.NoPackage config.now)
-clue_to_package (jobs.Run config folder order show) = Some (ClueOf.NoPackage config.now)
-clue_to_package (jobs.Soak config order path) = Some (ClueOf.NoPackage config.now)
+clue_to_package (jobs.Replay r) = Some (ClueOf.NoPackage r.config.now)
+clue_to_package (jobs.Run u) = Some (ClueOf.NoPackage u.config.now)
+clue_to_package (jobs.Soak s) = Some (ClueOf.NoPackage s.config.now)
 clue_to_package (jobs.Plan config number form) = Some (ClueOf.NoPackage config.now)
 clue_to_package job = None
 
 abbrev pub clue_to_step : Job → (number : ℕ) → Option ClueOf
-clue_to_step (jobs.Replay config schedule show) number = Some (ClueOf.OfStep schedule.now number)
+clue_to_step (jobs.Replay r) number = Some (ClueOf.OfStep r.schedule.now number)
 clue_to_step job number = None
 
 -- the file that a job makes and can't write
 abbrev pub clue_to_output : Job → JobFault → Option ClueOf
-clue_to_output (jobs.Soak config order path) faults.Record = option_map (λ p. ClueOf.Unwritten p.now) path
+clue_to_output (jobs.Soak s) faults.Record = option_map (λ p. ClueOf.Unwritten p.now) s.record
 clue_to_output (jobs.Build spec path) faults.Output = Some (ClueOf.Unwritten path.now)
-clue_to_output (jobs.Replay config schedule show) fault = clue_to_shown show fault
-clue_to_output (jobs.Run config folder order show) fault = clue_to_shown show fault
+clue_to_output (jobs.Replay r) fault = clue_to_shown r.show fault
+clue_to_output (jobs.Run u) fault = clue_to_shown u.show fault
 clue_to_output job fault = None
 
 -- the clue to why a job ended with a fault

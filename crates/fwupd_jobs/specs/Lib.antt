@@ -1,8 +1,11 @@
+pub mod Alone
 pub mod Built
 pub mod Checked
 pub mod ClueLines
 pub mod Clues
+pub mod Decoded
 pub mod Failures
+pub mod Hosts
 pub mod Inspected
 pub mod Jobs
 pub mod Logs

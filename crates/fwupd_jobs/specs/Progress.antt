@@ -5,7 +5,7 @@ use Rattle.fwupd_words.specs.declared.asked.Job.TheVariants as jobs
 
 -- the number of runs that a job makes: those of a soak; another job makes none
 abbrev pub runs_of_job : Job → ℕ
-runs_of_job (jobs.Soak config order path) = order.runs
+runs_of_job (jobs.Soak s) = s.order.runs
 runs_of_job job = 0
 
 -- the line after `runs` runs, in which `violations` violations were found; it overwrites the line

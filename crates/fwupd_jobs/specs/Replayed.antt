@@ -109,22 +109,21 @@ pub record ReportsUnseen (files : List ℕ → FileOf) (config : SourceOf) (sche
 
 -- Nothing is replayed: an output may overwrite an input or another output, is in a store, or is
 -- refused.
-pub record LacksKept (files : List ℕ → FileOf) (config : SourceOf) (schedule : List ℕ) (show : ShowOf) (refuses : List ℕ → Bool) (told : JobFault) (watched : ObserverOf) (before now : OutputOf) : Type 0 where
-  pub kept : now ≡ before
+pub record LacksKept (files : List ℕ → FileOf) (config : SourceOf) (schedule : List ℕ) (show : ShowOf) (refuses : List ℕ → Bool) (told : JobFault) (watched : ObserverOf) : Type 0 where
   pub says : ConfigOf
   pub is : Says config_of (files config.path) says
   pub barred : IsBarred files refuses show (schedule ∷ config.path ∷ says.packages) told watched
 
--- Nothing is written: memory was refused, or one of the inputs, the first in their order, is
+-- Nothing is replayed: memory was refused, or one of the inputs, the first in their order, is
 -- faulty, or a device's store is.
-pub record StopsBefore (files : List ℕ → FileOf) (config : SourceOf) (schedule : List ℕ) (told : JobFault) (before now : OutputOf) : Type 0 where
-  pub kept : now ≡ before
-  pub cause : (told ≡ faults.Memory) ⊎ (SetupFails files config.path told ⊎ (StoresFail files config told ⊎ ScheduleFails files config schedule told))
+abbrev pub StopsBefore : (files : List ℕ → FileOf) (config : SourceOf) (schedule : List ℕ) (told : JobFault) → Type 0
+StopsBefore files config schedule told =
+    (told ≡ faults.Memory) ⊎ (SetupFails files config.path told ⊎ (StoresFail files config told ⊎ ScheduleFails files config schedule told))
 
--- The result of a replay that failed.
+-- The result of a replay that failed. If nothing is replayed, nothing is written.
 abbrev pub ReplayEnds : (files : List ℕ → FileOf) (config : SourceOf) (schedule : List ℕ) (show : ShowOf) (refuses : List ℕ → Bool) (told : JobFault) (watched : ObserverOf) (before now : OutputOf) → Type 0
 ReplayEnds files config schedule show refuses told watched before now =
     ReportsStep files config schedule show.form told before now
     ⊎ (BreaksOff files config schedule show.form told before now
-    ⊎ (StopsBefore files config schedule told before now
-    ⊎ (ReportsUnseen files config schedule show told watched before now ⊎ LacksKept files config schedule show refuses told watched before now)))
+    ⊎ ((StopsBefore files config schedule told × (now ≡ before))
+    ⊎ (ReportsUnseen files config schedule show told watched before now ⊎ (LacksKept files config schedule show refuses told watched × (now ≡ before)))))

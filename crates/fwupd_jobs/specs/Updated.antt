@@ -143,17 +143,16 @@ pub record LacksLink (files : List ℕ → FileOf) (config : SourceOf) (number :
   pub begins : IsObservedSetup files config number show world
   pub unlinked : IsUnlinked world lacks told
 
--- Nothing is written: memory was refused, or a world, a package, a store, a trace or a link is
+-- The run doesn't begin: memory was refused, or a world, a package, a store, a trace or a link is
 -- missing.
-pub record ReportsNothing (files : List ℕ → FileOf) (config : SourceOf) (number : ℕ) (show : ShowOf) (refuses : List ℕ → Bool) (lacks : ℕ → Bool) (told : JobFault) (watched : ObserverOf) (before now : OutputOf) : Type 0 where
-  pub kept : now ≡ before
-  pub cause :
-      (told ≡ faults.Memory)
-      ⊎ (NumberedSetupFails files config.path number told
-      ⊎ (((told ≡ faults.NoPackage) × LacksPackage files config.path number) ⊎ (StoresFail files config told ⊎ (LacksTrace files config number show refuses told watched ⊎ LacksLink files config number show lacks told))))
+abbrev pub LacksUpdate : (files : List ℕ → FileOf) (config : SourceOf) (number : ℕ) (show : ShowOf) (refuses : List ℕ → Bool) (lacks : ℕ → Bool) (told : JobFault) (watched : ObserverOf) → Type 0
+LacksUpdate files config number show refuses lacks told watched =
+    (told ≡ faults.Memory)
+    ⊎ (NumberedSetupFails files config.path number told
+    ⊎ (((told ≡ faults.NoPackage) × LacksPackage files config.path number) ⊎ (StoresFail files config told ⊎ (LacksTrace files config number show refuses told watched ⊎ LacksLink files config number show lacks told))))
 
--- The result of an update that failed.
+-- The result of an update that failed. If the run doesn't begin, nothing is written.
 abbrev pub UpdateEnds : (files : List ℕ → FileOf) (config : SourceOf) (number : ℕ) (show : ShowOf) (refuses : List ℕ → Bool) (lacks : ℕ → Bool) (told : JobFault) (watched : ObserverOf) (before now : OutputOf) → Type 0
 UpdateEnds files config number show refuses lacks told watched before now =
     ReportsReached files config number show told watched before now
-    ⊎ (BreaksReport files config number show told before now ⊎ ReportsNothing files config number show refuses lacks told watched before now)
+    ⊎ (BreaksReport files config number show told before now ⊎ (LacksUpdate files config number show refuses lacks told watched × (now ≡ before)))

@@ -4,7 +4,7 @@ ghost use Rattle.std.specs.Prelude.{◌≡◌, option_map};
 ghost use Rattle.fwupd_jobs.specs.Clues.{clue_of, clue_seen, clue_to_shown};
 
 use fwupd_watch::JobFault;
-use fwupd_words::{Job, Show};
+use fwupd_words::{Job, Replay, Show, Soak, Update};
 
 /// A clue to why a job failed.
 #[derive(Clone, Copy)]
@@ -40,17 +40,17 @@ pub fn clue_to<'a>(job: &Job<'a>, fault: &'a JobFault) -> Option<Clue<'a>>
 {
     match (fault, job) {
         (JobFault::Unreadable(path), _) => Some(Clue::Unread(path.as_str())),
-        (JobFault::Package(_), Job::Replay { config, .. })
-        | (JobFault::Package(_), Job::Run { config, .. })
-        | (JobFault::Package(_), Job::Soak { config, .. })
+        (JobFault::Package(_), Job::Replay(Replay { config, .. }))
+        | (JobFault::Package(_), Job::Run(Update { config, .. }))
+        | (JobFault::Package(_), Job::Soak(Soak { config, .. }))
         | (JobFault::Package(_), Job::Plan { config, .. }) => Some(Clue::Package(config)),
-        (JobFault::Step(number, _), Job::Replay { schedule, .. }) => {
-            Some(Clue::Step(schedule, *number))
+        (JobFault::Step(number, _), Job::Replay(replay)) => {
+            Some(Clue::Step(replay.schedule, *number))
         }
-        (JobFault::Record, Job::Soak { record, .. }) => Some(Clue::Unwritten((*record)?)),
+        (JobFault::Record, Job::Soak(soak)) => Some(Clue::Unwritten(soak.record?)),
         (JobFault::Output, Job::Build { package, .. }) => Some(Clue::Unwritten(package)),
-        (fault, Job::Replay { show, .. }) => clue_to_shown(show, fault),
-        (fault, Job::Run { show, .. }) => clue_to_shown(show, fault),
+        (fault, Job::Replay(replay)) => clue_to_shown(&replay.show, fault),
+        (fault, Job::Run(update)) => clue_to_shown(&update.show, fault),
         _ => None,
     }
 }

@@ -1,98 +1,88 @@
-//! A job over any files, reader, links, observer and output.
+//! A job on any host.
 
 ghost use Rattle.std.specs.Prelude.{◌≡◌, ◌⊎◌, IfErr, OnOk};
 ghost use Rattle.fw_setup.specs.Stocks.{stores_in};
+ghost use Rattle.fwupd_jobs.specs.Hosts.{FoundOf, LeftOf};
 ghost use Rattle.fwupd_jobs.specs.Jobs.{IsDone, JobEnds};
 ghost use Rattle.fwupd_watch.specs.Running.{HasObserverFault};
 
+use crate::alone::{agent_file, device_file};
 use crate::building::build_file;
 use crate::checking::update_checked;
+use crate::decoding::decode_file;
+use crate::host::{Host, Parts};
 use crate::inspecting::inspect_file;
 use crate::planning::plan_file;
 use crate::replaying::replay_files;
 use crate::soaking::soak_file;
 use crate::telling::sel_file;
-use crate::updating::Wires;
-use fw_edge::Link;
-use fw_setup::Stores;
-use fw_soak::SoakObserver;
-use fw_store::Folder;
-use fwupd_watch::{Files, JobFault, Observer, Output, OutputPlaces};
+use fwupd_watch::JobFault;
 use fwupd_words::Job;
 use std::alloc::Global;
-use std::io::{Read, Write};
 
-/// Performs a job. It reads files from `files` and packets from the reader, and puts the files that
-/// it makes at their places.
+/// Performs a job on a host.
 ///
 /// # Errors
 /// Those of the job: of `Output::answer`, `inspect_file`, `replay_files`, `update_checked`,
-/// `build_file`, `plan_file`, `soak_file` or `sel_file`.
-pub fn perform_job<
-    F: Files,
-    D: Folder + Drop,
-    T: Stores<D>,
-    R: Read,
-    L: Link + Drop,
-    S: Wires<L>,
-    V: Observer,
-    O: SoakObserver,
-    B: Write + Drop,
-    P: OutputPlaces<B>,
-    W: Write + Drop,
->(
+/// `build_file`, `plan_file`, `soak_file`, `sel_file`, `device_file`, `agent_file` or
+/// `decode_file`.
+pub fn perform_job<H: Parts>(
     alloc: Global,
     job: &Job<'_>,
-    files: &F,
-    stores: &T,
-    reader: &mut R,
-    wires: &mut S,
-    watch: &mut V,
-    observer: &mut O,
-    places: &mut P,
-    output: &mut Output<W>,
+    host: &mut Host<H>,
 ) -> Result<(), JobFault>
-    ensures ok { OnOk result (IsDone job.now (F.holds files.now)
-        (stores_in (T.is_known stores.now) (T.files stores.now)) (R.remaining reader.old)
-        (R.remaining reader.new) (V.watched watch.new) (P.is_known places.old) (P.held places.new)
-        output.old output.new) }
-    ensures fault { IfErr result (λ e. JobEnds job.now (F.holds files.now)
-        (stores_in (T.is_known stores.now) (T.files stores.now)) (V.refuses watch.old)
-        (S.lacks wires.old) (R.remaining reader.old) (R.remaining reader.new) e
-        (V.watched watch.new) (P.is_known places.old) (P.held places.new) output.old output.new) }
-    ensures untouched { IfErr result (λ e. (watch.new ≡ watch.old) ⊎ HasObserverFault e (V.watched watch.new).fault) }
+    ensures ok { OnOk result (IsDone job.now (record {
+      files = H.Files.holds host.old.files;
+      stores = stores_in (H.Stores.is_known host.old.stores) (H.Stores.files host.old.stores);
+      lacks = H.Wires.lacks host.old.wires;
+      refuses = H.Watch.refuses host.old.watch;
+      input = H.Input.remaining host.old.input;
+      is_known = H.Places.is_known host.old.places;
+      held = H.Places.held host.old.places;
+      output = host.old.output;
+    }) (record {
+      input = H.Input.remaining host.new.input;
+      watched = H.Watch.watched host.new.watch;
+      held = H.Places.held host.new.places;
+      output = host.new.output;
+    })) }
+    ensures fault { IfErr result (λ e. JobEnds job.now e (record {
+      files = H.Files.holds host.old.files;
+      stores = stores_in (H.Stores.is_known host.old.stores) (H.Stores.files host.old.stores);
+      lacks = H.Wires.lacks host.old.wires;
+      refuses = H.Watch.refuses host.old.watch;
+      input = H.Input.remaining host.old.input;
+      is_known = H.Places.is_known host.old.places;
+      held = H.Places.held host.old.places;
+      output = host.old.output;
+    }) (record {
+      input = H.Input.remaining host.new.input;
+      watched = H.Watch.watched host.new.watch;
+      held = H.Places.held host.new.places;
+      output = host.new.output;
+    })) }
+    ensures untouched { IfErr result (λ e. (host.new.watch ≡ host.old.watch)
+        ⊎ HasObserverFault e (H.Watch.watched host.new.watch).fault) }
 {
     match job {
-        Job::Answer(endpoint) => output.answer(alloc, reader, endpoint),
-        Job::Inspect { package, form } => inspect_file(alloc, files, package, *form, output),
-        Job::Replay {
-            config,
-            schedule,
-            show,
-        } => replay_files(
-            alloc, files, stores, config, show.store, schedule, *show, watch, output,
-        ),
-        Job::Run {
-            config,
-            folder,
-            order,
-            show,
-        } => update_checked(
-            alloc, files, stores, config, show.store, *order, folder, *show, wires, watch, output,
-        ),
-        Job::Build { spec, package } => build_file(alloc, files, spec, package, places),
-        Job::Sel { log } => sel_file(alloc, files, log, output),
-        Job::Soak {
-            config,
-            order,
-            record,
-        } => soak_file(
-            alloc, files, config, *order, *record, observer, places, output,
-        ),
+        Job::Answer(endpoint) => host.output.answer(alloc, &mut host.input, endpoint),
+        Job::Inspect { package, form } => {
+            inspect_file(alloc, &host.files, package, *form, &mut host.output)
+        }
+        Job::Replay(job) => replay_files(alloc, *job, host),
+        Job::Run(job) => update_checked(alloc, *job, host),
+        Job::Build { spec, package } => {
+            build_file(alloc, &host.files, spec, package, &mut host.places)
+        }
+        Job::Sel { log } => sel_file(alloc, &host.files, log, &mut host.output),
+        Job::Soak(job) => soak_file(alloc, *job, host),
+        Job::Device(job) => device_file(alloc, *job, host),
+        Job::Agent(job) => agent_file(alloc, *job, host),
+        Job::Decode { file, unit, form } => decode_file(alloc, *file, *unit, *form, host),
         Job::Plan {
             config,
             number,
             form,
-        } => plan_file(alloc, files, config, *number, *form, output),
+        } => plan_file(alloc, &host.files, config, *number, *form, &mut host.output),
     }
 }

@@ -2,11 +2,14 @@
 //! and the program that performs what its arguments request.
 #![tactic(auto)]
 
+mod alone;
 mod building;
 mod checking;
 mod clue_lines;
 mod clues;
+mod decoding;
 mod explaining;
+mod host;
 mod inspecting;
 mod jobs;
 mod numbering;
@@ -26,14 +29,19 @@ mod updating;
 mod words;
 mod write_behind;
 
+pub use alone::{agent_file, device_file};
 pub use building::build_file;
 pub use checking::update_checked;
+pub use decoding::decode_file;
 pub use fw_store::Durable;
 pub use fwupd_watch::{
     Beginning, FileCalls, FileFault, FileIdentity, Files, HistoryFile, JobFault, Observer,
     ObserverFault, Output, OutputPlaces, Recording, WholeFiles, texts_are_lines,
 };
-pub use fwupd_words::{Job, Order, Show, SoakOrder, TraceForm, parse};
+pub use fwupd_words::{
+    AgentAlone, DeviceAlone, Job, Order, Replay, Show, Soak, SoakOrder, TraceForm, Update, parse,
+};
+pub use host::{Host, Parts};
 pub use inspecting::{inspect_file, inspection_fault};
 pub use jobs::perform_job;
 pub use planning::plan_file;

@@ -6,25 +6,26 @@ ghost use Rattle.std.specs.Process.{exit_status};
 ghost use Rattle.clap.specs.Values.{kind_of};
 ghost use Rattle.clap.specs.declared.error.kind.ErrorKind.TheVariants.{DisplayHelp, DisplayVersion, OutOfMemory};
 ghost use Rattle.fw_setup.specs.Stocks.{stores_in};
+ghost use Rattle.fwupd_jobs.specs.Hosts.{FoundOf, LeftOf};
 ghost use Rattle.fwupd_jobs.specs.Jobs.{StatusSays, SystemSays};
 ghost use Rattle.fwupd_jobs.specs.Progress.{runs_of_job};
 
 use crate::explaining::explain;
+use crate::host::{Host, Parts};
 use crate::jobs::perform_job;
 use crate::soak_progress::SoakProgress;
-use crate::sockets::Sockets;
-use crate::updating::Wires;
+use crate::sockets::{SocketLink, Sockets};
 use crate::words::words;
-use fw_edge::Link;
-use fw_setup::{Stores, SystemStores};
-use fw_soak::SoakObserver;
-use fw_store::Folder;
+use fw_setup::SystemStores;
+use fw_store::SystemFolder;
 use fwupd_watch::{
-    Files, JobFault, Observer, Observers, Output, OutputPlaces, SystemFiles, system_places,
+    JobFault, Observers, Output, SystemCalls, SystemFiles, WholeFiles, system_places,
 };
 use fwupd_words::{Job, parse};
 use std::fmt::{self, Display};
+use std::fs::File;
 use std::io::{self, ErrorKind, Read, Write};
+use std::marker::PhantomData;
 use std::process::ExitCode;
 
 /// The exit status of a usage error.
@@ -56,49 +57,26 @@ pub(crate) fn failed(rt: &HostRuntime, fault: &JobFault) -> ExitCode
     ExitCode::FAILURE
 }
 
-/// Performs a job with these files, reader, links, observer, places and output. Returns the exit
-/// status: 0, or 1 after printing the fault and, on a terminal, its clue.
-fn status<
-    F: Files,
-    D: Folder + Drop,
-    T: Stores<D>,
-    R: Read,
-    L: Link + Drop,
-    S: Wires<L>,
-    V: Observer,
-    O: SoakObserver,
-    B: Write + Drop,
-    P: OutputPlaces<B>,
-    W: Write + Drop,
->(
-    rt: &HostRuntime,
-    job: &Job<'_>,
-    files: &F,
-    stores: &T,
-    reader: &mut R,
-    wires: &mut S,
-    watch: &mut V,
-    observer: &mut O,
-    places: &mut P,
-    output: &mut Output<W>,
-) -> ExitCode
-    ensures { StatusSays (exit_status result) job.now (F.holds files.now)
-        (stores_in (T.is_known stores.now) (T.files stores.now)) (V.refuses watch.old)
-        (S.lacks wires.old) (R.remaining reader.old) (R.remaining reader.new) (V.watched watch.new)
-        (P.is_known places.old) (P.held places.new) output.old output.new }
+/// Performs a job on a host. Returns the exit status: 0, or 1 after printing the fault and, on a
+/// terminal, its clue.
+fn status<H: Parts>(rt: &HostRuntime, job: &Job<'_>, host: &mut Host<H>) -> ExitCode
+    ensures { StatusSays (exit_status result) job.now (record {
+      files = H.Files.holds host.old.files;
+      stores = stores_in (H.Stores.is_known host.old.stores) (H.Stores.files host.old.stores);
+      lacks = H.Wires.lacks host.old.wires;
+      refuses = H.Watch.refuses host.old.watch;
+      input = H.Input.remaining host.old.input;
+      is_known = H.Places.is_known host.old.places;
+      held = H.Places.held host.old.places;
+      output = host.old.output;
+    }) (record {
+      input = H.Input.remaining host.new.input;
+      watched = H.Watch.watched host.new.watch;
+      held = H.Places.held host.new.places;
+      output = host.new.output;
+    }) }
 {
-    match perform_job(
-        rt.alloc(),
-        job,
-        files,
-        stores,
-        reader,
-        wires,
-        watch,
-        observer,
-        places,
-        output,
-    ) {
+    match perform_job(rt.alloc(), job, host) {
         Ok(()) => ExitCode::SUCCESS,
         Err(fault) => {
             let status = failed(rt, &fault);
@@ -113,37 +91,66 @@ fn runs_of(job: &Job<'_>) -> u64
     ensures { result ≡ runs_of_job job.now }
 {
     match job {
-        Job::Soak { order, .. } => u64::from(order.runs),
+        Job::Soak(soak) => u64::from(soak.order.runs),
         _ => 0,
     }
 }
 
-/// Performs a job with the system's files, standard input and sockets, and returns the exit status.
-/// On a terminal a link's fault is explained.
-fn run<W: Write + Drop>(rt: &HostRuntime, job: &Job<'_>, output: &mut Output<W>) -> ExitCode
-    ensures { SystemSays (exit_status result) job.now output.old output.new }
+/// The parts of the system: its files, sockets and observers, an input and an output.
+struct SystemParts<'a, R, W> {
+    parts: PhantomData<(&'a HostRuntime, R, W)>,
+}
+
+impl<'a, R: Read + Drop, W: Write + Drop> Parts for SystemParts<'a, R, W> {
+    type Files = SystemFiles<'a>;
+
+    type Folder = SystemFolder<'a>;
+
+    type Stores = SystemStores<'a>;
+
+    type Input = R;
+
+    type Link = SocketLink;
+
+    type Wires = Sockets<'a>;
+
+    type Watch = Observers<'a>;
+
+    type SoakWatch = SoakProgress<'a>;
+
+    type NewFile = File;
+
+    type Places = WholeFiles<SystemCalls<'a>>;
+
+    type Writer = W;
+}
+
+/// Performs a job with the system's files and sockets, this input and this output. Returns the exit
+/// status and the output. On a terminal a link's fault is explained.
+fn run<'a, R: Read + Drop, W: Write + Drop>(
+    rt: &'a HostRuntime,
+    job: &Job<'_>,
+    input: R,
+    output: Output<W>,
+) -> (ExitCode, Output<W>)
+    ensures { SystemSays (exit_status result.0) job.now output result.1 }
 {
-    let files = SystemFiles::new(rt);
-    let mut reader = rt.reader();
-    let mut sockets = Sockets::new(rt);
-    let mut observers = Observers::new(rt);
-    let mut progress = SoakProgress::new(rt, runs_of(job));
-    let status = status(
-        rt,
-        job,
-        &files,
-        &SystemStores::new(rt),
-        &mut reader,
-        &mut sockets,
-        &mut observers,
-        &mut progress,
-        &mut system_places(rt),
+    let mut host: Host<SystemParts<'a, R, W>> = Host {
+        files: SystemFiles::new(rt),
+        stores: SystemStores::new(rt),
+        input,
+        wires: Sockets::new(rt),
+        watch: Observers::new(rt),
+        soak_watch: SoakProgress::new(rt, runs_of(job)),
+        places: system_places(rt),
         output,
-    );
-    progress.end();
-    sockets.explain();
-    observers.explain();
-    status
+    };
+    let status = status(rt, job, &mut host);
+    host.soak_watch.end();
+    host.wires.explain();
+    host.watch.explain();
+    let Host { output, .. } = host;
+    (status, output)
 }
 
 /// Exit status after printing help or a usage error: 2 for a usage error; 0 for help, even if the
@@ -195,9 +202,9 @@ pub fn perform(rt: &HostRuntime) -> ExitCode
         Ok(job) => job,
         Err(error) => return no_job(rt, &error),
     };
-    let mut output = match Output::new(rt.alloc(), io::writer(rt)) {
+    let output = match Output::new(rt.alloc(), io::writer(rt)) {
         Ok(output) => output,
         Err(fault) => return failed(rt, &fault),
     };
-    run(rt, &job, &mut output)
+    run(rt, &job, rt.reader(), output).0
 }

@@ -16,25 +16,24 @@ ghost use Rattle.fwupd_watch.specs.Apart.{IsApart, IsBarred};
 ghost use Rattle.fwupd_watch.specs.Running.{HasObserverFault, show_of, shown_of};
 ghost use Rattle.fwupd_jobs.specs.Setups.{source_of};
 
+use crate::host::{Host, Parts};
 use crate::setups::{configuration, package_files, packages_in, read_kept, schedule};
 use fd_core::Bank;
 use fw_json::report_in;
 use fw_package::Package;
 use fw_script::{Config, DeviceConfig, LineSteps, NextStep, ScheduleLine};
-use fw_setup::{Stores, opening_world};
-use fw_store::Folder;
+use fw_setup::opening_world;
 use fw_world::{
     Missed, Step, StepFault, World, clocks_keep_time, moments_are_tied, replay, runs_are_promised,
 };
 use fwupd_base::Form;
 use fwupd_watch::{
-    Files, JobFault, Observer, ObserverFault, Output, begin_apart, is_one_path, observer_fault,
+    Files, JobFault, Observer, ObserverFault, begin_apart, is_one_path, observer_fault,
 };
-use fwupd_words::Show;
+use fwupd_words::{Replay, Show};
 use mctp_ctl::Endpoint;
 use mctp_wire::Unit;
 use std::alloc::{AllocError, Global};
-use std::io::Write;
 use std::slice;
 
 /// The result of a replay: the report of the world; the number of the step that was refused, from
@@ -173,32 +172,30 @@ pub fn replayed<'a, V: Observer>(
 fn begin_replay<F: Files, V: Observer>(
     alloc: Global,
     files: &F,
-    config: &str,
-    schedule: &str,
+    job: Replay<'_>,
     packages: &[String],
-    show: Show<'_>,
     watch: &mut V,
 ) -> Result<(), JobFault>
-    ensures shows { OnOk result ((V.watched watch.new).shows ≡ shown_of (show_of show.entry)) }
+    ensures shows { OnOk result ((V.watched watch.new).shows ≡ shown_of (show_of job.entry.show)) }
     ensures anew { OnOk result ((V.watched watch.new).seen ≡ 0) }
-    ensures apart { OnOk result (IsApart (F.holds files.now) (show_of show.entry)
-        (schedule.now ∷ config.now ∷ map (λ p. string_bytes p) packages.now)) }
+    ensures apart { OnOk result (IsApart (F.holds files.now) (show_of job.entry.show)
+        (job.entry.schedule.now ∷ job.entry.config.now ∷ map (λ p. string_bytes p) packages.now)) }
     ensures untouched { IfErr result (λ e. (watch.new ≡ watch.old) ⊎ HasObserverFault e (V.watched watch.new).fault) }
     ensures fault { IfErr result (λ e. (e ≡ JobFault.Memory)
-        ⊎ IsBarred (F.holds files.now) (V.refuses watch.old) (show_of show.entry)
-        (schedule.now ∷ config.now ∷ map (λ p. string_bytes p) packages.now) e
+        ⊎ IsBarred (F.holds files.now) (V.refuses watch.old) (show_of job.entry.show)
+        (job.entry.schedule.now ∷ job.entry.config.now ∷ map (λ p. string_bytes p) packages.now) e
         (V.watched watch.new)) }
 {
-    if is_one_path(files, show.trace, schedule) {
+    if is_one_path(files, job.show.trace, job.schedule) {
         return Err(JobFault::Trace);
     }
-    if is_one_path(files, show.log, schedule) {
+    if is_one_path(files, job.show.log, job.schedule) {
         return Err(JobFault::Log);
     }
-    if is_one_path(files, show.record, schedule) {
+    if is_one_path(files, job.show.record, job.schedule) {
         return Err(JobFault::Record);
     }
-    match begin_apart(alloc, files, config, packages, show, watch) {
+    match begin_apart(alloc, files, job.config, packages, job.show, watch) {
         Ok(()) => Ok(()),
         Err(fault) => Err(fault),
     }
@@ -217,37 +214,34 @@ fn begin_replay<F: Files, V: Observer>(
 /// `Trace`, `Log` or `Record` if the observer couldn't write; the report is still written.
 /// `Output` if the report can't be written; a beginning of it may be written.
 /// `Memory` if memory is refused; nothing is written then, unless only the observer lacked memory.
-pub fn replay_files<F: Files, D: Folder + Drop, T: Stores<D>, V: Observer, W: Write + Drop>(
+pub fn replay_files<H: Parts>(
     alloc: Global,
-    files: &F,
-    stores: &T,
-    config: &str,
-    store: Option<&str>,
-    steps: &str,
-    show: Show<'_>,
-    watch: &mut V,
-    output: &mut Output<W>,
+    job: Replay<'_>,
+    host: &mut Host<H>,
 ) -> Result<(), JobFault>
-    ensures ok { OnOk result (ReportsReplay (F.holds files.now)
-        (source_of (stores_in (T.is_known stores.now) (T.files stores.now))
-        (option_map (λ p. p.now) store.entry) config.now) steps.now (show_of show.entry)
-        (V.watched watch.new) output.old output.new) }
-    ensures fault { IfErr result (λ e. ReplayEnds (F.holds files.now)
-        (source_of (stores_in (T.is_known stores.now) (T.files stores.now))
-        (option_map (λ p. p.now) store.entry) config.now) steps.now (show_of show.entry)
-        (V.refuses watch.old) e (V.watched watch.new) output.old output.new) }
-    ensures untouched { IfErr result (λ e. (watch.new ≡ watch.old) ⊎ HasObserverFault e (V.watched watch.new).fault) }
+    ensures ok { OnOk result (ReportsReplay (H.Files.holds host.old.files)
+        (source_of (stores_in (H.Stores.is_known host.old.stores) (H.Stores.files host.old.stores))
+        (option_map (λ p. p.now) job.entry.show.store) job.entry.config.now)
+        job.entry.schedule.now (show_of job.entry.show) (H.Watch.watched host.new.watch)
+        host.old.output host.new.output) }
+    ensures fault { IfErr result (λ e. ReplayEnds (H.Files.holds host.old.files)
+        (source_of (stores_in (H.Stores.is_known host.old.stores) (H.Stores.files host.old.stores))
+        (option_map (λ p. p.now) job.entry.show.store) job.entry.config.now)
+        job.entry.schedule.now (show_of job.entry.show) (H.Watch.refuses host.old.watch) e
+        (H.Watch.watched host.new.watch) host.old.output host.new.output) }
+    ensures untouched { IfErr result (λ e. (host.new.watch ≡ host.old.watch)
+        ⊎ HasObserverFault e (H.Watch.watched host.new.watch).fault) }
 {
     let Config {
         agent,
         unit,
         devices,
         packages: paths,
-    } = match configuration(alloc, files, config) {
+    } = match configuration(alloc, &host.files, job.config) {
         Ok(config) => config,
         Err(fault) => return Err(fault),
     };
-    let contents = match package_files(alloc, files, paths.as_slice()) {
+    let contents = match package_files(alloc, &host.files, paths.as_slice()) {
         Ok(contents) => contents,
         Err(fault) => return Err(fault),
     };
@@ -256,15 +250,15 @@ pub fn replay_files<F: Files, D: Folder + Drop, T: Stores<D>, V: Observer, W: Wr
         Err(fault) => return Err(fault),
     };
     let mut devices = devices;
-    match read_kept(alloc, stores, store, &mut devices) {
+    match read_kept(alloc, &host.stores, job.show.store, &mut devices) {
         Ok(()) => {}
         Err(fault) => return Err(fault),
     }
-    let script = match schedule(alloc, files, steps) {
+    let script = match schedule(alloc, &host.files, job.schedule) {
         Ok(script) => script,
         Err(fault) => return Err(fault),
     };
-    match begin_replay(alloc, files, config, steps, paths.as_slice(), show, watch) {
+    match begin_replay(alloc, &host.files, job, paths.as_slice(), &mut host.watch) {
         Ok(()) => {}
         Err(fault) => return Err(fault),
     }
@@ -275,12 +269,12 @@ pub fn replay_files<F: Files, D: Folder + Drop, T: Stores<D>, V: Observer, W: Wr
         devices,
         packages.as_slice(),
         script.as_slice(),
-        show,
-        watch,
+        job.show,
+        &mut host.watch,
     ) else {
         return Err(JobFault::Memory);
     };
-    match output.write(&outcome.report) {
+    match host.output.write(&outcome.report) {
         Ok(()) => {}
         Err(_) => return Err(JobFault::Output),
     }

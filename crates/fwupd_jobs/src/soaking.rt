@@ -4,13 +4,14 @@ ghost use Rattle.std.specs.Prelude.{◌≡◌, ◌≢◌, ◌⊎◌, IfErr, None
 ghost use Rattle.fw_script.specs.ScheduleTexts.{schedule_text};
 ghost use Rattle.fwupd_jobs.specs.Soaked.{ReportsViolation, SoakEnds, SoaksClean};
 
+use crate::host::{Host, Parts};
 use crate::numbering::is_numbered;
 use crate::setups::{configuration, package_files, packages_in};
 use fw_script::{Config, write_schedule};
-use fw_soak::{Setup, SoakObserver, soak, summary_text};
+use fw_soak::{Setup, soak, summary_text};
 use fw_world::Step;
-use fwupd_watch::{Files, JobFault, Output, OutputPlaces, is_over_read, write_file};
-use fwupd_words::SoakOrder;
+use fwupd_watch::{JobFault, OutputPlaces, is_over_read, write_file};
+use fwupd_words::Soak;
 use std::alloc::Global;
 use std::io::Write;
 
@@ -86,36 +87,30 @@ fn judge<W: Write + Drop, P: OutputPlaces<W>>(
 /// then.
 /// `Output` if the totals can't be written.
 /// `Record` or `Memory` if the steps can't be written, else `Violation` if there was one.
-pub fn soak_file<F: Files, V: SoakObserver, B: Write + Drop, P: OutputPlaces<B>, W: Write + Drop>(
-    alloc: Global,
-    files: &F,
-    config: &str,
-    order: SoakOrder,
-    file: Option<&str>,
-    observer: &mut V,
-    places: &mut P,
-    output: &mut Output<W>,
-) -> Result<(), JobFault>
-    ensures ok { OnOk result (SoaksClean (F.holds files.now) config.now order
-        (option_map (λ p. p.now) file.entry) output.old output.new) }
-    ensures fault { IfErr result (λ e. SoakEnds (F.holds files.now) config.now order
-        (option_map (λ p. p.now) file.entry) e (P.is_known places.old) (P.held places.new)
-        output.old output.new) }
-    ensures left { P.is_begun places.old ≡ false → P.is_begun places.new ≡ false }
+pub fn soak_file<H: Parts>(alloc: Global, job: Soak<'_>, host: &mut Host<H>) -> Result<(), JobFault>
+    ensures ok { OnOk result (SoaksClean (H.Files.holds host.old.files) job.entry.config.now
+        job.entry.order (option_map (λ p. p.now) job.entry.record) host.old.output
+        host.new.output) }
+    ensures fault { IfErr result (λ e. SoakEnds (H.Files.holds host.old.files)
+        job.entry.config.now job.entry.order (option_map (λ p. p.now) job.entry.record) e
+        (H.Places.is_known host.old.places) (H.Places.held host.new.places) host.old.output
+        host.new.output) }
+    ensures left { H.Places.is_begun host.old.places ≡ false → H.Places.is_begun host.new.places ≡ false }
+    ensures untouched { host.new.watch ≡ host.old.watch }
 {
     let Config {
         agent,
         unit,
         devices,
         packages: paths,
-    } = match configuration(alloc, files, config) {
+    } = match configuration(alloc, &host.files, job.config) {
         Ok(config) => config,
         Err(fault) => return Err(fault),
     };
     if !is_numbered(paths.len(), 1) {
         return Err(JobFault::NoPackage);
     }
-    let contents = match package_files(alloc, files, paths.as_slice()) {
+    let contents = match package_files(alloc, &host.files, paths.as_slice()) {
         Ok(contents) => contents,
         Err(fault) => return Err(fault),
     };
@@ -123,7 +118,7 @@ pub fn soak_file<F: Files, V: SoakObserver, B: Write + Drop, P: OutputPlaces<B>,
         Ok(packages) => packages,
         Err(fault) => return Err(fault),
     };
-    if is_over_read(files, file, config, paths.as_slice()) {
+    if is_over_read(&host.files, job.record, job.config, paths.as_slice()) {
         return Err(JobFault::Record);
     }
     let setup = Setup {
@@ -132,17 +127,23 @@ pub fn soak_file<F: Files, V: SoakObserver, B: Write + Drop, P: OutputPlaces<B>,
         devices: devices.as_slice(),
         packages: packages.as_slice(),
     };
-    let Ok(soaked) = soak(alloc, &setup, order.roughness, order.runs, observer) else {
+    let Ok(soaked) = soak(
+        alloc,
+        &setup,
+        job.order.roughness,
+        job.order.runs,
+        &mut host.soak_watch,
+    ) else {
         return Err(JobFault::Memory);
     };
     let Ok(text) = summary_text(alloc, &soaked.summary) else {
         return Err(JobFault::Memory);
     };
-    match output.write(&text) {
+    match host.output.write(&text) {
         Ok(()) => {}
         Err(fault) => return Err(fault),
     }
-    match judge(alloc, soaked.kept, file, places) {
+    match judge(alloc, soaked.kept, job.record, &mut host.places) {
         Ok(()) => Ok(()),
         Err(fault) => Err(fault),
     }

@@ -26,10 +26,10 @@ pub struct Sockets<'a> {
 }
 
 /// A socket with buffered reads, whose writes are held back until the other end is read.
-type Socket = ReadAhead<WriteBehind<UnixStream>>;
+pub(crate) type Socket = ReadAhead<WriteBehind<UnixStream>>;
 
 /// A link over sockets.
-type SocketLink = StreamLink<Socket>;
+pub(crate) type SocketLink = StreamLink<Socket>;
 
 /// The path of the socket of a device in a folder.
 fn socket_path(alloc: Global, folder: &str, device: u8) -> Result<String, AllocError>

@@ -13,6 +13,7 @@ ghost use Rattle.fwupd_watch.specs.Recordings.{IsNewRecording, HasRecordedSteps}
 ghost use Rattle.fwupd_jobs.specs.Updated.{HaveLinks, DrivingEnds, IsLost, IsNumberedSetup, IsRoughLink, IsUnlinked, NamesLost, ReportsUpdate, TellsLost, UpdateEnds};
 ghost use Rattle.fwupd_watch.specs.Running.{ReportsLinkFailures, IsBrokenRun, IsCaused, HasObserverFault, UpdateOk, RunsSteps, RunsStepsSeen, UpdatesDevices, show_of};
 
+use crate::host::{Host, Parts};
 use crate::numbering::is_numbered;
 use crate::sessions::{Undone, first_undone};
 use crate::setups::{configuration, open_kept, package_files, packages_in};
@@ -20,12 +21,11 @@ use fd_core::Bank;
 use fw_edge::{EdgeFault, Link, Rough};
 use fw_json::report_in;
 use fw_script::Config;
-use fw_setup::{Stores, opening_world, opening_world_over};
-use fw_store::Folder;
+use fw_setup::{opening_world, opening_world_over};
 use fw_world::{World, runs_are_promised};
 use fwupd_base::{Form, Roughness};
-use fwupd_watch::{Files, JobFault, Observer, Output, begin_apart, update_observed};
-use fwupd_words::{Order, Show};
+use fwupd_watch::{JobFault, Observer, Output, begin_apart, update_observed};
+use fwupd_words::{Order, Update};
 use mctp_wire::Unit;
 use std::alloc::Global;
 use std::io::Write;
@@ -202,60 +202,71 @@ fn update_reporting<B: Bank + Drop, L: Link + Drop, V: Observer>(
 
 /// Updates each device of a new world over its own link, with the requested package, and writes the
 /// report of the last world.
-fn update_over<B: Bank + Drop, L: Link + Drop, S: Wires<L>, V: Observer, W: Write + Drop>(
+fn update_over<B: Bank + Drop, H: Parts>(
     alloc: Global,
     world: &mut World<'_, B>,
-    order: Order,
-    folder: &str,
-    form: Form,
-    wires: &mut S,
-    watch: &mut V,
-    output: &mut Output<W>,
+    job: Update<'_>,
+    host: &mut Host<H>,
 ) -> Result<Option<Undone>, JobFault>
-    ensures updated { OnOk result (UpdateOk order.number world.old world.new) }
-    ensures seen { OnOk result ((V.watched watch.new).fault ≡ None) }
-    ensures recorded { OnOk result (IfSome (V.watched watch.old).recording IsNewRecording
-        → IfSome (V.watched watch.new).recording (HasRecordedSteps world.old world.new)) }
+    ensures updated { OnOk result (UpdateOk job.entry.order.number world.old world.new) }
+    ensures seen { OnOk result ((H.Watch.watched host.new.watch).fault ≡ None) }
+    ensures recorded { OnOk result (IfSome (H.Watch.watched host.old.watch).recording IsNewRecording
+        → IfSome (H.Watch.watched host.new.watch).recording (HasRecordedSteps world.old world.new)) }
     ensures recorded_still { IfErr result (λ e. IsBrokenRun e
-        → (V.watched watch.new).fault ≡ None
-        → IfSome (V.watched watch.old).recording IsNewRecording
-        → IfSome (V.watched watch.new).recording (HasRecordedSteps world.old world.new)) }
-    ensures history { OnOk result (HasHistoryLinesIfAny (V.watched watch.old).history
+        → (H.Watch.watched host.new.watch).fault ≡ None
+        → IfSome (H.Watch.watched host.old.watch).recording IsNewRecording
+        → IfSome (H.Watch.watched host.new.watch).recording (HasRecordedSteps world.old world.new)) }
+    ensures history { OnOk result (HasHistoryLinesIfAny (H.Watch.watched host.old.watch).history
         world.old.history
-        → HasHistoryLinesIfAny (V.watched watch.new).history world.new.history) }
+        → HasHistoryLinesIfAny (H.Watch.watched host.new.watch).history world.new.history) }
     ensures history_still { IfErr result (λ e. IsBrokenRun e
-        → HasHistoryLinesIfAny (V.watched watch.old).history world.old.history
-        → MayHaveHistoryLines (V.watched watch.new).history world.new.history) }
-    ensures let_end { OnOk result ((V.watched watch.new).has_ended ≡ true) }
-    ensures turns { OnOk result ((V.watched watch.old).seen ≡ 0
-        → UpdatesDevices order.number world.old world.new (V.watched watch.new).seen) }
-    ensures lost { IfErr result (λ e. e ≡ JobFault.Edge EdgeFault.Frame → NamesLost world.new (V.watched watch.new).lost) }
-    ensures none_lost { OnOk result ((V.watched watch.new).lost ≡ (V.watched watch.old).lost) }
-    ensures unwritten { IfErr result (λ e. HasObserverFault e (V.watched watch.new).fault) }
-    ensures same { (V.watched watch.new).shows ≡ (V.watched watch.old).shows }
-    ensures written { OnOk result (WritesOutput output.old output.new (report_in form world.new)) }
+        → HasHistoryLinesIfAny (H.Watch.watched host.old.watch).history world.old.history
+        → MayHaveHistoryLines (H.Watch.watched host.new.watch).history world.new.history) }
+    ensures let_end { OnOk result ((H.Watch.watched host.new.watch).has_ended ≡ true) }
+    ensures turns { OnOk result ((H.Watch.watched host.old.watch).seen ≡ 0
+        → UpdatesDevices job.entry.order.number world.old world.new (H.Watch.watched host.new.watch).seen) }
+    ensures lost { IfErr result (λ e. e ≡ JobFault.Edge EdgeFault.Frame
+        → NamesLost world.new (H.Watch.watched host.new.watch).lost) }
+    ensures none_lost { OnOk result ((H.Watch.watched host.new.watch).lost ≡ (H.Watch.watched host.old.watch).lost) }
+    ensures unwritten { IfErr result (λ e. HasObserverFault e (H.Watch.watched host.new.watch).fault) }
+    ensures same { (H.Watch.watched host.new.watch).shows ≡ (H.Watch.watched host.old.watch).shows }
+    ensures written { OnOk result (WritesOutput host.old.output host.new.output (report_in job.entry.show.form world.new)) }
     ensures undone { IfOk result (λ u. u ≡ undone_in world.new) }
-    ensures reached { RunsSteps order.number world.old world.new }
-    ensures sees { (V.watched watch.old).seen ≡ 0 → RunsStepsSeen order.number world.old world.new (V.watched watch.new).seen }
-    ensures fault { IfErr result (λ e. DrivingEnds order.number form (S.lacks wires.old folder.now)
-        world.old world.new e (V.watched watch.new) output.old output.new) }
+    ensures reached { RunsSteps job.entry.order.number world.old world.new }
+    ensures sees { (H.Watch.watched host.old.watch).seen ≡ 0
+        → RunsStepsSeen job.entry.order.number world.old world.new (H.Watch.watched host.new.watch).seen }
+    ensures fault { IfErr result (λ e. DrivingEnds job.entry.order.number job.entry.show.form
+        (H.Wires.lacks host.old.wires job.entry.folder.now)
+        world.old world.new e (H.Watch.watched host.new.watch) host.old.output host.new.output) }
 {
-    let mut links = match open_all(alloc, world, folder, order.roughness, wires) {
+    let mut links = match open_all(
+        alloc,
+        world,
+        job.folder,
+        job.order.roughness,
+        &mut host.wires,
+    ) {
         Ok(links) => links,
         Err(fault) => return Err(fault),
     };
-    match update_reporting(alloc, world, order, links.as_mut_slice(), watch) {
+    match update_reporting(
+        alloc,
+        world,
+        job.order,
+        links.as_mut_slice(),
+        &mut host.watch,
+    ) {
         Ok(()) => {}
         Err(JobFault::Memory) => return Err(JobFault::Memory),
         Err(fault) => {
-            match write_report(alloc, world, form, output) {
+            match write_report(alloc, world, job.show.form, &mut host.output) {
                 Ok(()) => {}
                 Err(other) => return Err(other),
             }
             return Err(fault);
         }
     }
-    match write_report(alloc, world, form, output) {
+    match write_report(alloc, world, job.show.form, &mut host.output) {
         Ok(()) => Ok(first_undone(world)),
         Err(fault) => Err(fault),
     }
@@ -264,42 +275,44 @@ fn update_over<B: Bank + Drop, L: Link + Drop, S: Wires<L>, V: Observer, W: Writ
 /// Begins the observer, updates each device of a new world over its own link, with the requested
 /// package, and writes the report of the last world. The first world is that of the configuration
 /// in a file with these packages.
-fn update_new<F: Files, B: Bank + Drop, L: Link + Drop, S: Wires<L>, V: Observer, W: Write + Drop>(
+fn update_new<B: Bank + Drop, H: Parts>(
     alloc: Global,
-    files: &F,
-    config: &str,
     packages: &[String],
     world: &mut World<'_, B>,
-    order: Order,
-    folder: &str,
-    show: Show<'_>,
-    wires: &mut S,
-    watch: &mut V,
-    output: &mut Output<W>,
+    job: Update<'_>,
+    host: &mut Host<H>,
 ) -> Result<Option<Undone>, JobFault>
     requires { IsOpeningWorld world.old }
     ensures ok { IfOk result (λ undone. (source : SourceOf) (named : IsNumberedSetup
-        (F.holds files.now) source order.number world.old)
-        → source.path ≡ config.now
+        (H.Files.holds host.old.files) source job.entry.order.number world.old)
+        → source.path ≡ job.entry.config.now
         → named.setup.config.packages ≡ map (λ p. string_bytes p) packages.now
-        → ReportsUpdate (F.holds files.now) source order.number (show_of show.entry)
-        (V.watched watch.new) output.old output.new undone) }
+        → ReportsUpdate (H.Files.holds host.old.files) source job.entry.order.number (show_of job.entry.show)
+        (H.Watch.watched host.new.watch) host.old.output host.new.output undone) }
     ensures fault { IfErr result (λ e. (source : SourceOf) (named : IsNumberedSetup
-        (F.holds files.now) source order.number world.old)
-        → source.path ≡ config.now
+        (H.Files.holds host.old.files) source job.entry.order.number world.old)
+        → source.path ≡ job.entry.config.now
         → named.setup.config.packages ≡ map (λ p. string_bytes p) packages.now
-        → UpdateEnds (F.holds files.now) source order.number (show_of show.entry)
-        (V.refuses watch.old) (S.lacks wires.old folder.now) e (V.watched watch.new) output.old
-        output.new) }
-    ensures untouched { IfErr result (λ e. (watch.new ≡ watch.old) ⊎ HasObserverFault e (V.watched watch.new).fault) }
+        → UpdateEnds (H.Files.holds host.old.files) source job.entry.order.number (show_of job.entry.show)
+        (H.Watch.refuses host.old.watch) (H.Wires.lacks host.old.wires job.entry.folder.now) e
+        (H.Watch.watched host.new.watch) host.old.output host.new.output) }
+    ensures untouched { IfErr result (λ e. (host.new.watch ≡ host.old.watch)
+        ⊎ HasObserverFault e (H.Watch.watched host.new.watch).fault) }
     ensures stores { IfErr result (λ e. TellsStore e → ⊥) }
 {
     runs_are_promised();
-    match begin_apart(alloc, files, config, packages, show, watch) {
+    match begin_apart(
+        alloc,
+        &host.files,
+        job.config,
+        packages,
+        job.show,
+        &mut host.watch,
+    ) {
         Ok(()) => {}
         Err(fault) => return Err(fault),
     }
-    match update_over(alloc, world, order, folder, show.form, wires, watch, output) {
+    match update_over(alloc, world, job, host) {
         Ok(undone) => Ok(undone),
         Err(fault) => Err(fault),
     }
@@ -320,52 +333,37 @@ fn update_new<F: Files, B: Bank + Drop, L: Link + Drop, S: Wires<L>, V: Observer
 /// `History` if the observer can't write; the report is then of the world that was reached.
 /// `Output` if the report can't be written; a beginning of it may be written.
 /// `Memory` if memory is refused; nothing is written then.
-pub fn update_files<
-    F: Files,
-    D: Folder + Drop,
-    T: Stores<D>,
-    L: Link + Drop,
-    S: Wires<L>,
-    V: Observer,
-    W: Write + Drop,
->(
+pub fn update_files<H: Parts>(
     alloc: Global,
-    files: &F,
-    stores: &T,
-    config: &str,
-    store: Option<&str>,
-    order: Order,
-    folder: &str,
-    show: Show<'_>,
-    wires: &mut S,
-    watch: &mut V,
-    output: &mut Output<W>,
+    job: Update<'_>,
+    host: &mut Host<H>,
 ) -> Result<Option<Undone>, JobFault>
-    ensures ok { IfOk result (λ undone. ReportsUpdate (F.holds files.now)
-        (source_of (stores_in (T.is_known stores.now) (T.files stores.now))
-        (option_map (λ p. p.now) store.entry) config.now) order.number (show_of show.entry)
-        (V.watched watch.new) output.old output.new undone) }
-    ensures fault { IfErr result (λ e. UpdateEnds (F.holds files.now)
-        (source_of (stores_in (T.is_known stores.now) (T.files stores.now))
-        (option_map (λ p. p.now) store.entry) config.now) order.number (show_of show.entry)
-        (V.refuses watch.old) (S.lacks wires.old folder.now) e (V.watched watch.new) output.old
-        output.new) }
-    ensures untouched { IfErr result (λ e. (watch.new ≡ watch.old) ⊎ HasObserverFault e (V.watched watch.new).fault) }
-    ensures unopened { IfErr result (λ e. TellsStore e → (watch.new ≡ watch.old) × (wires.new ≡ wires.old)) }
+    ensures ok { IfOk result (λ undone. ReportsUpdate (H.Files.holds host.old.files)
+        (source_of (stores_in (H.Stores.is_known host.old.stores) (H.Stores.files host.old.stores))
+        (option_map (λ p. p.now) job.entry.show.store) job.entry.config.now) job.entry.order.number (show_of job.entry.show)
+        (H.Watch.watched host.new.watch) host.old.output host.new.output undone) }
+    ensures fault { IfErr result (λ e. UpdateEnds (H.Files.holds host.old.files)
+        (source_of (stores_in (H.Stores.is_known host.old.stores) (H.Stores.files host.old.stores))
+        (option_map (λ p. p.now) job.entry.show.store) job.entry.config.now) job.entry.order.number (show_of job.entry.show)
+        (H.Watch.refuses host.old.watch) (H.Wires.lacks host.old.wires job.entry.folder.now) e
+        (H.Watch.watched host.new.watch) host.old.output host.new.output) }
+    ensures untouched { IfErr result (λ e. (host.new.watch ≡ host.old.watch)
+        ⊎ HasObserverFault e (H.Watch.watched host.new.watch).fault) }
+    ensures unopened { IfErr result (λ e. TellsStore e → (host.new.watch ≡ host.old.watch) × (host.new.wires ≡ host.old.wires)) }
 {
     let Config {
         agent,
         unit,
         devices,
         packages: paths,
-    } = match configuration(alloc, files, config) {
+    } = match configuration(alloc, &host.files, job.config) {
         Ok(config) => config,
         Err(fault) => return Err(fault),
     };
-    if !is_numbered(paths.len(), order.number) {
+    if !is_numbered(paths.len(), job.order.number) {
         return Err(JobFault::NoPackage);
     }
-    let contents = match package_files(alloc, files, paths.as_slice()) {
+    let contents = match package_files(alloc, &host.files, paths.as_slice()) {
         Ok(contents) => contents,
         Err(fault) => return Err(fault),
     };
@@ -373,19 +371,17 @@ pub fn update_files<
         Ok(packages) => packages,
         Err(fault) => return Err(fault),
     };
-    let Some(root) = store else {
+    let Some(root) = job.show.store else {
         let Ok(mut world) = opening_world(alloc, unit, agent, devices, packages.as_slice()) else {
             return Err(JobFault::Memory);
         };
-        match update_new(
-            alloc, files, config, &paths, &mut world, order, folder, show, wires, watch, output,
-        ) {
+        match update_new(alloc, &paths, &mut world, job, host) {
             Ok(undone) => return Ok(undone),
             Err(fault) => return Err(fault),
         }
     };
     let mut devices = devices;
-    let mut banks = match open_kept(alloc, stores, root, &mut devices) {
+    let mut banks = match open_kept(alloc, &host.stores, root, &mut devices) {
         Ok(banks) => banks,
         Err(fault) => return Err(fault),
     };
@@ -400,9 +396,7 @@ pub fn update_files<
     ) else {
         return Err(JobFault::Memory);
     };
-    match update_new(
-        alloc, files, config, &paths, &mut world, order, folder, show, wires, watch, output,
-    ) {
+    match update_new(alloc, &paths, &mut world, job, host) {
         Ok(undone) => Ok(undone),
         Err(fault) => Err(fault),
     }

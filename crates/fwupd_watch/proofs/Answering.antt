@@ -17,7 +17,7 @@ held_none None held e = refl
 held_none (Some xs) held e = ap Some (ap (λ ys. xs ++ ys) e ∙ append-nil xs)
 
 -- appended bytes stay if they are kept
-appends_kept : (before w v : Option (List ℕ)) (text : List ℕ) → Appends before w text → Keeps w v → Appends before v text
+pub appends_kept : (before w v : Option (List ℕ)) (text : List ℕ) → Appends before w text → Keeps w v → Appends before v text
 appends_kept None w v text h k = tt
 appends_kept (Some xs) None v text h k = absurd h
 appends_kept (Some xs) (Some ys) None text h k = absurd k

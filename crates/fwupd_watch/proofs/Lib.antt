@@ -5,10 +5,12 @@ mod Answering
 mod Begun
 mod Ends
 mod Noted
+mod Opening
 mod Overs
 mod Paths
 mod Put
 mod Refused
+mod Served
 mod Shown
 mod Traced
 mod Turns

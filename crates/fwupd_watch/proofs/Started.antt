@@ -217,6 +217,11 @@ turned_apart edges.Frame fault seen e = rw e tt
 turned_apart edges.Step fault seen e = rw e tt
 turned_apart edges.Memory fault seen e = rw e tt
 
+pub may_end : (e : EdgeFault) (fault : JobFault) → fault ≡ job_fault_of e → MayEnd fault
+may_end edges.Frame fault e = rw e (inr tt)
+may_end edges.Step fault e = rw e (inr tt)
+may_end edges.Memory fault e = inl e
+
 -- a link's fault is reported as one, after turns in which none failed
 pub told_links : (e : EdgeFault) (fault : JobFault) (os ms ns : List ℕ) → fault ≡ job_fault_of e → ms ≡ os
     → (e ≡ edges.Frame → OneFailed ms ns) × (e ≢ edges.Frame → ns ≡ ms) → ReportsLinkFailures fault os ns

@@ -2,11 +2,14 @@ pub mod Answering
 pub mod Apart
 pub mod Files
 pub mod Histories
+pub mod Openings
 pub mod Outputs
 pub mod Paths
 pub mod Places
 pub mod Progress
 pub mod Recordings
 pub mod Running
+pub mod Serving
+pub mod Terminals
 pub mod Traces
 pub mod Watching

@@ -4,7 +4,6 @@ ghost use Rattle.std.specs.Prelude.{◌≡◌, None, OnErr, false, is_some};
 
 use crate::faults::JobFault;
 use crate::files::{Files, SystemFiles, folder_and_name};
-use crate::history_opening::sync_names;
 use crate::places::{FileCalls, WholeFiles};
 use std::alloc::Global;
 use std::fs::{self, File, OpenOptions};
@@ -142,7 +141,9 @@ impl<'a> FileCalls<File> for SystemCalls<'a> {
         }
         // The file is at its place; a failure to sync its directory entry is not an error.
         let (folder, _) = folder_and_name(&made.place);
-        let _ = sync_names(self.rt, folder);
+        if let Ok(folder) = File::open(self.rt, folder) {
+            let _ = folder.sync_all();
+        }
         self.made = None;
         Ok(())
     }

@@ -53,6 +53,12 @@ pub enum JobFault {
     /// The history of the stores can't be written.
     #[error("history")]
     History,
+    /// The configuration has no device with this endpoint identifier.
+    #[error("device {0}: none")]
+    NoDevice(u8),
+    /// The report of a node by itself can't be written.
+    #[error("report")]
+    Report,
     /// The checker found a violation in a run of a soak.
     #[error("soak: Violation")]
     Violation,

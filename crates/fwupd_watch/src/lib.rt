@@ -8,6 +8,7 @@ mod beside;
 mod faults;
 mod files;
 mod history;
+mod history_calls;
 mod history_opening;
 mod logging;
 mod output;
@@ -15,6 +16,7 @@ mod places;
 mod progress;
 mod recording;
 mod running;
+mod terminal;
 mod tracing;
 mod tracing_laws;
 mod watching;
@@ -28,7 +30,8 @@ pub use files::{
     is_same_file, is_special,
 };
 pub use history::HistoryFile;
-pub use history_opening::history_path;
+pub use history_calls::HistoryCalls;
+pub use history_opening::{history_path, open_history};
 pub use output::Output;
 pub use places::{FileCalls, OutputPlaces, WholeFiles, write_file};
 pub use recording::Recording;

@@ -3,13 +3,17 @@
 ghost use Rattle.std.specs.Prelude.{◌≡◌, IfErr, IfOk, OnErr, OnOk, false};
 ghost use Rattle.fwupd_watch.specs.Answering.{AnswerEnds, AnswersAll};
 ghost use Rattle.fwupd_watch.specs.Outputs.{FailsToWriteOutput, WritesOutput};
+ghost use Rattle.fwupd_watch.specs.Serving.{ServesAll, ServingEnds, StreamsOf, line_bound};
 
 use crate::faults::JobFault;
-use fwupd_base::{AnswerFault, answer_stream, write_whole};
+use fwupd_base::{AnswerFault, LineServer, answer_stream, serve_stream, write_whole};
 use mctp_ctl::Endpoint;
 use std::alloc::Global;
 use std::io::{BufWriter, Read, Write};
 use std::marker::Model;
+
+/// The most bytes that a run of a node by itself reads.
+const LINE_BOUND: usize = 1_099_511_627_776;
 
 /// A buffered writer that takes no more after its first failed write.
 #[derive(Drop)]
@@ -107,6 +111,40 @@ impl<W: Write + Drop> Output<W> {
             Err(fault) => {
                 self.is_broken = fault == AnswerFault::Write;
                 Err(JobFault::Answer(fault))
+            }
+        }
+    }
+
+    /// Has the server serve the lines of a reader, and writes what it prints.
+    ///
+    /// # Errors
+    /// The cause why reading or writing failed, or memory was refused.
+    pub fn serve<S: LineServer, R: Read>(
+        &mut self,
+        alloc: Global,
+        reader: &mut R,
+        server: &mut S,
+    ) -> Result<(), AnswerFault>
+        ensures ok { OnOk result (ServesAll S.serves server.old server.new
+            (record { input = R.remaining reader.old; output = self.old })
+            (record { input = R.remaining reader.new; output = self.new })) }
+        ensures fault { IfErr result (λ e. ServingEnds S.serves S.may_lack server.old server.new e
+            (record { input = R.remaining reader.old; output = self.old })
+            (record { input = R.remaining reader.new; output = self.new })) }
+    {
+        if self.is_broken {
+            return Err(AnswerFault::Write);
+        }
+        let end = serve_stream(alloc, reader, &mut self.writer, server, LINE_BOUND);
+        if self.writer.flush().is_err() {
+            self.is_broken = true;
+            return Err(AnswerFault::Write);
+        }
+        match end {
+            Ok(()) => Ok(()),
+            Err(fault) => {
+                self.is_broken = fault == AnswerFault::Write;
+                Err(fault)
             }
         }
     }

@@ -6,6 +6,7 @@ ghost use Rattle.fwupd_watch.specs.Progress.{end_asked, latest_end, progress_lin
 ghost use Rattle.mctp_wire.specs.Packet.{packet_of};
 ghost use Rattle.mctp_wire.specs.declared.unit.Unit.TheVariants.{U128};
 
+use crate::terminal::{erase, is_due};
 use fd_core::{Bank, Key};
 use fw_node::DeviceNode;
 use fw_text::{push_number, push_words};
@@ -15,16 +16,10 @@ use mctp_wire::Unit;
 use pldm_base::TYPE_FIRMWARE_UPDATE;
 use std::alloc::{AllocError, Global};
 use std::io::Print;
-use std::time::{Duration, Instant};
-
-/// The least time between two updates of the display, in milliseconds.
-const PAUSE: u64 = 100;
+use std::time::Instant;
 
 /// How many of the latest packets are searched for the device's last RequestFirmwareData.
 const LATEST: usize = 16;
-
-/// A blank line, which covers one that was shown.
-const BLANK: &str = "                                                                        ";
 
 /// Shows on standard error the progress of the first device that loads an image, at most ten times
 /// a second.
@@ -110,7 +105,7 @@ impl<'a> ProgressLine<'a> {
             return None;
         };
         match self.shown {
-            Some(shown) if now.duration_since(shown) < Duration::from_millis(PAUSE) => None,
+            Some(shown) if !is_due(Some(now.duration_since(shown))) => None,
             _ => Some(now),
         }
     }
@@ -146,8 +141,6 @@ impl<'a> ProgressLine<'a> {
 
     /// Erases the progress line.
     pub fn end(&mut self) {
-        if self.shown.is_some() {
-            let _ = eprint!(self.rt; "\r{BLANK}\r");
-        }
+        let _ = erase(&mut self.rt.stderr(), self.shown.is_some());
     }
 }

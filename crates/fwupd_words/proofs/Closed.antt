@@ -30,15 +30,21 @@ finds c words (Ok m) line parsed matches kinds =
     )
 finds c words (Err e) line parsed matches kinds = kinds (ap is_simple_and_free line.is ∙ line_is_free line.forms)
 
--- names of trace formats at some place in memory
+-- the names that options take at some place in memory
 abbrev some_word : Text → Bor Text
 some_word word = record { ref_ptr = (0, 0); now = word }
 
+abbrev some_words : List (Bor Text) → Bor (List (Bor Text))
+some_words words = record { ref_ptr = (0, 0); now = words }
+
 abbrev pub some_forms : Forms
-some_forms = record { ref_ptr = (0, 0); now = some_word (codes "hex") ∷ some_word (codes "text") ∷ some_word (codes "pcap") ∷ [] }
+some_forms = record {
+  traces = some_words (some_word (codes "hex") ∷ some_word (codes "text") ∷ some_word (codes "pcap") ∷ []);
+  units = some_words (some_word (codes "64") ∷ some_word (codes "128") ∷ []);
+}
 
 some_line : IsCommandLine (command_line some_forms)
-some_line = record { forms = some_forms; words = refl; is = refl }
+some_line = record { forms = some_forms; words = (refl, refl); is = refl }
 
 -- if memory for the command line was refused, that is the result
 pub finds_no_memory : (words : List Text) (r : Result ArgMatches Error) → IsErrAnd r (λ e. kind_of e ≡ kinds.OutOfMemory)

@@ -1,5 +1,5 @@
 -- Results of the definition for literal arguments.
-use Rattle.std.proofs.Common.{◌≡◌, ◌∷◌, [], List, Option, Some, codes, option_map, refl}
+use Rattle.std.proofs.Common.{◌≡◌, ◌∷◌, [], List, None, Option, Some, codes, option_map, refl}
 use Rattle.clap.proofs.OnLiterals.{clap_on_literals}
 use Rattle.clap.specs.Walk.{Row, Text}
 use Rattle.clap.specs.Words.{fault_of, first_of, subcommand_of}
@@ -40,3 +40,8 @@ no_runs forms = refl
 no_store : (forms : Forms) → fault_of (command_line forms) (codes "fwupd" ∷ codes "replay" ∷ codes "--store=" ∷ codes "a" ∷ codes "b" ∷ []) ≡ InvalidValue ∷ []
 unfolding clap_on_literals
 no_store forms = refl
+
+-- a unit is 64 or 128 bytes, and a file of packets may be missing
+decodes : (forms : Forms) → given (codes "FILE") (subcommand_of (command_line forms) (codes "fwupd" ∷ codes "decode" ∷ [])) ≡ Some None
+unfolding clap_on_literals
+decodes forms = refl

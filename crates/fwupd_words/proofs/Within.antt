@@ -6,7 +6,7 @@ use Rattle.std.specs.Str.{bytes_eq}
 use Rattle.clap.specs.Simple.{Shape, built, built_leaf, filled, inherited, with_index}
 use Rattle.clap.specs.Walk.{Row, Rule, Text, arg_by_id, has_row}
 use Rattle.clap.specs.Words.{App, fault_of, subcommand_of}
-use Rattle.fwupd_words.specs.CommandLine.{Forms, answer, number_between, command_line, option_rule, package_rule, plan, run, soak, text_option, word_rule}
+use Rattle.fwupd_words.specs.CommandLine.{Forms, answer, device, number_between, command_line, option_rule, package_rule, plan, run, soak, text_option, word_rule}
 use Rattle.fwupd_words.specs.Reading.{IsNoByte, HasAllowedRoughness, IsWithinBounds}
 use Rattle.fwupd_words.specs.Words.{AsksForJob, AsksNumber, AsksOrder, AsksRoughness, AsksSmall, AsksSoak, given_by}
 use Rattle.fwupd_base.specs.declared.roughness.Roughness.{Roughness}
@@ -31,6 +31,16 @@ answering_usual : AllUsual (building answer).rules (building answer).rules
 answering_usual =
     set_usual _ _ refl refl refl (inl refl)
     also set_usual _ _ refl refl refl (inr (_, refl))
+    also help_usual _ _ refl refl refl refl
+    also tt
+
+device_usual : AllUsual (building device).rules (building device).rules
+device_usual =
+    flag_usual _ _ _ refl refl refl refl (inr (_, refl))
+    also set_usual _ _ refl refl refl (inl refl)
+    also set_usual _ _ refl refl refl (inl refl)
+    also set_usual _ _ refl refl refl (inl refl)
+    also set_usual _ _ refl refl refl (inl refl)
     also help_usual _ _ refl refl refl refl
     also tt
 
@@ -148,7 +158,7 @@ answer_read : (forms : Forms) (words : List Text) (name : Text) (rows : List Row
 answer_read forms words name rows passed is named =
     let here = subst (λ n. subcommand_of (command_line forms) words ≡ Some (n, rows)) named is in
     let only : OnlyNamed (codes "answer") (building answer) (built (command_line forms)).subs =
-    inl refl also inr refl also inr refl also inr refl also inr refl also inr refl also inr refl also inr refl also inr refl also tt in
+    inl refl also inr refl also inr refl also inr refl also inr refl also inr refl also inr refl also inr refl also inr refl also inr refl also inr refl also inr refl also tt in
     rows_read forms words (codes "answer") rows (building answer) passed here only refl answering_usual
 
 -- arguments of `answer` without a fault have an identifier
@@ -159,6 +169,24 @@ eid_is_read forms words name rows passed is named never =
     let has = given_has (codes "EID") rows (eid_given rows read.checked) in
     let at = number_at (building answer).rules rows (codes "EID") eid_rule 8 255 8 254 read.each refl has refl refl (omega arith) refl (omega arith) in
     never at.0 at.1 at.2.numeral at.2.fits
+
+device_given : (rows : List Row) → check_fault (building device) rows false ≡ [] → is_given (codes "EID") rows ≡ true
+device_given rows passed = go (is_given (codes "CONFIG") rows) (is_given (codes "EID") rows) refl refl
+  where
+    go : (config eid : Bool) → is_given (codes "CONFIG") rows ≡ config → is_given (codes "EID") rows ≡ eid → is_given (codes "EID") rows ≡ true
+    go config true first is = is
+    go true false first is = absurd (no_fault_is_one _ _ (rw (first, is) at passed))
+    go false false first is = absurd (no_fault_is_one _ _ (rw first at passed))
+
+-- the rule of a device's identifier, the second word
+abbrev device_eid_rule : Rule
+device_eid_rule = with_index 2 (filled (record (word_rule (codes "EID")) { parser = Some (number_between 8 254) }))
+
+-- the identifier of a device is 8 to 254
+device_within : (rows : List Row) (eid : ℕ) → AreRead (building device) rows → AsksSmall (given_by rows) (codes "EID") eid → (8 ≤ eid) × (eid ≤ 254)
+device_within rows eid read asks =
+    let has = given_has (codes "EID") rows (device_given rows read.checked) in
+    number_under (building device).rules rows (codes "EID") device_eid_rule 8 255 8 254 eid read.each refl has refl refl (omega arith) refl (omega arith) asks
 
 -- the numbers of a job of arguments without a fault
 pub is_within : (forms : Forms) (words : List Text) (name : Text) (rows : List Row) (job : Job) → fault_of (command_line forms) words ≡ []
@@ -171,19 +199,26 @@ is_within forms words name rows (jobs.Answer endpoint) passed is asks =
 is_within forms words name rows (jobs.Plan config number form) passed is asks =
     let here = subst (λ n. subcommand_of (command_line forms) words ≡ Some (n, rows)) asks.0 is in
     let only : OnlyNamed (codes "plan") (building plan) (built (command_line forms)).subs =
-    inr refl also inr refl also inr refl also inl refl also inr refl also inr refl also inr refl also inr refl also inr refl also tt in
+    inr refl also inr refl also inr refl also inl refl also inr refl also inr refl also inr refl also inr refl also inr refl also inr refl also inr refl also inr refl also tt in
     plan_within rows number (rows_read forms words (codes "plan") rows (building plan) passed here only refl planning_usual) asks.2
-is_within forms words name rows (jobs.Run config folder order show) passed is asks =
+is_within forms words name rows (jobs.Run u) passed is asks =
     let here = subst (λ n. subcommand_of (command_line forms) words ≡ Some (n, rows)) asks.0 is in
     let only : OnlyNamed (codes "run") (building (run forms)) (built (command_line forms)).subs =
-    inr refl also inr refl also inr refl also inr refl also inl refl also inr refl also inr refl also inr refl also inr refl also tt in
-    run_within forms rows order (rows_read forms words (codes "run") rows (building (run forms)) passed here only refl (running_usual forms)) asks.3
-is_within forms words name rows (jobs.Soak config order path) passed is asks =
+    inr refl also inr refl also inr refl also inr refl also inl refl also inr refl also inr refl also inr refl also inr refl also inr refl also inr refl also inr refl also tt in
+    run_within forms rows u.order (rows_read forms words (codes "run") rows (building (run forms)) passed here only refl (running_usual forms)) asks.3
+is_within forms words name rows (jobs.Soak s) passed is asks =
     let here = subst (λ n. subcommand_of (command_line forms) words ≡ Some (n, rows)) asks.0 is in
     let only : OnlyNamed (codes "soak") (building soak) (built (command_line forms)).subs =
-    inr refl also inr refl also inr refl also inr refl also inr refl also inl refl also inr refl also inr refl also inr refl also tt in
-    soak_within rows order (rows_read forms words (codes "soak") rows (building soak) passed here only refl soaking_usual) asks.2
+    inr refl also inr refl also inr refl also inr refl also inr refl also inl refl also inr refl also inr refl also inr refl also inr refl also inr refl also inr refl also tt in
+    soak_within rows s.order (rows_read forms words (codes "soak") rows (building soak) passed here only refl soaking_usual) asks.2
+is_within forms words name rows (jobs.Device d) passed is asks =
+    let here = subst (λ n. subcommand_of (command_line forms) words ≡ Some (n, rows)) asks.0 is in
+    let only : OnlyNamed (codes "device") (building device) (built (command_line forms)).subs =
+    inr refl also inr refl also inr refl also inr refl also inr refl also inr refl also inr refl also inr refl also inl refl also inr refl also inr refl also inr refl also tt in
+    device_within rows d.eid (rows_read forms words (codes "device") rows (building device) passed here only refl device_usual) asks.1.eid
+is_within forms words name rows (jobs.Agent a) passed is asks = tt
 is_within forms words name rows (jobs.Inspect path form) passed is asks = tt
-is_within forms words name rows (jobs.Replay config schedule show) passed is asks = tt
+is_within forms words name rows (jobs.Replay r) passed is asks = tt
 is_within forms words name rows (jobs.Sel file) passed is asks = tt
 is_within forms words name rows (jobs.Build spec file) passed is asks = tt
+is_within forms words name rows (jobs.Decode file unit form) passed is asks = tt

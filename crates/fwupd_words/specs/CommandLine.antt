@@ -7,10 +7,14 @@ use Rattle.clap.specs.Words.{App, Rule, Text, new_app, new_rule, with_subcommand
 use Rattle.clap.specs.declared.builder.action.ArgAction.TheVariants.{Set, SetTrue}
 use Rattle.clap.specs.declared.builder.value_parser.ValueParser.{ValueParser}
 use Rattle.clap.specs.declared.builder.value_parser.ValueParser.TheVariants as vp
+use Rattle.fwupd_words.specs.declared.options.OptionNames.{OptionNames}
 
--- A required positional argument; and one that must not be empty.
+-- A required positional argument, one that may be missing, and one that must not be empty.
 abbrev pub word_rule : Text → Rule
 word_rule name = record (new_rule name) { action = Some Set; required = true }
+
+abbrev pub optional_word : Text → Rule
+optional_word name = record (new_rule name) { action = Some Set }
 
 abbrev pub given_word : Text → Rule
 given_word name = record (word_rule name) { parser = Some vp.NonEmptyString }
@@ -38,16 +42,25 @@ any_number = vp.Unsigned 0 18446744073709551615
 abbrev pub option_rule : Text → (otherwise : Text) → ValueParser → Rule
 option_rule name otherwise parser = record (text_option name) { defaults = otherwise ∷ []; parser = Some parser }
 
--- The names of the trace formats, borrowed.
+-- The names that options take, borrowed: the trace formats, and the sizes of the transmission
+-- units.
 abbrev pub Forms : Type 0
-Forms = Bor (List (Bor Text))
+Forms = OptionNames
+
+abbrev pub names_of : Bor (List (Bor Text)) → List Text
+names_of names = map (λ name. name.now) names.now
 
 abbrev pub AreForms : Forms → Type 0
-AreForms forms = map (λ form. form.now) forms.now ≡ codes "hex" ∷ codes "text" ∷ codes "pcap" ∷ []
+AreForms forms =
+    (names_of forms.traces ≡ codes "hex" ∷ codes "text" ∷ codes "pcap" ∷ []) × (names_of forms.units ≡ codes "64" ∷ codes "128" ∷ [])
 
 -- The option of the trace format, by its name.
 abbrev pub trace_form_rule : Forms → Rule
-trace_form_rule forms = option_rule (codes "trace-format") (codes "hex") (vp.Names forms)
+trace_form_rule forms = option_rule (codes "trace-format") (codes "hex") (vp.Names forms.traces)
+
+-- The option of the transmission unit.
+abbrev pub unit_rule : Forms → Rule
+unit_rule forms = option_rule (codes "unit") (codes "64") (vp.Names forms.units)
 
 -- The option of a package's number, from 1.
 abbrev pub package_rule : Rule
@@ -125,6 +138,24 @@ sel_rules = word_rule (codes "FILE") ∷ []
 abbrev pub build_rules : List Rule
 build_rules = word_rule (codes "SPEC") ∷ word_rule (codes "FILE") ∷ []
 
+-- `fwupd device [--auto] [--store STORE] [--report FILE] CONFIG EID`
+abbrev pub device_rules : List Rule
+device_rules =
+    flag_rule (codes "auto")
+    ∷ given_option (codes "store")
+    ∷ text_option (codes "report")
+    ∷ word_rule (codes "CONFIG")
+    ∷ record (word_rule (codes "EID")) { parser = Some (number_between 8 254) }
+    ∷ []
+
+-- `fwupd agent [--auto] [--sel FILE] [--report FILE] CONFIG`
+abbrev pub agent_rules : List Rule
+agent_rules = flag_rule (codes "auto") ∷ text_option (codes "sel") ∷ text_option (codes "report") ∷ word_rule (codes "CONFIG") ∷ []
+
+-- `fwupd decode [--unit BYTES] [--json] [FILE]`
+abbrev pub decode_rules : Forms → List Rule
+decode_rules forms = unit_rule forms ∷ flag_rule (codes "json") ∷ optional_word (codes "FILE") ∷ []
+
 -- A command with these arguments, and without subcommands.
 abbrev pub taking : Text → List Rule → App
 taking name rules = record (new_app name) { top = record (new_shape name) { rules = rules } }
@@ -153,9 +184,18 @@ sel = taking (codes "sel") sel_rules
 abbrev pub build : App
 build = taking (codes "build") build_rules
 
+abbrev pub device : App
+device = taking (codes "device") device_rules
+
+abbrev pub agent : App
+agent = taking (codes "agent") agent_rules
+
+abbrev pub decode : Forms → App
+decode forms = taking (codes "decode") (decode_rules forms)
+
 -- The subcommands, in the order in which help lists them.
 abbrev pub subcommands : Forms → List App
-subcommands forms = answer ∷ inspect ∷ replay forms ∷ plan ∷ run forms ∷ soak ∷ sel ∷ build ∷ []
+subcommands forms = answer ∷ inspect ∷ replay forms ∷ plan ∷ run forms ∷ soak ∷ sel ∷ build ∷ device ∷ agent ∷ decode forms ∷ []
 
 -- The program without its subcommands: one is required, and there is a version option.
 abbrev pub program : App
@@ -179,7 +219,7 @@ is_plain one = one.top.is_plain
 abbrev pub command_line : Forms → App
 command_line forms = fold with_one program (subcommands forms)
 
--- The command line, wherever the names of the trace formats are in memory.
+-- The command line, wherever the names that options take are in memory.
 pub record IsCommandLine (line : App) : Type 0 where
   pub forms : Forms
   pub words : AreForms forms

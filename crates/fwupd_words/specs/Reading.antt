@@ -26,9 +26,10 @@ pub record HasAllowedRoughness (roughness : Roughness) : Type 0 where
 -- The numbers of a job are within the bounds of the command line.
 abbrev pub IsWithinBounds : Job → Type 0
 IsWithinBounds (jobs.Answer endpoint) = (8 ≤ endpoint.eid) × (endpoint.eid ≤ 254)
+IsWithinBounds (jobs.Device d) = (8 ≤ d.eid) × (d.eid ≤ 254)
 IsWithinBounds (jobs.Plan config number form) = 1 ≤ number
-IsWithinBounds (jobs.Run config folder order show) = (1 ≤ order.number) × HasAllowedRoughness order.roughness
-IsWithinBounds (jobs.Soak config order path) = (1 ≤ order.runs) × (order.runs ≤ 1000000) × HasAllowedRoughness order.roughness
+IsWithinBounds (jobs.Run u) = (1 ≤ u.order.number) × HasAllowedRoughness u.order.roughness
+IsWithinBounds (jobs.Soak s) = (1 ≤ s.order.runs) × (s.order.runs ≤ 1000000) × HasAllowedRoughness s.order.roughness
 IsWithinBounds _ = Unit {0}
 
 -- Arguments without a fault give the job that their subcommand requests, or are refused for a
@@ -67,7 +68,7 @@ RefusesEndpoint words error =
 abbrev pub IsNoJob : (name : Text) → Type 0
 IsNoJob name =
     (name ≢ codes "answer") × (name ≢ codes "inspect") × (name ≢ codes "replay") × (name ≢ codes "plan") × (name ≢ codes "run")
-    × (name ≢ codes "soak") × (name ≢ codes "sel") × (name ≢ codes "build")
+    × (name ≢ codes "soak") × (name ≢ codes "sel") × (name ≢ codes "build") × (name ≢ codes "device") × (name ≢ codes "agent") × (name ≢ codes "decode")
 
 -- Why the subcommand with these arguments requests no job: memory ran out, or it is `answer`
 -- without an endpoint.

@@ -7,7 +7,11 @@ use Rattle.fwupd_base.specs.declared.roughness.Roughness.{Roughness}
 use Rattle.fwupd_base.specs.declared.forms.Form.{Form}
 use Rattle.fwupd_base.specs.declared.forms.Form.TheVariants as forms
 use Rattle.mctp_ctl.specs.declared.answers.Endpoint.{Endpoint}
+use Rattle.mctp_wire.specs.declared.unit.Unit.{«Unit»}
+use Rattle.mctp_wire.specs.declared.unit.Unit.TheVariants as units
 use Rattle.uuid.specs.Text.{parsed}
+use Rattle.fwupd_words.specs.declared.asked.AgentAlone.{AgentAlone}
+use Rattle.fwupd_words.specs.declared.asked.DeviceAlone.{DeviceAlone}
 use Rattle.fwupd_words.specs.declared.asked.Job.{Job}
 use Rattle.fwupd_words.specs.declared.asked.Job.TheVariants as jobs
 use Rattle.fwupd_words.specs.declared.asked.Order.{Order}
@@ -62,6 +66,12 @@ pub record AsksTraceForm (words : Given) (form : TraceForm) : Type 0 where
   pub told : words.first (codes "trace-format") ≡ Some (codes "text") → form ≡ traces.Text
   pub capture : words.first (codes "trace-format") ≡ Some (codes "pcap") → form ≡ traces.Capture
 
+-- The transmission unit, by its size.
+pub record AsksUnit (words : Given) (unit : «Unit») : Type 0 where
+  pub none : words.first (codes "unit") ≡ None → unit ≡ units.U64
+  pub narrow : words.first (codes "unit") ≡ Some (codes "64") → unit ≡ units.U64
+  pub wide : words.first (codes "unit") ≡ Some (codes "128") → unit ≡ units.U128
+
 -- The outputs of a run or a replay.
 pub record AsksKept (words : Given) (show : Show) : Type 0 where
   pub trace : option_map (λ path. path.now) show.trace ≡ words.first (codes "trace")
@@ -113,18 +123,37 @@ pub record AsksSoak (words : Given) (order : SoakOrder) : Type 0 where
   pub runs : AsksRuns words order.runs
   pub roughness : AsksRoughness words order.roughness
 
+-- A device by itself.
+pub record AsksDevice (words : Given) (device : DeviceAlone) : Type 0 where
+  pub config : device.config.now ≡ text_under words (codes "CONFIG")
+  pub eid : AsksSmall words (codes "EID") device.eid
+  pub automatic : AsksFlag words (codes "auto") device.is_automatic
+  pub store : option_map (λ path. path.now) device.store ≡ words.first (codes "store")
+  pub report : option_map (λ path. path.now) device.report ≡ words.first (codes "report")
+
+-- The agent by itself.
+pub record AsksAgent (words : Given) (agent : AgentAlone) : Type 0 where
+  pub config : agent.config.now ≡ text_under words (codes "CONFIG")
+  pub automatic : AsksFlag words (codes "auto") agent.is_automatic
+  pub log : option_map (λ path. path.now) agent.log ≡ words.first (codes "sel")
+  pub report : option_map (λ path. path.now) agent.report ≡ words.first (codes "report")
+
 -- The subcommand `name` with these arguments requests a job.
 abbrev pub AsksForJob : (name : List ℕ) → Given → Job → Type 0
 AsksForJob name words (jobs.Answer endpoint) = (name ≡ codes "answer") × AsksEndpoint words endpoint
 AsksForJob name words (jobs.Inspect path form) = (name ≡ codes "inspect") × (path.now ≡ text_under words (codes "FILE")) × AsksForm words form
-AsksForJob name words (jobs.Replay config schedule show) =
-    (name ≡ codes "replay") × (config.now ≡ text_under words (codes "CONFIG")) × (schedule.now ≡ text_under words (codes "SCHEDULE")) × (show.is_quiet ≡ true) × (show.history ≡ None) × AsksKept words show
-AsksForJob name words (jobs.Run config folder order show) =
-    (name ≡ codes "run") × (config.now ≡ text_under words (codes "CONFIG")) × (folder.now ≡ text_under words (codes "FOLDER")) × AsksOrder words order × AsksShow words show
+AsksForJob name words (jobs.Replay r) =
+    (name ≡ codes "replay") × (r.config.now ≡ text_under words (codes "CONFIG")) × (r.schedule.now ≡ text_under words (codes "SCHEDULE")) × (r.show.is_quiet ≡ true) × (r.show.history ≡ None) × AsksKept words r.show
+AsksForJob name words (jobs.Run u) =
+    (name ≡ codes "run") × (u.config.now ≡ text_under words (codes "CONFIG")) × (u.folder.now ≡ text_under words (codes "FOLDER")) × AsksOrder words u.order × AsksShow words u.show
 AsksForJob name words (jobs.Sel file) = (name ≡ codes "sel") × (file.now ≡ text_under words (codes "FILE"))
 AsksForJob name words (jobs.Build spec file) = (name ≡ codes "build") × (spec.now ≡ text_under words (codes "SPEC")) × (file.now ≡ text_under words (codes "FILE"))
 AsksForJob name words (jobs.Plan config number form) =
     (name ≡ codes "plan") × (config.now ≡ text_under words (codes "CONFIG")) × AsksNumber words number × AsksForm words form
-AsksForJob name words (jobs.Soak config order path) =
-    (name ≡ codes "soak") × (config.now ≡ text_under words (codes "CONFIG")) × AsksSoak words order
-    × (option_map (λ p. p.now) path ≡ words.first (codes "record"))
+AsksForJob name words (jobs.Soak s) =
+    (name ≡ codes "soak") × (s.config.now ≡ text_under words (codes "CONFIG")) × AsksSoak words s.order
+    × (option_map (λ p. p.now) s.record ≡ words.first (codes "record"))
+AsksForJob name words (jobs.Device d) = (name ≡ codes "device") × AsksDevice words d
+AsksForJob name words (jobs.Agent a) = (name ≡ codes "agent") × AsksAgent words a
+AsksForJob name words (jobs.Decode file unit form) =
+    (name ≡ codes "decode") × (option_map (λ p. p.now) file ≡ words.first (codes "FILE")) × AsksUnit words unit × AsksForm words form

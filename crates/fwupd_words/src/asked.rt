@@ -2,6 +2,7 @@
 
 use fwupd_base::{Form, Roughness};
 use mctp_ctl::Endpoint;
+use mctp_wire::Unit;
 
 /// A job that arguments request.
 #[derive(Clone, Copy)]
@@ -16,25 +17,9 @@ pub enum Job<'a> {
         form: Form,
     },
     /// Replay a schedule on the nodes of a configuration.
-    Replay {
-        /// The path of the configuration.
-        config: &'a str,
-        /// The path of the schedule.
-        schedule: &'a str,
-        /// The outputs of the replay.
-        show: Show<'a>,
-    },
+    Replay(Replay<'a>),
     /// Update the devices of a configuration over sockets.
-    Run {
-        /// The path of the configuration.
-        config: &'a str,
-        /// The path of the folder of the sockets.
-        folder: &'a str,
-        /// The options of the run.
-        order: Order,
-        /// The outputs of the run.
-        show: Show<'a>,
-    },
+    Run(Update<'a>),
     /// Build the package that a description specifies.
     Build {
         /// The path of the description.
@@ -56,15 +41,84 @@ pub enum Job<'a> {
         /// The path of the log.
         log: &'a str,
     },
-    /// Make many runs over rough links.
-    Soak {
-        /// The path of the configuration.
-        config: &'a str,
-        /// The options of the soak.
-        order: SoakOrder,
-        /// The path of the file for the steps of the first violation, if there is one.
-        record: Option<&'a str>,
+    /// Decode packets, and print what they say.
+    Decode {
+        /// The path of the file of the packets, or none for standard input.
+        file: Option<&'a str>,
+        /// The transmission unit of the network.
+        unit: Unit,
+        /// The format of the text.
+        form: Form,
     },
+    /// Make many runs over rough links.
+    Soak(Soak<'a>),
+    /// Serve a device by itself, line by line.
+    Device(DeviceAlone<'a>),
+    /// Serve the agent by itself, line by line.
+    Agent(AgentAlone<'a>),
+}
+
+/// A replay of a schedule on the nodes of a configuration.
+#[derive(Clone, Copy)]
+pub struct Replay<'a> {
+    /// The path of the configuration.
+    pub config: &'a str,
+    /// The path of the schedule.
+    pub schedule: &'a str,
+    /// The outputs of the replay.
+    pub show: Show<'a>,
+}
+
+/// An update of the devices of a configuration over sockets.
+#[derive(Clone, Copy)]
+pub struct Update<'a> {
+    /// The path of the configuration.
+    pub config: &'a str,
+    /// The path of the folder of the sockets.
+    pub folder: &'a str,
+    /// The options of the run.
+    pub order: Order,
+    /// The outputs of the run.
+    pub show: Show<'a>,
+}
+
+/// Many runs of a configuration over rough links.
+#[derive(Clone, Copy)]
+pub struct Soak<'a> {
+    /// The path of the configuration.
+    pub config: &'a str,
+    /// The options of the soak.
+    pub order: SoakOrder,
+    /// The path of the file for the steps of the first violation, if there is one.
+    pub record: Option<&'a str>,
+}
+
+/// A device by itself.
+#[derive(Clone, Copy)]
+pub struct DeviceAlone<'a> {
+    /// The path of the configuration.
+    pub config: &'a str,
+    /// The device's endpoint identifier, 8 to 254.
+    pub eid: u8,
+    /// Whether the verdict that the device waits for is given at the end of each turn.
+    pub is_automatic: bool,
+    /// The folder of the devices' stores, if the device's images persist.
+    pub store: Option<&'a str>,
+    /// The file that the device's report is written to at the end, if any.
+    pub report: Option<&'a str>,
+}
+
+/// The agent by itself.
+#[derive(Clone, Copy)]
+pub struct AgentAlone<'a> {
+    /// The path of the configuration.
+    pub config: &'a str,
+    /// Whether each session that is ready has its device activate at the end of each turn.
+    pub is_automatic: bool,
+    /// The file that the event log's records are written to at the end, if any.
+    pub log: Option<&'a str>,
+    /// The file that the agent's report is written to at the end, if any.
+    pub report: Option<&'a str>,
 }
 
 /// The format of a trace.

@@ -1,15 +1,17 @@
 //! The subcommands, with their arguments and their help.
 
-ghost use Rattle.std.specs.Prelude.{◌≡◌, IfOk, map, true};
+ghost use Rattle.std.specs.Prelude.{◌≡◌, IfOk, codes, map, true};
 ghost use Rattle.clap.specs.Words.{app_of, rule_of};
-ghost use Rattle.fwupd_words.specs.CommandLine.{IsCommandLine, answer, are_simple, build, command_line, inspect, is_plain, plan, program, replay, run, run_options, sel, soak, with_one, with_rules};
+ghost use Rattle.fwupd_words.specs.CommandLine.{IsCommandLine, agent, answer, are_simple, build, command_line, decode, device, inspect, is_plain, plan, program, replay, run, run_options, sel, soak, text_option, with_one, with_rules};
 
 use crate::helps::{
-    ANSWER_HELP, BUILD_HELP, INSPECT_HELP, PLAN_HELP, REPLAY_HELP, RUN_HELP, SEL_HELP, SOAK_HELP,
+    AGENT_HELP, ANSWER_HELP, BUILD_HELP, DECODE_HELP, DEVICE_HELP, INSPECT_HELP, PLAN_HELP,
+    REPLAY_HELP, RUN_HELP, SEL_HELP, SOAK_HELP,
 };
 use crate::options::{
-    config_word, flag, folder_word, json_option, log_option, package_option, record_option,
-    roughness_options, store_option, text_option, trace_form_option, trace_option, word,
+    OptionNames, config_word, flag, folder_word, json_option, log_option, package_option,
+    packets_word, record_option, roughness_options, store_option, text_option, trace_form_option,
+    trace_option, unit_option, word,
 };
 use clap::{Arg, Command, value_parser};
 use std::alloc::{AllocError, Global};
@@ -71,8 +73,8 @@ fn inspect_command<'a>(alloc: Global) -> Result<Command<'a>, AllocError>
 }
 
 /// The subcommand `replay`.
-fn replay_command<'a>(alloc: Global, forms: &'a [&'a str]) -> Result<Command<'a>, AllocError>
-    ensures { IfOk result (λ c. app_of c ≡ replay forms.entry) }
+fn replay_command<'a>(alloc: Global, names: OptionNames<'a>) -> Result<Command<'a>, AllocError>
+    ensures { IfOk result (λ c. app_of c ≡ replay names.entry) }
 {
     let store = store_option(
         alloc,
@@ -85,7 +87,7 @@ fn replay_command<'a>(alloc: Global, forms: &'a [&'a str]) -> Result<Command<'a>
     );
     let args = vec![in alloc;
         trace_option(alloc),
-        trace_form_option(alloc, forms),
+        trace_form_option(alloc, names),
         log_option(alloc),
         store,
         json_option(alloc),
@@ -105,15 +107,15 @@ fn replay_command<'a>(alloc: Global, forms: &'a [&'a str]) -> Result<Command<'a>
 }
 
 /// The options and arguments of `run`, without those of rough links.
-fn run_options<'a>(alloc: Global, forms: &'a [&'a str]) -> Result<Vec<Arg<'a>>, AllocError>
-    ensures { IfOk result (λ options. map rule_of options.items ≡ run_options forms.entry) }
+fn run_options<'a>(alloc: Global, names: OptionNames<'a>) -> Result<Vec<Arg<'a>>, AllocError>
+    ensures { IfOk result (λ options. map rule_of options.items ≡ run_options names.entry) }
 {
     Ok(vec![in alloc;
         package_option(alloc),
         flag(alloc, "check", "Fails where a session doesn't end Done"),
         flag(alloc, "quiet", "Shows no progress"),
         trace_option(alloc),
-        trace_form_option(alloc, forms),
+        trace_form_option(alloc, names),
         log_option(alloc),
         record_option(
             alloc,
@@ -127,8 +129,8 @@ fn run_options<'a>(alloc: Global, forms: &'a [&'a str]) -> Result<Vec<Arg<'a>>, 
 }
 
 /// The subcommand `run`.
-fn run_command<'a>(alloc: Global, forms: &'a [&'a str]) -> Result<Command<'a>, AllocError>
-    ensures { IfOk result (λ c. app_of c ≡ run forms.entry) }
+fn run_command<'a>(alloc: Global, names: OptionNames<'a>) -> Result<Command<'a>, AllocError>
+    ensures { IfOk result (λ c. app_of c ≡ run names.entry) }
 {
     let command = Command::new(alloc, "run")
         .about("Updates each device with a package, over Unix sockets")
@@ -138,7 +140,7 @@ fn run_command<'a>(alloc: Global, forms: &'a [&'a str]) -> Result<Command<'a>, A
             its ends are connected.",
         )
         .after_long_help(RUN_HELP);
-    let command = with_args(command, run_options(alloc, forms)?)?;
+    let command = with_args(command, run_options(alloc, names)?)?;
     with_args(command, roughness_options(alloc)?)
 }
 
@@ -221,6 +223,94 @@ fn plan_command<'a>(alloc: Global) -> Result<Command<'a>, AllocError>
     with_args(command, args)
 }
 
+/// The option for the path of a node's report.
+fn report_option<'a>(alloc: Global) -> Arg<'a>
+    ensures { rule_of result ≡ text_option (codes "report") }
+{
+    text_option(
+        alloc,
+        "report",
+        "FILE",
+        "Writes the node's report to a file at the end of the input",
+    )
+}
+
+/// The subcommand `device`.
+fn device_command<'a>(alloc: Global) -> Result<Command<'a>, AllocError>
+    ensures { IfOk result (λ c. app_of c ≡ device) }
+{
+    let auto = flag(
+        alloc,
+        "auto",
+        "Gives each verdict that the device waits for, always a success",
+    );
+    let kept = store_option(alloc, "Keeps activated images in a folder");
+    let eid = word(alloc, "EID", "The device's endpoint identifier, 8 to 254");
+    let numbers = value_parser!(u8).range(8..255);
+    let args = vec![in alloc;
+        auto,
+        kept,
+        report_option(alloc),
+        config_word(alloc),
+        eid.value_parser(numbers),
+    ]?;
+    let command = Command::new(alloc, "device")
+        .about("Serves a device by itself: lines are its calls, and it prints its packets")
+        .long_about(
+            "Serves a device of a configuration by itself.\n\n\
+            Each line of standard input is a call of the device. For each, standard output gets one: the packets\n\
+            that the device sends, in upper-case digits. All whole lines are served before more input is awaited.",
+        )
+        .after_long_help(DEVICE_HELP);
+    with_args(command, args)
+}
+
+/// The subcommand `agent`.
+fn agent_command<'a>(alloc: Global) -> Result<Command<'a>, AllocError>
+    ensures { IfOk result (λ c. app_of c ≡ agent) }
+{
+    let auto = flag(
+        alloc,
+        "auto",
+        "Has each device activate when its session is ready",
+    );
+    let args = vec![in alloc;
+        auto,
+        log_option(alloc),
+        report_option(alloc),
+        config_word(alloc),
+    ]?;
+    let command = Command::new(alloc, "agent")
+        .about("Serves the agent by itself: lines are its calls, and it prints its packets")
+        .long_about(
+            "Serves the agent of a configuration by itself.\n\n\
+            Each line of standard input is a call of the agent. For each, standard output gets one: the packets\n\
+            that the agent sends, in upper-case digits. All whole lines are served before more input is awaited.",
+        )
+        .after_long_help(AGENT_HELP);
+    with_args(command, args)
+}
+
+/// The subcommand `decode`.
+fn decode_command<'a>(alloc: Global, names: OptionNames<'a>) -> Result<Command<'a>, AllocError>
+    ensures { IfOk result (λ c. app_of c ≡ decode names.entry) }
+{
+    let args = vec![in alloc;
+        unit_option(alloc, names),
+        flag(alloc, "json", "Writes a line of JSON for each packet"),
+        packets_word(alloc),
+    ]?;
+    let command = Command::new(alloc, "decode")
+        .about("Prints what packets say, whoever sent them")
+        .long_about(
+            "Prints what packets say, whoever sent them: a line for each, as in a trace of text.\n\n\
+            The packets are lines of hexadecimal digits, also with what a trace of digits writes before them, or a\n\
+            capture. Each pair of endpoints has a reader of its own, which assembles its messages.",
+        )
+        .after_long_help(DECODE_HELP);
+    with_args(command, args)
+}
+
 /// The program, without its subcommands.
 fn program<'a>(alloc: Global) -> Command<'a>
     ensures { app_of result ≡ program }
@@ -240,26 +330,37 @@ fn with_one<'a>(command: Command<'a>, one: Command<'a>) -> Result<Command<'a>, A
     command.subcommand(one)
 }
 
-/// The command line, with the names of the trace formats. Help lists the subcommands in this order.
-fn command_with<'a>(alloc: Global, forms: &'a [&'a str]) -> Result<Command<'a>, AllocError>
-    ensures { IfOk result (λ c. app_of c ≡ command_line forms.entry) }
+/// The command line, with the names of the trace formats and the transmission units. Help lists the
+/// subcommands in this order.
+fn command_with<'a>(alloc: Global, names: OptionNames<'a>) -> Result<Command<'a>, AllocError>
+    ensures { IfOk result (λ c. app_of c ≡ command_line names.entry) }
 {
     let command = with_one(program(alloc), answer_command(alloc)?)?;
     let command = with_one(command, inspect_command(alloc)?)?;
-    let command = with_one(command, replay_command(alloc, forms)?)?;
+    let command = with_one(command, replay_command(alloc, names)?)?;
     let command = with_one(command, plan_command(alloc)?)?;
-    let command = with_one(command, run_command(alloc, forms)?)?;
+    let command = with_one(command, run_command(alloc, names)?)?;
     let command = with_one(command, soak_command(alloc)?)?;
     let command = with_one(command, sel_command(alloc)?)?;
-    with_one(command, build_command(alloc)?)
+    let command = with_one(command, build_command(alloc)?)?;
+    let command = with_one(command, device_command(alloc)?)?;
+    let command = with_one(command, agent_command(alloc)?)?;
+    with_one(command, decode_command(alloc, names)?)
 }
 
 /// The names of the trace formats.
 const TRACE_FORMS: &[&str] = &["hex", "text", "pcap"];
 
+/// The sizes of the transmission units.
+const UNITS: &[&str] = &["64", "128"];
+
 /// The whole command line.
 pub(crate) fn command<'a>(alloc: Global) -> Result<Command<'a>, AllocError>
     ensures { IfOk result (λ c. IsCommandLine (app_of c)) }
 {
-    command_with(alloc, TRACE_FORMS)
+    let names = OptionNames {
+        traces: TRACE_FORMS,
+        units: UNITS,
+    };
+    command_with(alloc, names)
 }

@@ -258,3 +258,94 @@ A stamp FFFFFFFF is compared with none: the component's option bit 1 is clear, o
 
 Status: 0, also where an update would fail; 1 if standard error says 'fwupd: package: none', as
 CONFIG names fewer packages, or a fault of 'replay'; 2 for wrong usage.";
+
+/// The text below the help of `device`.
+pub(crate) const DEVICE_HELP: &str = "\
+Example:
+  printf 'tick 40\\nreport\\n' | fwupd device examples/one.config 9
+
+CONFIG is that of 'fwupd replay --help'. A line of the input is one of these:
+  HEX            a packet arrives
+  tick [N]       the device counts a tick, or N, 1 to 1000
+  verdict WORD   verify-ok, verify-fail, apply-ok or apply-fail, for the image written
+  restart        the device restarts, and is deaf and silent for 40 ticks
+  report         prints the device's report, as one line of JSON
+
+What is printed for it:
+  HEX ..         the packets that the device sends, in order
+  -              it sends none
+  refused NotNow the device doesn't wait for this verdict
+  fault NAME     the line can't be read: a fault of a line of 'fwupd replay --help'
+Empty lines, and lines that begin with #, print nothing.
+
+With --auto the verdict that the device waits for is given right before a tick, as 'fwupd run' gives
+it. --store is that of 'fwupd run --help', for this device alone. --report writes at the end of the
+input the device's lines of a report: its state, the images that run, and what was applied and
+activated.
+
+Faults: 'device EID: none' if CONFIG has no such device; 'report' if FILE can't be written, or is
+CONFIG.
+
+Status: 0; 1 if standard error says 'fwupd: ' and a fault, one of these, of 'answer' or of 'replay';
+2 for wrong usage.";
+
+/// The text below the help of `agent`.
+pub(crate) const AGENT_HELP: &str = "\
+Example:
+  printf 'start 9 1\\ntick\\nreport\\n' | fwupd agent examples/one.config
+
+CONFIG is that of 'fwupd replay --help'. A line of the input is one of these:
+  HEX                a packet arrives
+  tick [N]           the agent counts a tick, or N, 1 to 1000
+  start EID PACKAGE  the operator starts a device's update with a package
+  cancel EID         the operator cancels the update
+  activate EID       the operator has the device activate what it applied
+  restart            the agent restarts, and is deaf and silent for 40 ticks
+  sel HEX            a command of the event log and its data: prints the answer, in digits
+  report             prints the agent's report, as one line of JSON
+
+What is printed for it:
+  HEX ..             the packets that the agent sends, in order
+  -                  it sends none
+  refused NAME       it isn't taken: NoSuchNode, NoSuchPackage, Busy, NotReady or ClockEnd
+  fault NAME         the line can't be read: a fault of a line of 'fwupd replay --help'
+Empty lines, and lines that begin with #, print nothing.
+
+With --auto each session that is ready has its device activate right before a tick, as in 'fwupd
+run'. --sel is that of 'fwupd run --help'. --report writes at the end of the input the agent's lines
+of a report: its sessions, the log, and what was recorded.
+
+Faults: 'sel' or 'report' if that file can't be written, or is one that is read.
+
+Status: 0; 1 if standard error says 'fwupd: ' and a fault, one of these, of 'answer' or of 'replay';
+2 for wrong usage.";
+/// The text below the help of `decode`.
+pub(crate) const DECODE_HELP: &str = "\
+Examples:
+  printf '010908C8008002\\n' | fwupd decode
+  fwupd run --trace out/packets.pcap --trace-format pcap examples/one.config out > out/report
+  fwupd decode out/packets.pcap
+
+FILE is a capture, if it begins with a capture's magic number, or has a packet a line:
+  DIGITS                        in hexadecimal digits
+  TURN EID to-device DIGITS     as a trace of digits has it, or with to-agent: EID is the device
+
+A line is TURN EID NUMBER SRC > DST tag T WHAT, as 'run --trace-format text' writes it. TURN is -
+if it isn't known, and the seconds of a record of a capture. EID is the device of the pair. If it
+isn't known, the source of the pair's first packet is the agent.
+
+An input that can't be read gets the line 'drop CAUSE':
+  Fields    neither DIGITS nor the four words of a trace
+  Number    the turn isn't a number below 4294967296, or the device isn't one below 256
+  Hex       not an even number of hexadecimal digits
+  Short     less than 4 bytes
+  Pairs     the first packet of a further pair, after 1024 pairs
+  LinkType  the capture's link type isn't 113, Linux cooked mode
+  Protocol  the record isn't an MCTP packet
+  Cut       the capture ends in its header or in a record, or a record has less than the packet
+
+Limits: of standard input a run reads at most 16777216 bytes. FILE has to fit into memory, and so has
+the text.
+
+Status: 0; 1 if standard error says 'fwupd: input', 'fwupd: FILE: unreadable', 'fwupd: output' or
+'fwupd: memory'; 2 for wrong usage.";

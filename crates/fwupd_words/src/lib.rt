@@ -8,5 +8,7 @@ mod helps;
 mod options;
 mod reading;
 
-pub use asked::{Job, Order, Show, SoakOrder, TraceForm};
+pub use asked::{
+    AgentAlone, DeviceAlone, Job, Order, Replay, Show, Soak, SoakOrder, TraceForm, Update,
+};
 pub use reading::parse;

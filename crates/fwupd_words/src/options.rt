@@ -2,11 +2,20 @@
 
 ghost use Rattle.std.specs.Prelude.{◌≡◌, ◌∷◌, [], IfOk, Some, codes, map};
 ghost use Rattle.clap.specs.Words.{rule_of};
-ghost use Rattle.fwupd_words.specs.CommandLine.{flag_rule, given_option, given_word, package_rule, roughness_rules, text_option, trace_form_rule, word_rule};
+ghost use Rattle.fwupd_words.specs.CommandLine.{flag_rule, given_option, given_word, optional_word, package_rule, roughness_rules, text_option, trace_form_rule, unit_rule, word_rule};
 
 use clap::builder::ValueParser;
 use clap::{Arg, ArgAction, value_parser};
 use std::alloc::{AllocError, Global};
+
+/// The names that options take as their values.
+#[derive(Clone, Copy)]
+pub struct OptionNames<'a> {
+    /// The names of the trace formats.
+    pub traces: &'a [&'a str],
+    /// The sizes of the transmission units.
+    pub units: &'a [&'a str],
+}
 
 /// A required positional argument.
 pub(crate) fn word<'a>(alloc: Global, name: &'static str, help: &'static str) -> Arg<'a>
@@ -35,6 +44,15 @@ pub(crate) fn folder_word<'a>(alloc: Global) -> Arg<'a>
 {
     let folder = word(alloc, "FOLDER", "The folder that the sockets are made in");
     folder.value_parser(ValueParser::NonEmptyString)
+}
+
+/// The argument for the path of a file of packets, which may be missing.
+pub(crate) fn packets_word<'a>(alloc: Global) -> Arg<'a>
+    ensures { rule_of result ≡ optional_word (codes "FILE") }
+{
+    Arg::new(alloc, "FILE")
+        .help("The packets: lines of digits, or a capture; standard input if it is - or missing")
+        .action(ArgAction::Set)
 }
 
 /// An option without a value.
@@ -75,8 +93,8 @@ pub(crate) fn trace_option<'a>(alloc: Global) -> Arg<'a>
 }
 
 /// The option for the format of a trace.
-pub(crate) fn trace_form_option<'a>(alloc: Global, forms: &'a [&'a str]) -> Arg<'a>
-    ensures { rule_of result ≡ trace_form_rule forms.entry }
+pub(crate) fn trace_form_option<'a>(alloc: Global, names: OptionNames<'a>) -> Arg<'a>
+    ensures { rule_of result ≡ trace_form_rule names.entry }
 {
     text_option(
         alloc,
@@ -84,8 +102,22 @@ pub(crate) fn trace_form_option<'a>(alloc: Global, forms: &'a [&'a str]) -> Arg<
         "FORM",
         "The form of the trace: lines of digits, lines that tell what packets say, or a capture",
     )
-    .value_parser(forms)
+    .value_parser(names.traces)
     .default_value("hex")
+}
+
+/// The option for the transmission unit.
+pub(crate) fn unit_option<'a>(alloc: Global, names: OptionNames<'a>) -> Arg<'a>
+    ensures { rule_of result ≡ unit_rule names.entry }
+{
+    text_option(
+        alloc,
+        "unit",
+        "BYTES",
+        "The transmission unit: the most bytes of a packet's body",
+    )
+    .value_parser(names.units)
+    .default_value("64")
 }
 
 /// The option for the path of the event log's records.

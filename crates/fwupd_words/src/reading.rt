@@ -5,14 +5,17 @@ ghost use Rattle.std.specs.String.{string_bytes};
 ghost use Rattle.clap.specs.Words.{App, kind_of};
 ghost use Rattle.fwupd_words.specs.CommandLine.{IsCommandLine};
 ghost use Rattle.fwupd_words.specs.Reading.{FindsSubcommand, ReadsWords, RefusesWords, RefusesEndpoint};
-ghost use Rattle.fwupd_words.specs.Words.{AsksForJob, AsksEndpoint, AsksForm, AsksKept, AsksNumber, AsksOrder, AsksRoughness, AsksRuns, AsksSeed, AsksSmall, AsksSoak, AsksTraceForm, given_in, text_under};
+ghost use Rattle.fwupd_words.specs.Words.{AsksAgent, AsksDevice, AsksEndpoint, AsksForJob, AsksForm, AsksKept, AsksNumber, AsksOrder, AsksRoughness, AsksRuns, AsksSeed, AsksSmall, AsksSoak, AsksTraceForm, AsksUnit, given_in, text_under};
 
-use crate::asked::{Job, Order, Show, SoakOrder, TraceForm};
+use crate::asked::{
+    AgentAlone, DeviceAlone, Job, Order, Replay, Show, Soak, SoakOrder, TraceForm, Update,
+};
 use crate::commands::command;
 use clap::ArgMatches;
 use clap::error::ErrorKind;
 use fwupd_base::{Form, Roughness};
 use mctp_ctl::Endpoint;
+use mctp_wire::Unit;
 use std::alloc::{AllocError, Global};
 use uuid::Uuid;
 
@@ -103,6 +106,16 @@ fn show_in<'a>(matches: &ArgMatches<'a>, is_quiet: bool, history: Option<&'a str
     }
 }
 
+/// The transmission unit that the arguments request.
+fn unit_in(matches: &ArgMatches<'_>) -> Unit
+    ensures { AsksUnit (given_in matches.now) result }
+{
+    match matches.get_str("unit") {
+        Some("128") => Unit::U128,
+        _ => Unit::U64,
+    }
+}
+
 /// The number of 8 bits under `name`, or 0 if it is missing.
 fn small_under(matches: &ArgMatches<'_>, name: &str) -> u8
     ensures { AsksSmall (given_in matches.now) name.now result }
@@ -166,6 +179,33 @@ fn soak_order_in(matches: &ArgMatches<'_>) -> SoakOrder
     }
 }
 
+/// The device that the arguments request.
+fn device_in<'a>(matches: &ArgMatches<'a>) -> DeviceAlone<'a>
+    ensures { AsksDevice (given_in matches.now) result }
+{
+    let (store, report) = (matches.get_str("store"), matches.get_str("report"));
+    DeviceAlone {
+        config: text_under(matches, "CONFIG"),
+        eid: small_under(matches, "EID"),
+        is_automatic: matches.get_flag("auto"),
+        store,
+        report,
+    }
+}
+
+/// The agent that the arguments request.
+fn agent_in<'a>(matches: &ArgMatches<'a>) -> AgentAlone<'a>
+    ensures { AsksAgent (given_in matches.now) result }
+{
+    let (log, report) = (matches.get_str("sel"), matches.get_str("report"));
+    AgentAlone {
+        config: text_under(matches, "CONFIG"),
+        is_automatic: matches.get_flag("auto"),
+        log,
+        report,
+    }
+}
+
 /// The job that the subcommand `name` with these arguments requests.
 fn job_of<'a>(alloc: Global, name: &str, matches: &ArgMatches<'a>) -> Result<Job<'a>, clap::Error>
     ensures job { IfOk result (AsksForJob name.now (given_in matches.now)) }
@@ -180,33 +220,40 @@ fn job_of<'a>(alloc: Global, name: &str, matches: &ArgMatches<'a>) -> Result<Job
             package: text_under(matches, "FILE"),
             form: form_in(matches),
         }),
-        "replay" => Ok(Job::Replay {
+        "replay" => Ok(Job::Replay(Replay {
             config: text_under(matches, "CONFIG"),
             schedule: text_under(matches, "SCHEDULE"),
             show: show_in(matches, true, None),
-        }),
+        })),
         "plan" => Ok(Job::Plan {
             config: text_under(matches, "CONFIG"),
             number: package_number(matches),
             form: form_in(matches),
         }),
-        "run" => Ok(Job::Run {
+        "run" => Ok(Job::Run(Update {
             config: text_under(matches, "CONFIG"),
             folder: text_under(matches, "FOLDER"),
             order: order_in(matches),
             show: show_in(matches, matches.get_flag("quiet"), matches.get_str("store")),
-        }),
-        "soak" => Ok(Job::Soak {
+        })),
+        "soak" => Ok(Job::Soak(Soak {
             config: text_under(matches, "CONFIG"),
             order: soak_order_in(matches),
             record: matches.get_str("record"),
-        }),
+        })),
         "sel" => Ok(Job::Sel {
             log: text_under(matches, "FILE"),
         }),
         "build" => Ok(Job::Build {
             spec: text_under(matches, "SPEC"),
             package: text_under(matches, "FILE"),
+        }),
+        "device" => Ok(Job::Device(device_in(matches))),
+        "agent" => Ok(Job::Agent(agent_in(matches))),
+        "decode" => Ok(Job::Decode {
+            file: matches.get_str("FILE"),
+            unit: unit_in(matches),
+            form: form_in(matches),
         }),
         _ => Err(refusal(
             alloc,

@@ -4,6 +4,7 @@ mod exchanges;
 mod inspected;
 mod inspection;
 mod jobs;
+mod openings;
 mod traces;
 
 use fwupd_base::{AnswerFault, answer_stream};

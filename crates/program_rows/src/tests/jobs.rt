@@ -6,14 +6,19 @@ ghost use Rattle.fwupd_watch.specs.Files.{any_file};
 use fd_core::Bank;
 use fw_edge::{Link, MemLink, StreamLink};
 use fw_setup::SystemStores;
+use fw_soak::{SoakObserver, Summary};
+use fw_store::SystemFolder;
 use fw_world::{Step, World};
 use fwupd_base::{Form, Roughness};
 use fwupd_jobs::{
-    Beginning, FileFault, FileIdentity, Files, JobFault, Observer, ObserverFault, Order, Output,
-    Show, TraceForm, Wires, plan_file, update_checked,
+    Beginning, FileFault, FileIdentity, Files, Host, JobFault, Observer, ObserverFault, Order,
+    Output, Parts, Show, TraceForm, Update, WholeFiles, Wires, plan_file, update_checked,
 };
+use fwupd_watch::{SystemCalls, system_places};
 use mctp_wire::Unit;
 use std::alloc::{AllocError, Global};
+use std::fs::File;
+use std::marker::PhantomData;
 use std::os::unix::net::UnixStream;
 use std::test::Fail;
 
@@ -277,40 +282,113 @@ pub fn package(rt: &HostRuntime) -> Result<Vec<u8>, Fail> {
     Ok(bytes)
 }
 
-/// The output of an update over these links, its fault, the number of turns observed, and the
-/// device whose link failed.
-fn updated<'a, L: Link + Drop, S: Wires<L>>(
+/// An observer of a soak that does nothing.
+#[derive(Drop)]
+pub struct Unseen {}
+
+impl SoakObserver for Unseen {
+    fn see(&mut self, _summary: &Summary) {}
+}
+
+/// The parts of a host whose files are in memory, with these links.
+pub struct MemParts<'a, L, S> {
+    parts: PhantomData<(&'a u8, L, S)>,
+}
+
+impl<'a, L: Link + Drop, S: Wires<L> + Drop> Parts for MemParts<'a, L, S> {
+    type Files = MemFiles<'a>;
+
+    type Folder = SystemFolder<'a>;
+
+    type Stores = SystemStores<'a>;
+
+    type Input = &'a [u8];
+
+    type Link = L;
+
+    type Wires = S;
+
+    type Watch = Counter;
+
+    type SoakWatch = Unseen;
+
+    type NewFile = File;
+
+    type Places = WholeFiles<SystemCalls<'a>>;
+
+    type Writer = Vec<u8>;
+}
+
+/// A host with these files and links and no input. Its observer fails in turn `broken`.
+pub fn host<'a, L: Link + Drop, S: Wires<L> + Drop>(
+    rt: &'a HostRuntime,
+    files: &'a [(&'a str, u64, &'a [u8])],
+    wires: S,
+    broken: usize,
+) -> Result<Host<MemParts<'a, L, S>>, Fail> {
+    let Ok(output) = Output::new(rt.alloc(), Vec::new(rt.alloc())) else {
+        return Err(Fail::from(AllocError));
+    };
+    Ok(Host {
+        files: MemFiles { files },
+        stores: SystemStores::new(rt),
+        input: b"",
+        wires,
+        watch: Counter::new(broken),
+        soak_watch: Unseen {},
+        places: system_places(rt),
+        output,
+    })
+}
+
+/// The result of an update: its output with its fault, the number of turns observed, the device
+/// whose link failed, and the source of its links.
+#[derive(Drop)]
+struct UpdateResult<S> {
+    text: Vec<u8>,
+    turns: usize,
+    lost: Option<u8>,
+    wires: S,
+}
+
+/// Performs an update on a host, and appends the text of its fault, if there is one.
+fn update_on<H: Parts>(
+    rt: &HostRuntime,
+    update: Update<'_>,
+    host: &mut Host<H>,
+    text: &mut Vec<u8>,
+) -> Result<(), Fail> {
+    if let Err(fault) = update_checked(rt.alloc(), update, host) {
+        let told = format!(in rt.alloc(); "{fault}")?;
+        text.extend_from_slice(told.as_bytes())?;
+    }
+    Ok(())
+}
+
+/// Updates over these links.
+fn updated<'a, L: Link + Drop, S: Wires<L> + Drop>(
     rt: &HostRuntime,
     config: &'a [u8],
     package: &'a [u8],
     trace: Option<&str>,
-    wires: &mut S,
+    wires: S,
     broken: usize,
-) -> Result<(Vec<u8>, usize, Option<u8>), Fail> {
+) -> Result<UpdateResult<S>, Fail> {
     let files: [(&'a str, u64, &'a [u8]); 4] = [
         ("c", 1, config),
         ("p", 2, package),
         ("linked to c", 1, config),
         ("linked to p", 2, package),
     ];
-    let mut watch = Counter::new(broken);
-    let mut output = match Output::new(rt.alloc(), Vec::new(rt.alloc())) {
-        Ok(output) => output,
-        Err(fault) => return Ok((outcome(rt, Err(fault), Vec::new(rt.alloc()))?, 0, None)),
-    };
-    let end = update_checked(
-        rt.alloc(),
-        &MemFiles { files: &files },
-        &SystemStores::new(rt),
-        "c",
-        None,
-        Order {
+    let update = Update {
+        config: "c",
+        folder: "f",
+        order: Order {
             number: 1,
             is_checked: true,
             roughness: Roughness::none(),
         },
-        "f",
-        Show {
+        show: Show {
             is_quiet: true,
             trace,
             trace_form: TraceForm::Hex,
@@ -320,15 +398,24 @@ fn updated<'a, L: Link + Drop, S: Wires<L>>(
             history: None,
             form: Form::Text,
         },
+    };
+    let mut host = host(rt, &files, wires, broken)?;
+    let mut fault = Vec::new(rt.alloc());
+    update_on(rt, update, &mut host, &mut fault)?;
+    let Host {
+        output,
+        watch,
         wires,
-        &mut watch,
-        &mut output,
-    );
-    Ok((
-        outcome(rt, end, output.into_writer())?,
-        watch.turns,
-        watch.lost,
-    ))
+        ..
+    } = host;
+    let mut text = output.into_writer();
+    text.extend_from_slice(&fault)?;
+    Ok(UpdateResult {
+        text,
+        turns: watch.turns,
+        lost: watch.lost,
+        wires,
+    })
 }
 
 /// The configuration, with a package.
@@ -425,15 +512,19 @@ fn an_update_is_reported_turn_by_turn(rt: HostRuntime) -> Result<(), Fail> {
     ];
     let package = package(&rt)?;
     for (config, closed, broken, begins, ends, turns) in table {
-        let mut wires = MemWires {
+        let wires = MemWires {
             alloc: rt.alloc(),
             opened: 0,
             closed,
         };
-        let (text, seen, lost) = updated(&rt, config, &package, Some("t"), &mut wires, broken)?;
-        assert!(rt; text.starts_with(begins), "{turns} {}", text.escape_ascii());
-        assert!(rt; text.ends_with(ends));
-        assert!(rt; seen == turns && lost.is_none());
+        let end = updated(&rt, config, &package, Some("t"), wires, broken)?;
+        assert!(rt;
+            end.text.starts_with(begins),
+            "{turns} {}",
+            end.text.escape_ascii()
+        );
+        assert!(rt; end.text.ends_with(ends));
+        assert!(rt; end.turns == turns && end.lost.is_none());
     }
     Ok(())
 }
@@ -449,28 +540,28 @@ fn no_link_is_opened_where_the_trace_is_refused(rt: HostRuntime) -> Result<(), F
         ("linked to p", true),
         ("another", false),
     ] {
-        let mut wires = MemWires {
+        let wires = MemWires {
             alloc: rt.alloc(),
             opened: 0,
             closed: 9,
         };
-        let (text, seen, _) = updated(&rt, WHOLE, &package, Some(trace), &mut wires, 0)?;
+        let end = updated(&rt, WHOLE, &package, Some(trace), wires, 0)?;
         let told: &[u8] = if is_refused { b"trace" } else { b"socket: 9" };
-        assert!(rt; text.as_slice() == told, "{trace}");
-        assert!(rt; seen == 0 && wires.opened == 0);
+        assert!(rt; end.text.as_slice() == told, "{trace}");
+        assert!(rt; end.turns == 0 && end.wires.opened == 0);
     }
     Ok(())
 }
 
 #[test]
 fn a_turn_in_which_a_link_fails_is_seen(rt: HostRuntime) -> Result<(), Fail> {
-    let mut wires = CutWires::new(&rt)?;
+    let wires = CutWires::new(&rt)?;
     let package = package(&rt)?;
-    let (text, seen, lost) = updated(&rt, WHOLE, &package, None, &mut wires, 0)?;
+    let end = updated(&rt, WHOLE, &package, None, wires, 0)?;
     let report = b"now 1\nagent 8 up\ndevice 9 up IDLE session Query sent 1\n\
         active 9 10 1 1 AA\nlog 1 last -\nedge: Frame"
         .as_slice();
-    assert!(rt; text.as_slice() == report);
-    assert!(rt; seen == 1 && lost == Some(9));
+    assert!(rt; end.text.as_slice() == report);
+    assert!(rt; end.turns == 1 && end.lost == Some(9));
     Ok(())
 }

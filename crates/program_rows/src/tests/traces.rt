@@ -1,10 +1,13 @@
 //! Captures, the lines of an event log, and observed replays.
 
-use crate::tests::jobs::{Counter, MemFiles, WHOLE, outcome, package};
-use fw_setup::SystemStores;
+ghost use Rattle.std.specs.Prelude.{true};
+
+use crate::tests::jobs::{MemFiles, WHOLE, host, outcome, package};
+use fw_edge::MemLink;
 use fw_trace::{RecordsFault, capture_header, push_capture, records_text};
 use fwupd_base::Form;
-use fwupd_jobs::{Output, Show, TraceForm, replay_files, sel_file};
+use fwupd_jobs::{Host, JobFault, Output, Replay, Show, TraceForm, Wires, replay_files, sel_file};
+use mctp_wire::Unit;
 use std::test::Fail;
 
 /// The bytes that a text of hexadecimal digits encodes, which may contain spaces.
@@ -16,6 +19,18 @@ fn bytes_of(rt: &HostRuntime, text: &str) -> Result<Vec<u8>, Fail> {
         }
     }
     Ok(hex::decode(rt.alloc(), digits.as_slice())?)
+}
+
+/// A source of no link.
+#[derive(Drop)]
+struct NoWires {}
+
+impl Wires<MemLink> for NoWires {
+    ghost lacks = { λ w folder device. true };
+
+    fn open(&mut self, _unit: Unit, _folder: &str, device: u8) -> Result<MemLink, JobFault> {
+        Err(JobFault::Socket(device))
+    }
 }
 
 #[test]
@@ -199,11 +214,6 @@ fn replayed<'a, 'b>(
         ("s", 3, steps),
         ("linked to s", 3, steps),
     ];
-    let mut watch = Counter::new(broken);
-    let mut output = match Output::new(rt.alloc(), Vec::new(rt.alloc())) {
-        Ok(output) => output,
-        Err(fault) => return Ok((outcome(rt, Err(fault), Vec::new(rt.alloc()))?, 0)),
-    };
     let show = Show {
         is_quiet: true,
         trace,
@@ -214,17 +224,14 @@ fn replayed<'a, 'b>(
         history: None,
         form: Form::Text,
     };
-    let end = replay_files(
-        rt.alloc(),
-        &MemFiles { files: &files },
-        &SystemStores::new(rt),
-        "c",
-        None,
-        "s",
+    let replay = Replay {
+        config: "c",
+        schedule: "s",
         show,
-        &mut watch,
-        &mut output,
-    );
+    };
+    let mut host = host(rt, &files, NoWires {}, broken)?;
+    let end = replay_files(rt.alloc(), replay, &mut host);
+    let Host { output, watch, .. } = host;
     Ok((outcome(rt, end, output.into_writer())?, watch.turns))
 }
 

@@ -9,6 +9,6 @@ returns-in-Err-clause-fault g c = elim c.in-Err.ensures.fault [
   | inl e ↦ inl e
   | inr b ↦
       inr
-      (barred_more (g.F.Files.holds c.args.files.now) (g.V.Observer.refuses c.args.watch.now) (show_of c.args.show) c.args.schedule.now (c.args.config.now ∷ map (λ p. string_bytes p) c.args.packages.now) c.in-Err.fault
+      (barred_more (g.F.Files.holds c.args.files.now) (g.V.Observer.refuses c.args.watch.now) (show_of c.args.job.show) c.args.job.schedule.now (c.args.job.config.now ∷ map (λ p. string_bytes p) c.args.packages.now) c.in-Err.fault
       (g.V.Observer.watched c.begin_apart.new.watch) b)
 ]

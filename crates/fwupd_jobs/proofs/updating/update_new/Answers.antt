@@ -8,32 +8,32 @@ use Rattle.fwupd_jobs.proofs.updating.update_new.Goals as goal
 
 pub returns-in-Err-clause-fault : goal.returns-in-Err-clause-fault
 returns-in-Err-clause-fault g c source named path same =
-    unbegun (g.F.Files.holds c.args.files.now) source c.args.order.number (show_of c.args.show) (g.V.Observer.refuses c.args.watch.now) (g.S.Wires.lacks c.args.wires.now c.args.folder.now) c.in-Err.fault
-    (g.V.Observer.watched c.begin_apart.new.watch) c.args.output.now
-    (barred_by (g.F.Files.holds c.args.files.now) source c.args.order.number (show_of c.args.show) (g.V.Observer.refuses c.args.watch.now) c.in-Err.fault (g.V.Observer.watched c.begin_apart.new.watch) c.args.world.now
-    named c.args.config.now (map (λ p. string_bytes p) c.args.packages.now) path same c.in-Err.ensures.fault)
+    unbegun (g.H.Files.Files.holds c.args.host.now.files) source c.args.job.order.number (show_of c.args.job.show) (g.H.Watch.Observer.refuses c.args.host.now.watch) (g.H.Wires.Wires.lacks c.args.host.now.wires c.args.job.folder.now) c.in-Err.fault
+    (g.H.Watch.Observer.watched c.begin_apart.new.watch) c.args.host.now.output
+    (barred_by (g.H.Files.Files.holds c.args.host.now.files) source c.args.job.order.number (show_of c.args.job.show) (g.H.Watch.Observer.refuses c.args.host.now.watch) c.in-Err.fault (g.H.Watch.Observer.watched c.begin_apart.new.watch) c.args.world.now
+    named c.args.job.config.now (map (λ p. string_bytes p) c.args.packages.now) path same c.in-Err.ensures.fault)
 
 pub returns-in-Err-clause-stores : goal.returns-in-Err-clause-stores
 returns-in-Err-clause-stores g c =
-    barred_of_none (g.F.Files.holds c.args.files.now) (g.V.Observer.refuses c.args.watch.now) (show_of c.args.show) (c.args.config.now ∷ map (λ p. string_bytes p) c.args.packages.now) c.in-Err.fault (g.V.Observer.watched c.begin_apart.new.watch) c.in-Err.ensures.fault
+    barred_of_none (g.H.Files.Files.holds c.args.host.now.files) (g.H.Watch.Observer.refuses c.args.host.now.watch) (show_of c.args.job.show) (c.args.job.config.now ∷ map (λ p. string_bytes p) c.args.packages.now) c.in-Err.fault (g.H.Watch.Observer.watched c.begin_apart.new.watch) c.in-Err.ensures.fault
 
 pub returns-in-Ok-update_over-clause-ok : goal.returns-in-Ok-update_over-clause-ok
 returns-in-Ok-update_over-clause-ok g c source named path same = record {
   world = c.args.world.now;
   begins =
-      watched_by (g.F.Files.holds c.args.files.now) source c.args.order.number (show_of c.args.show) c.args.world.now named c.args.config.now (map (λ p. string_bytes p) c.args.packages.now) path same
+      watched_by (g.H.Files.Files.holds c.args.host.now.files) source c.args.job.order.number (show_of c.args.job.show) c.args.world.now named c.args.job.config.now (map (λ p. string_bytes p) c.args.packages.now) path same
       c.in-Ok.ensures.apart;
   shown = c.update_over.ensures.same ∙ c.in-Ok.ensures.shows;
   left = c.update_over.new.world;
   updated = c.in-Ok-update_over.ensures.updated;
-  promised = safe_reached c.args.order.number c.args.world.now c.update_over.new.world c.runs_are_promised.ensures.law c.requires c.update_over.ensures.reached;
+  promised = safe_reached c.args.job.order.number c.args.world.now c.update_over.new.world c.runs_are_promised.ensures.law c.requires c.update_over.ensures.reached;
   seen = c.in-Ok-update_over.ensures.seen;
   turns = c.in-Ok-update_over.ensures.turns c.in-Ok.ensures.anew.0;
   none_lost = c.in-Ok-update_over.ensures.none_lost ∙ c.in-Ok.ensures.anew.1;
   recorded = c.in-Ok-update_over.ensures.recorded c.in-Ok.ensures.recording;
   kept_up =
       c.in-Ok-update_over.ensures.history
-      (kept_fresh (g.V.Observer.watched c.begin_apart.new.watch).history c.args.world.now.history c.in-Ok.ensures.history (ap (λ w. w.history) named.setup.world));
+      (kept_fresh (g.H.Watch.Observer.watched c.begin_apart.new.watch).history c.args.world.now.history c.in-Ok.ensures.history (ap (λ w. w.history) named.setup.world));
   let_end = c.in-Ok-update_over.ensures.let_end;
   undone_is = c.in-Ok-update_over.ensures.undone;
   written = c.in-Ok-update_over.ensures.written;
@@ -41,21 +41,21 @@ returns-in-Ok-update_over-clause-ok g c source named path same = record {
 
 pub returns-in-Err-update_over-clause-fault : goal.returns-in-Err-update_over-clause-fault
 returns-in-Err-update_over-clause-fault g c source named path same =
-    update_ends (g.F.Files.holds c.args.files.now) source c.args.order.number (show_of c.args.show) (g.V.Observer.refuses c.args.watch.now) (g.S.Wires.lacks c.args.wires.now c.args.folder.now) c.args.world.now
-    c.update_over.new.world c.in-Err-update_over.fault (g.V.Observer.watched c.update_over.new.watch) c.args.output.now c.update_over.new.output
-    (watched_by (g.F.Files.holds c.args.files.now) source c.args.order.number (show_of c.args.show) c.args.world.now named c.args.config.now (map (λ p. string_bytes p) c.args.packages.now) path same
+    update_ends (g.H.Files.Files.holds c.args.host.now.files) source c.args.job.order.number (show_of c.args.job.show) (g.H.Watch.Observer.refuses c.args.host.now.watch) (g.H.Wires.Wires.lacks c.args.host.now.wires c.args.job.folder.now) c.args.world.now
+    c.update_over.new.world c.in-Err-update_over.fault (g.H.Watch.Observer.watched c.update_over.new.host.watch) c.args.host.now.output c.update_over.new.host.output
+    (watched_by (g.H.Files.Files.holds c.args.host.now.files) source c.args.job.order.number (show_of c.args.job.show) c.args.world.now named c.args.job.config.now (map (λ p. string_bytes p) c.args.packages.now) path same
     c.in-Ok.ensures.apart)
     (c.update_over.ensures.same ∙ c.in-Ok.ensures.shows)
-    (safe_reached c.args.order.number c.args.world.now c.update_over.new.world c.runs_are_promised.ensures.law c.requires c.update_over.ensures.reached)
+    (safe_reached c.args.job.order.number c.args.world.now c.update_over.new.world c.runs_are_promised.ensures.law c.requires c.update_over.ensures.reached)
     (c.update_over.ensures.sees c.in-Ok.ensures.anew.0)
     c.in-Err-update_over.ensures.lost
     (λ broken none. c.in-Err-update_over.ensures.recorded_still broken none c.in-Ok.ensures.recording)
     (λ broken.
     c.in-Err-update_over.ensures.history_still broken
-    (kept_fresh (g.V.Observer.watched c.begin_apart.new.watch).history c.args.world.now.history c.in-Ok.ensures.history (ap (λ w. w.history) named.setup.world)))
+    (kept_fresh (g.H.Watch.Observer.watched c.begin_apart.new.watch).history c.args.world.now.history c.in-Ok.ensures.history (ap (λ w. w.history) named.setup.world)))
     c.in-Err-update_over.ensures.fault
 
 pub returns-in-Err-update_over-clause-stores : goal.returns-in-Err-update_over-clause-stores
 returns-in-Err-update_over-clause-stores g c =
-    driven_of_none c.args.order.number c.args.show.form (g.S.Wires.lacks c.args.wires.now c.args.folder.now) c.args.world.now c.update_over.new.world c.in-Err-update_over.fault (g.V.Observer.watched c.update_over.new.watch)
-    c.args.output.now c.update_over.new.output c.in-Err-update_over.ensures.fault
+    driven_of_none c.args.job.order.number c.args.job.show.form (g.H.Wires.Wires.lacks c.args.host.now.wires c.args.job.folder.now) c.args.world.now c.update_over.new.world c.in-Err-update_over.fault (g.H.Watch.Observer.watched c.update_over.new.host.watch)
+    c.args.host.now.output c.update_over.new.host.output c.in-Err-update_over.ensures.fault

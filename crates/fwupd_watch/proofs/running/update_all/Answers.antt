@@ -5,7 +5,7 @@ use Rattle.fw_steps.specs.Moments.{entries_between}
 use Rattle.fw_edge.proofs.Sending.{sent_none, sent_on}
 use Rattle.fwupd_watch.proofs.Happened.{kept_on, kept_on_still, kept_same, kept_still}
 use Rattle.fwupd_watch.proofs.Noted.{none_driven, run_begun, run_broken, run_noted, run_still}
-use Rattle.fwupd_watch.proofs.Started.{counted_alike, none_unwritten, seen_next, told_links, turned_apart, unwritten_by, updates_more, updates_none, updates_off, updates_reached, updates_seen, updates_seen_off, watched_apart}
+use Rattle.fwupd_watch.proofs.Started.{counted_alike, may_end, none_unwritten, seen_next, told_links, turned_apart, unwritten_by, updates_more, updates_none, updates_off, updates_reached, updates_seen, updates_seen_off, watched_apart}
 use Rattle.fw_edge.specs.declared.driving.EdgeFault.TheVariants as edges
 use Rattle.fwupd_watch.proofs.running.update_all.Goals as goal
 
@@ -62,6 +62,9 @@ pub returns-in-Err-drive-clause-failed : goal.returns-in-Err-drive-clause-failed
 returns-in-Err-drive-clause-failed g c =
     told_links c.in-Err-drive.fault c.broken_off.result (map (λ k. (g.L.Link.tally k).failures) c.args.links.now) (map (λ k. (g.L.Link.tally k).failures) c.loop.links)
     (map (λ k. (g.L.Link.tally k).failures) c.drive.new.links) c.broken_off.ensures.told c.loop.invariant.kept c.in-Err-drive.ensures.stopped.failed
+
+pub returns-in-Err-drive-clause-fault : goal.returns-in-Err-drive-clause-fault
+returns-in-Err-drive-clause-fault g c = may_end c.in-Err-drive.fault c.broken_off.result c.broken_off.ensures.told
 
 pub returns-in-Err-drive-clause-unwritten : goal.returns-in-Err-drive-clause-unwritten
 returns-in-Err-drive-clause-unwritten g c = turned_apart c.in-Err-drive.fault c.broken_off.result _ c.broken_off.ensures.told

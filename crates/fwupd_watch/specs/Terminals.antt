@@ -1,0 +1,24 @@
+-- The lines that a run shows on a terminal, and when.
+use Rattle.std.specs.Prelude.{ℕ, ◌*◌, ◌^◌, ◌++◌, Bool, false, true, List, [], Option, None, Some, codes, nat_le}
+use Rattle.fw_text.specs.Printing.{word_and_number}
+
+-- whether the display is due for an update, these nanoseconds after the last one, if there was one:
+-- at most ten times a second
+abbrev pub is_due_after : Option ℕ → Bool
+is_due_after None = true
+is_due_after (Some nanos) = nat_le (100 * 10 ^ 6) nanos
+
+-- what erases a progress line, if one was shown
+abbrev pub erasure_of : (was_shown : Bool) → List ℕ
+erasure_of false = []
+erasure_of true = codes "\r                                                                        \r"
+
+-- the line about a device whose link failed
+abbrev pub lost_line : (device : ℕ) → List ℕ
+lost_line device = word_and_number (codes "device ") device ++ codes ": its link failed\n"
+
+-- what is written about it: nothing if no link failed, or if the writer isn't a terminal
+abbrev pub explanation_of : (is_terminal : Bool) → Option ℕ → List ℕ
+explanation_of is_terminal None = []
+explanation_of false (Some device) = []
+explanation_of true (Some device) = lost_line device

@@ -1,0 +1,83 @@
+//! The lines that a run shows on a terminal, and when.
+
+ghost use Rattle.std.specs.Duration.{as_nanos};
+ghost use Rattle.std.specs.Io.KnownBytes.{Appends};
+ghost use Rattle.std.specs.Prelude.{◌≡◌, ◌&&◌, IfOk, OnOk, not, option_map};
+ghost use Rattle.fwupd_watch.specs.Terminals.{erasure_of, explanation_of, is_due_after, lost_line};
+
+use fw_text::{push_number, push_words};
+use std::alloc::{AllocError, Global};
+use std::io::{self, ErrorKind, Write};
+use std::time::Duration;
+
+/// The least time between two updates of the display, in milliseconds.
+const PAUSE: u64 = 100;
+
+/// A blank line, which covers one that was shown, between two carriage returns.
+const ERASURE: &[u8] =
+    b"\r                                                                        \r";
+
+/// Whether the display is due for an update, when this time passed since the last one, if there was
+/// one.
+pub(crate) fn is_due(passed: Option<Duration>) -> bool
+    ensures { result ≡ is_due_after (option_map as_nanos passed) }
+{
+    match passed {
+        Some(passed) => passed >= Duration::from_millis(PAUSE),
+        None => true,
+    }
+}
+
+/// Whether a run shows its progress: on a terminal, unless it is quiet.
+pub(crate) fn shows_progress(is_quiet: bool, is_terminal: bool) -> bool
+    ensures { result ≡ (not is_quiet && is_terminal) }
+{
+    !is_quiet && is_terminal
+}
+
+/// Erases a progress line, if one was shown.
+///
+/// # Errors
+/// The writer's error.
+pub(crate) fn erase<W: Write>(writer: &mut W, was_shown: bool) -> io::Result<()>
+    ensures { OnOk result (Appends (W.contents writer.old) (W.contents writer.new) (erasure_of was_shown)) }
+{
+    if !was_shown {
+        return Ok(());
+    }
+    writer.write_all(ERASURE)
+}
+
+/// The line about a device whose link failed.
+fn lost_line(alloc: Global, device: u8) -> Result<Vec<u8>, AllocError>
+    ensures { IfOk result (λ line. line.items ≡ lost_line device) }
+{
+    let mut line = Vec::new(alloc);
+    push_number(alloc, &mut line, "device ", usize::from(device))?;
+    push_words(&mut line, ": its link failed\n")?;
+    Ok(line)
+}
+
+/// Writes the device whose link failed, if there is one and the writer is a terminal.
+///
+/// # Errors
+/// The writer's error, or `OutOfMemory` if memory is refused.
+pub(crate) fn explain_on<W: Write>(
+    alloc: Global,
+    writer: &mut W,
+    is_terminal: bool,
+    lost: Option<u8>,
+) -> io::Result<()>
+    ensures { OnOk result (Appends (W.contents writer.old) (W.contents writer.new) (explanation_of is_terminal lost)) }
+{
+    let Some(device) = lost else {
+        return Ok(());
+    };
+    if !is_terminal {
+        return Ok(());
+    }
+    let Ok(line) = lost_line(alloc, device) else {
+        return Err(io::Error::from(ErrorKind::OutOfMemory));
+    };
+    writer.write_all(&line)
+}
