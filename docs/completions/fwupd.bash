@@ -1,0 +1,34 @@
+# Completion of fwupd's command line for bash. docs/make-pages makes this file.
+_fwupd() {
+    local word=${COMP_WORDS[COMP_CWORD]} before=${COMP_WORDS[COMP_CWORD - 1]} words=""
+    if ((COMP_CWORD == 1)); then
+        words="answer inspect replay plan run soak sel build device agent decode help --help --version"
+        mapfile -t COMPREPLY < <(compgen -W "$words" -- "$word")
+        return
+    fi
+    case ${COMP_WORDS[1]}:$before in
+        replay:--trace-format) words="hex text pcap" ;;
+        run:--trace-format) words="hex text pcap" ;;
+        decode:--unit) words="64 128" ;;
+        help:*) words="answer inspect replay plan run soak sel build device agent decode" ;;
+        *) case ${COMP_WORDS[1]}:$word in
+            answer:-*) words="--uuid --help" ;;
+            inspect:-*) words="--json --help" ;;
+            replay:-*) words="--trace --trace-format --sel --store --json --help" ;;
+            plan:-*) words="--package --json --help" ;;
+            run:-*) words="--package --check --quiet --trace --trace-format --sel --record --store --json --loss --duplicate --delay --seed --help" ;;
+            soak:-*) words="--runs --record --loss --duplicate --delay --seed --help" ;;
+            sel:-*) words="--help" ;;
+            build:-*) words="--help" ;;
+            device:-*) words="--auto --store --report --help" ;;
+            agent:-*) words="--auto --sel --report --help" ;;
+            decode:-*) words="--unit --json --help" ;;
+        esac ;;
+    esac
+    if [[ $words ]]; then
+        mapfile -t COMPREPLY < <(compgen -W "$words" -- "$word")
+    else
+        mapfile -t COMPREPLY < <(compgen -f -- "$word")
+    fi
+}
+complete -o filenames -F _fwupd fwupd
