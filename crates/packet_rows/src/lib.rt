@@ -1,6 +1,6 @@
-//! Tests of packets, frames, messages, and PLDM headers and base commands. `tests/program` tests
-//! the built program for the rest: packets that are refused, and each control message and base
-//! command.
+//! Tests of packets, frames, messages, PLDM headers, base commands and fronts. `tests/program`
+//! tests the built program for the rest: packets that are refused, and each control message and
+//! base command.
 #![tactic(auto)]
 
 #[cfg(test)]
@@ -9,6 +9,8 @@ mod assembly;
 mod base_commands;
 #[cfg(test)]
 mod cutting;
+#[cfg(test)]
+mod front;
 #[cfg(test)]
 mod headers;
 #[cfg(test)]

@@ -1,0 +1,2 @@
+-- The laws of packets that pass.
+mod Passing

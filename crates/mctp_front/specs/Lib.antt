@@ -1,0 +1,4 @@
+pub mod ControlRows
+pub mod Front
+pub mod Laws
+pub mod PldmRows
