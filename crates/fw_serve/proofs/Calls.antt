@@ -1,7 +1,6 @@
 -- The calls of a device's node by itself.
-use Rattle.std.proofs.Common.{◌≡◌, ◌∙◌, ◌++◌, ℕ, zero, suc, true, false, Bool, is_some, List, [], ◌∷◌, map, None, Some, append-nil, append_assoc, ap, refl, subst, sym}
+use Rattle.std.proofs.Common.{◌≡◌, ◌∙◌, ◌++◌, ℕ, true, List, [], ◌∷◌, map, None, append-nil, ap, refl, sym}
 use Rattle.fd_core.specs.Images.{KeyedImage}
-use Rattle.fd_core.specs.Steps.{device_verdict}
 use Rattle.fd_core.specs.declared.states.Verdict.{Verdict}
 use Rattle.fw_message.specs.Headline.{EntryOf}
 use Rattle.fw_message.specs.Worlds.{NotedOf, noted_of}
@@ -12,7 +11,7 @@ use Rattle.fw_node.specs.Packets.{all_packets}
 use Rattle.fw_steps.specs.Alone.{DeviceCall, device_after_call, device_call_entries, device_call_packets}
 use Rattle.fw_serve.proofs.Notes.{node_is}
 use Rattle.fw_serve.specs.Noting.{NotesPacket, NotesVerdict}
-use Rattle.fw_serve.specs.Serving.{AreDue, IsReceipt, IsRestart, IsTick, IsVerdict, MayCall, ServedDeviceOf, TakesCalls, TakesSuch, TakesTurn, TakesTurns, due_verdict, served_after_call}
+use Rattle.fw_serve.specs.Serving.{AreDue, IsReceipt, IsRestart, IsTick, IsVerdict, MayCall, ServedDeviceOf, TakesSuch}
 
 -- one call
 one_call : (s t : ServedDeviceOf) (call : DeviceCall) (such : List DeviceCall → Type 0) (sent : List (List ℕ)) → such (call ∷ []) → MayCall s.node call

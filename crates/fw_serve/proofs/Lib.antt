@@ -5,6 +5,11 @@
 -- - `Calls`: the calls of a device's node by itself.
 -- - `Parts`: what the nodes of a run print for their parts of it.
 -- - `NothingElse`: where no call of a bank fails, a device prints nothing else.
+-- - `Processes`: a device and the agent as processes of their own.
+-- - `TracedDeeds`: a process receives only packets that are timely.
+-- - `TracedDevices`: the deeds of a served device are acts of a trace.
+-- - `TracedAgent`: the deeds of the served agent are acts of a trace.
+-- - `TracedProcesses`: the headline holds for served processes.
 -- - `Ends`: the line of packets, from the packets with a space after each.
 mod Calls
 mod Ends
@@ -13,4 +18,9 @@ mod NothingElse
 mod Notes
 mod Parts
 mod Prints
+mod Processes
+mod TracedAgent
+mod TracedDeeds
+mod TracedDevices
+mod TracedProcesses
 mod Turns

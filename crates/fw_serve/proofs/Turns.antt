@@ -1,13 +1,13 @@
 -- Turns of a device, and of the agent.
-use Rattle.std.proofs.Common.{◌≡◌, ◌+◌, ◌∙◌, ◌++◌, ℕ, Bool, true, false, zero, suc, if◌then◌else◌, is_some, List, [], ◌∷◌, ap, arith, refl, sym, subst}
+use Rattle.std.proofs.Common.{◌≡◌, ◌+◌, ◌∙◌, ◌++◌, ℕ, Bool, true, false, suc, if◌then◌else◌, is_some, List, [], ◌∷◌, ap, arith, refl, sym}
 use Rattle.std.proofs.lemmas.Grind.{flat_map-append}
 use Rattle.hex.specs.Hex.{encode_upper}
 use Rattle.fw_node.specs.Agents.{ready_for}
 use Rattle.fw_script.specs.declared.reports.SentCount.{SentCount}
 use Rattle.fw_steps.specs.Alone.{AgentCall}
 use Rattle.fw_serve.specs.Agents.{ServedAgentOf, activated_if_ready, agent_served, all_activated, counts_after, turn_ended, turn_packets, turn_taken, turns_packets, turns_taken}
-use Rattle.fw_serve.specs.Serving.{PrintsPackets, ServedDeviceOf, TakesSuch, TakesTurn, TakesTurns}
-use Rattle.fw_serve.specs.Texts.{packets_line, packets_spaced}
+use Rattle.fw_serve.specs.Serving.{ServedDeviceOf, TakesTurn, TakesTurns}
+use Rattle.fw_serve.specs.Texts.{packets_spaced}
 
 spaced_append : (ps qs : List (List ℕ)) → packets_spaced (ps ++ qs) ≡ packets_spaced ps ++ packets_spaced qs
 spaced_append ps qs = flat_map-append (λ p. encode_upper p ++ 32 ∷ []) ps qs
@@ -35,9 +35,9 @@ one_more auto count s t u text next out h k is = record {
 -- THE AGENT
 
 -- What is due at the end of a turn sends nothing, and takes no time.
-record KeepsCounts (s t : ServedAgentOf) : Type 0 where
-  counts : t.counts ≡ s.counts
-  now : t.now ≡ s.now
+pub record KeepsCounts (s t : ServedAgentOf) : Type 0 where
+  pub counts : t.counts ≡ s.counts
+  pub now : t.now ≡ s.now
 
 activation_keeps : (ready : Bool) (s : ServedAgentOf) (device : ℕ) → KeepsCounts s (if ready then agent_served s (AgentCall.Activates s.now device) else s)
 activation_keeps true s device = record { counts = refl; now = refl }
@@ -50,7 +50,7 @@ all_keep s (c ∷ cs) =
     let rest = all_keep (activated_if_ready s c.device) cs in
     record { counts = rest.counts ∙ first.counts; now = rest.now ∙ first.now }
 
-end_keeps : (auto : Bool) (s : ServedAgentOf) → KeepsCounts s (turn_ended auto s)
+pub end_keeps : (auto : Bool) (s : ServedAgentOf) → KeepsCounts s (turn_ended auto s)
 end_keeps true s = all_keep s s.counts
 end_keeps false s = record { counts = refl; now = refl }
 

@@ -5,14 +5,15 @@ ghost use Rattle.fw_message.specs.Entries.{entry_of};
 ghost use Rattle.fw_node.specs.Agents.{free_for, half_for, new_agent, ready_for};
 ghost use Rattle.fw_steps.specs.Alone.{AgentCall};
 ghost use Rattle.fw_steps.specs.Steps.{is_package};
-ghost use Rattle.fw_serve.specs.Agents.{activated_if_ready, agent_served, counts_with, known_refusal, log_answer, new_counts, new_served_agent, ready_refusal, served_packets, start_refusal, turn_ended, turn_packets, turn_taken};
+ghost use Rattle.fw_serve.specs.Processes.{agent_after_missing};
+ghost use Rattle.fw_serve.specs.Agents.{activated_if_ready, agent_report, agent_served, counts_with, known_refusal, log_answer, new_counts, new_served_agent, ready_refusal, served_packets, start_refusal, turn_ended, turn_packets, turn_taken};
 
 use crate::counts::{count_packet, counts_for};
 use crate::texts::LineRefusal;
 use fw_message::Entry;
 use fw_node::{AgentNode, Outbox};
 use fw_package::Package;
-use fw_script::SentCount;
+use fw_script::{SentCount, push_agent_alone, push_history, push_log, push_sessions};
 use fw_steps::deliver_and_record;
 use mctp_ctl::Endpoint;
 use mctp_wire::Unit;
@@ -303,6 +304,31 @@ impl<'p> ServedAgent<'p> {
     {
         self.end_turn(auto);
         self.on_tick(outbox);
+    }
+
+    /// Restarts the node, and goes on after this number of units.
+    pub fn miss(&mut self, units: u32)
+        requires { self.old.now + units < 2 ^ 32 }
+        ensures { self.new ≡ agent_after_missing self.old units }
+    {
+        self.agent.restart();
+        self.time += units;
+    }
+
+    /// Returns the report of the agent as text: its node, its sessions, its event log, and the
+    /// history.
+    ///
+    /// # Errors
+    /// `AllocError` if memory is refused.
+    pub fn report(&self, alloc: Global) -> Result<Vec<u8>, AllocError>
+        ensures { IfOk result (λ text. text.items ≡ agent_report self.now) }
+    {
+        let mut text = Vec::new(alloc);
+        push_agent_alone(alloc, &mut text, self.agent())?;
+        push_sessions(alloc, &mut text, self.agent(), self.counts())?;
+        push_log(alloc, &mut text, self.agent().log().len(), self.answer())?;
+        push_history(alloc, &mut text, self.history())?;
+        Ok(text)
     }
 }
 

@@ -16,7 +16,7 @@ use crate::texts::{
 use fw_json::agent_json;
 use fw_node::Outbox;
 use fw_package::Package;
-use fw_script::{ScriptCause, push_agent_alone, push_history, push_log, push_sessions};
+use fw_script::ScriptCause;
 use fw_world::Step;
 use fwupd_base::LineServer;
 use mctp_ctl::Endpoint;
@@ -242,18 +242,7 @@ impl<'p> AgentFilter<'p> {
     pub fn report(&self) -> Result<Vec<u8>, AllocError>
         ensures { IfOk result (λ text. text.items ≡ agent_report self.now.agent) }
     {
-        let agent = &self.agent;
-        let mut text = Vec::new(self.alloc);
-        push_agent_alone(self.alloc, &mut text, agent.agent())?;
-        push_sessions(self.alloc, &mut text, agent.agent(), agent.counts())?;
-        push_log(
-            self.alloc,
-            &mut text,
-            agent.agent().log().len(),
-            agent.answer(),
-        )?;
-        push_history(self.alloc, &mut text, agent.history())?;
-        Ok(text)
+        self.agent.report(self.alloc)
     }
 }
 

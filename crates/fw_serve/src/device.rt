@@ -1,15 +1,16 @@
 //! A device by itself: its node, and the history of its images.
 
-ghost use Rattle.std.specs.Prelude.{[], ◌≡◌, Bool, OnErr, OnOk, is_some, map, true};
+ghost use Rattle.std.specs.Prelude.{[], ◌≡◌, Bool, IfOk, OnErr, OnOk, is_some, map, true};
 ghost use Rattle.fd_core.specs.Components.{HasComponents};
 ghost use Rattle.fd_core.specs.Steps.{device_verdict};
 ghost use Rattle.fw_message.specs.Entries.{entry_of};
-ghost use Rattle.fw_serve.specs.Serving.{AreDue, IsReceipt, IsRestart, IsTick, IsVerdict, TakesSuch, TakesTurn, awaited_verdict, due_verdict};
+ghost use Rattle.fw_serve.specs.Serving.{AreDue, IsReceipt, IsRestart, IsTick, IsVerdict, TakesSuch, TakesTurn, awaited_verdict, device_report, due_verdict};
 
 use crate::noting::NotingDevice;
 use fd_core::{Bank, Verdict};
 use fw_message::Entry;
 use fw_node::{DeviceNode, Outbox};
+use fw_script::{push_device_alone, push_history};
 use std::alloc::{AllocError, Global};
 use std::marker::Model;
 
@@ -175,5 +176,18 @@ impl<B: Bank + Drop> ServedDevice<B> {
         ensures { TakesSuch self.old IsRestart self.new [] }
     {
         self.device.restart();
+    }
+
+    /// Returns the report of the device as text: its node, and the history.
+    ///
+    /// # Errors
+    /// `AllocError` if memory is refused.
+    pub fn report(&self) -> Result<Vec<u8>, AllocError>
+        ensures { IfOk result (λ text. text.items ≡ device_report self.now) }
+    {
+        let mut text = Vec::new(self.alloc);
+        push_device_alone(self.alloc, &mut text, self.node())?;
+        push_history(self.alloc, &mut text, self.history())?;
+        Ok(text)
     }
 }

@@ -13,7 +13,7 @@ use crate::texts::{
 use fd_core::{Bank, Verdict};
 use fw_json::device_json;
 use fw_node::{DeviceNode, Outbox};
-use fw_script::{ScriptCause, push_device_alone, push_history};
+use fw_script::ScriptCause;
 use fwupd_base::LineServer;
 use std::alloc::{AllocError, Global};
 use std::marker::Model;
@@ -188,10 +188,7 @@ impl<B: Bank + Drop> DeviceFilter<B> {
     pub fn report(&self) -> Result<Vec<u8>, AllocError>
         ensures { IfOk result (λ text. text.items ≡ device_report self.now.device) }
     {
-        let mut text = Vec::new(self.alloc);
-        push_device_alone(self.alloc, &mut text, self.device.node())?;
-        push_history(self.alloc, &mut text, self.device.history())?;
-        Ok(text)
+        self.device.report()
     }
 }
 

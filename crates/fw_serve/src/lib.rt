@@ -4,18 +4,26 @@
 
 mod agent;
 mod agent_filter;
+mod agent_process;
 mod counts;
 mod device;
 mod device_filter;
+mod device_process;
 mod lines;
 mod noting;
 mod printing_laws;
+mod process_laws;
 mod texts;
 
 pub use agent::{CallFault, ServedAgent};
 pub use agent_filter::AgentFilter;
+pub use agent_process::AgentProcess;
 pub use device::ServedDevice;
 pub use device_filter::DeviceFilter;
+pub use device_process::DeviceProcess;
 pub use lines::{AgentLine, DeviceLine, read_agent_line, read_device_line};
 pub use printing_laws::parts_are_printed;
+pub use process_laws::{
+    agents_act, devices_act, rounds_are_timely, served_processes_are_safe, services_act,
+};
 pub use texts::LineRefusal;

@@ -1,0 +1,8 @@
+use Rattle.fw_process.proofs.Rounds.{serves_round}
+use Rattle.fw_process.proofs.process.round.Goals as goal
+
+pub returns-clause-served : goal.returns-clause-served
+returns-clause-served g c =
+    serves_round g.P.ProcessNode.does g.P.ProcessNode.unit c.args.process.now c.advance.new.process c.accept_all.new.process
+    (g.L.Line.known c.args.line.now) (g.L.Line.known c.advance.new.line) (g.L.Line.known c.begin_round.new.self) (g.L.Line.known c.accept_all.new.line)
+    c.args.shown c.accept_all.result c.in-Ok.ensures.served c.begin_round.ensures c.accept_all.ensures.served

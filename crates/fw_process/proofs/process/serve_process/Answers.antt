@@ -1,0 +1,10 @@
+use Rattle.fw_process.proofs.Rounds.{rounds_on}
+use Rattle.fw_process.proofs.process.serve_process.Goals as goal
+
+pub loop-process-preserved : goal.loop-process-preserved
+loop-process-preserved g c = record {
+  served =
+      rounds_on g.P.ProcessNode.does g.P.ProcessNode.unit c.args.process.now c.loop-process.process c.round.new.process
+      (g.L.Line.known c.args.line.now) (g.L.Line.known c.loop-process.line) (g.L.Line.known c.round.new.line) c.wait_past-shown.result
+      c.loop-process.invariant.served c.in-Ok.ensures.served;
+}

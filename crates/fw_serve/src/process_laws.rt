@@ -1,0 +1,37 @@
+//! The deeds of served processes as acts of a trace, so that the headline holds for them.
+
+ghost use Rattle.fw_serve.specs.Traced.{AgentsAct, DevicesAct, RoundsAreTimely, ServedProcessesAreSafe, ServedProcessesEnd, ServicesAct};
+
+use fw_steps::traces_are_safe;
+
+/// A process receives each packet in the unit of its stamp or in one of the 8 units after it.
+pub fn rounds_are_timely()
+    ensures law { RoundsAreTimely }
+{}
+
+/// The deeds of a device are acts of a trace. It may do each, as far as it knows.
+pub fn devices_act()
+    ensures law { DevicesAct }
+{}
+
+/// The deeds of the agent, up to the last unit of its clock, are acts of a trace. It may do each,
+/// as far as it knows.
+pub fn agents_act()
+    ensures law { AgentsAct }
+{}
+
+/// The rounds that a process serves are such acts. A trace of the acts of served processes leaves
+/// each of them as its rounds do.
+pub fn services_act()
+    ensures law { ServicesAct }
+    ensures end { ServedProcessesEnd }
+{}
+
+/// The headline of served processes: if each packet is received after its peer sent it, the agent's
+/// session for each device and the device are safe at the end of each unit that all processes have
+/// reached.
+pub fn served_processes_are_safe()
+    ensures law { ServedProcessesAreSafe }
+{
+    traces_are_safe();
+}
