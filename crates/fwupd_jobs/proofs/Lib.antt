@@ -10,6 +10,7 @@ mod Lines
 mod Named
 mod Names
 mod Packed
+mod Processes
 mod Recorded
 mod Seen
 mod Soakings

@@ -40,6 +40,7 @@ unsaid_so read path text file fault (faults.Step n f) h held is = absurd h
 unsaid_so read path text file fault faults.NoPackage h held is = absurd h
 unsaid_so read path text file fault (faults.Store device why) h held is = absurd h
 unsaid_so read path text file fault (faults.Socket device) h held is = absurd h
+unsaid_so read path text file fault faults.Tty h held is = absurd h
 unsaid_so read path text file fault faults.Trace h held is = absurd h
 unsaid_so read path text file fault faults.Log h held is = absurd h
 unsaid_so read path text file fault faults.LogSize h held is = absurd h

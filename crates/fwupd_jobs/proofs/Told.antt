@@ -23,7 +23,7 @@ use Rattle.fwupd_jobs.specs.Updated.{DrivingEnds, IsPromisedUpdate, IsUnlinked, 
 use Rattle.fwupd_watch.specs.Apart.{IsApart, IsBarred}
 use Rattle.fwupd_watch.specs.Running.{IsBrokenRun, ShowOf, RunsSteps, RunsStepsSeen, ObserverOf, shown_of, starts_of, job_fault_of_observer}
 use Rattle.fwupd_watch.specs.Files.{FileOf}
-use Rattle.fwupd_jobs.specs.Setups.{IsSetup, LacksPackage, NumberedSetupFails, Says, SourceOf, StoresFail, TellsStore, TextFails}
+use Rattle.fwupd_jobs.specs.Setups.{IsSetup, LacksPackage, NumberedSetupFails, PackagesFail, Says, SourceOf, StoresFail, TellsStore, TextFails}
 use Rattle.fw_edge.specs.declared.driving.EdgeFault.TheVariants as edges
 use Rattle.fwupd_watch.specs.declared.faults.JobFault.{JobFault}
 use Rattle.fwupd_watch.specs.declared.faults.JobFault.TheVariants as faults
@@ -100,6 +100,13 @@ pub stores_end_replay : (files : List ℕ → FileOf) (config : SourceOf) (sched
     → (told ≡ faults.Memory) ⊎ StoresFail files config told → ReplayEnds files config schedule show refuses told watched before before
 stores_end_replay files config schedule show refuses told watched before (inl e) = inr (inr (inl (inl e, refl)))
 stores_end_replay files config schedule show refuses told watched before (inr h) = inr (inr (inl (inr (inr (inl h)), refl)))
+
+-- a package can't be read
+pub packages_end_replay : (files : List ℕ → FileOf) (config : SourceOf) (schedule : List ℕ) (show : ShowOf) (refuses : List ℕ → Bool) (told : JobFault) (watched : ObserverOf) (before : OutputOf) (c : ConfigOf) (paths : List (List ℕ))
+    → Says config_of (files config.path) c → paths ≡ c.packages → (told ≡ faults.Memory) ⊎ PackagesFail files paths told → ReplayEnds files config schedule show refuses told watched before before
+packages_end_replay files config schedule show refuses told watched before c paths says are (inl e) = inr (inr (inl (inl e, refl)))
+packages_end_replay files config schedule show refuses told watched before c paths says are (inr h) =
+    inr (inr (inl (inr (inl (inr (record { config = c; says = says; fail = subst (λ ps. PackagesFail files ps told) are h }))), refl)))
 
 -- later faults aren't those of a store
 pub barred_of_none : (files : List ℕ → FileOf) (refuses : List ℕ → Bool) (show : ShowOf) (paths : List (List ℕ)) (told : JobFault) (watched : ObserverOf)

@@ -9,6 +9,7 @@ use Rattle.fwupd_jobs.specs.Inspected.{InspectEnds, Inspects}
 use Rattle.fwupd_jobs.specs.Logs.{LogEnds, ReportsLog}
 use Rattle.fwupd_watch.specs.Outputs.{OutputOf}
 use Rattle.fwupd_jobs.specs.Planned.{PlanEnds, Plans}
+use Rattle.fwupd_jobs.specs.Processes.{RunsAgent, RunsDevice}
 use Rattle.fwupd_jobs.specs.Replayed.{ReplayEnds, ReportsReplay}
 use Rattle.fwupd_watch.specs.Running.{ObserverOf, show_of}
 use Rattle.fwupd_watch.specs.Files.{any_file}
@@ -32,6 +33,8 @@ IsDone (jobs.Sel path) h l = ReportsLog (h.files path.now) h.output l.output
 IsDone (jobs.Soak s) h l = SoaksClean h.files s.config.now s.order (option_map (λ p. p.now) s.record) h.output l.output
 IsDone (jobs.Device d) h l = ServesDevice d h l
 IsDone (jobs.Agent a) h l = ServesAgent a h l
+IsDone (jobs.DeviceProcess d) h l = RunsDevice d h.files h.stores h.output l.output
+IsDone (jobs.AgentProcess a) h l = RunsAgent a h.files h.output l.output
 IsDone (jobs.Decode file unit form) h l = Decodes h.files (option_map (λ p. p.now) file) unit form h.input l.input h.output l.output
 IsDone (jobs.Plan config number form) h l = Plans h.files config.now number form h.output l.output
 
@@ -48,6 +51,8 @@ JobEnds (jobs.Sel path) told h l = LogEnds h.files path.now told h.output l.outp
 JobEnds (jobs.Soak s) told h l = SoakEnds h.files s.config.now s.order (option_map (λ p. p.now) s.record) told h.is_known l.held h.output l.output
 JobEnds (jobs.Device d) told h l = DeviceEnds d told h l
 JobEnds (jobs.Agent a) told h l = AgentEnds a told h l
+JobEnds (jobs.DeviceProcess d) told h l = Prim.Unit {0}
+JobEnds (jobs.AgentProcess a) told h l = Prim.Unit {0}
 JobEnds (jobs.Decode file unit form) told h l = DecodeEnds h.files (option_map (λ p. p.now) file) unit form h.input l.input told h.output l.output
 JobEnds (jobs.Plan config number form) told h l = PlanEnds h.files config.now number form told h.output l.output
 

@@ -10,6 +10,7 @@ pub mod Inspected
 pub mod Jobs
 pub mod Logs
 pub mod Planned
+pub mod Processes
 pub mod Progress
 pub mod Promises
 pub mod Recorded

@@ -152,10 +152,10 @@ fn serve_node<B: Bank + Drop, H: Parts>(
 
 /// A device as configured, in a list of its own, and the unit and the agent of its network.
 #[derive(Drop)]
-struct DeviceSetup {
-    unit: Unit,
-    agent: u8,
-    only: Vec<DeviceConfig>,
+pub(crate) struct DeviceSetup {
+    pub(crate) unit: Unit,
+    pub(crate) agent: u8,
+    pub(crate) only: Vec<DeviceConfig>,
 }
 
 /// The setup of the requested device of the configuration in a file.
@@ -163,7 +163,7 @@ struct DeviceSetup {
 /// # Errors
 /// The first fault of the configuration; `Report` if the report would overwrite it; `NoDevice` if
 /// it has no such device; and `Memory`.
-fn device_setup<F: Files>(
+pub(crate) fn device_setup<F: Files>(
     alloc: Global,
     files: &F,
     job: DeviceAlone<'_>,
@@ -366,7 +366,7 @@ pub fn device_file<H: Parts>(
 }
 
 /// The endpoint identifiers of the devices.
-fn eids_of(alloc: Global, devices: &[DeviceConfig]) -> Result<Vec<u8>, JobFault>
+pub(crate) fn eids_of(alloc: Global, devices: &[DeviceConfig]) -> Result<Vec<u8>, JobFault>
     ensures eids { IfOk result (λ eids. eids.items ≡ map (λ d. d.endpoint.eid) (map device_of devices.now)) }
     ensures memory { IfErr result (λ e. e ≡ JobFault.Memory) }
 {

@@ -1,6 +1,7 @@
 //! What a job runs on.
 
 use crate::updating::Wires;
+use crate::wiring::Wiring;
 use fw_edge::Link;
 use fw_setup::Stores;
 use fw_soak::SoakObserver;
@@ -30,6 +31,8 @@ pub trait Parts {
     type NewFile: Write + Drop;
     /// The places of the files that a job makes.
     type Places: OutputPlaces<Self::NewFile>;
+    /// What joins the processes of nodes to their peers.
+    type Wiring: Wiring;
     /// The writer of the output.
     type Writer: Write + Drop;
 }
@@ -52,6 +55,8 @@ pub struct Host<H: Parts> {
     pub soak_watch: H::SoakWatch,
     /// The places of the files that a job makes.
     pub places: H::Places,
+    /// What joins the processes of nodes to their peers.
+    pub wiring: H::Wiring,
     /// The output.
     pub output: Output<H::Writer>,
 }

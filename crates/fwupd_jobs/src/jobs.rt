@@ -6,10 +6,12 @@ ghost use Rattle.fwupd_jobs.specs.Hosts.{FoundOf, LeftOf};
 ghost use Rattle.fwupd_jobs.specs.Jobs.{IsDone, JobEnds};
 ghost use Rattle.fwupd_watch.specs.Running.{HasObserverFault};
 
+use crate::agent_serving::run_agent;
 use crate::alone::{agent_file, device_file};
 use crate::building::build_file;
 use crate::checking::update_checked;
 use crate::decoding::decode_file;
+use crate::device_serving::run_device;
 use crate::host::{Host, Parts};
 use crate::inspecting::inspect_file;
 use crate::planning::plan_file;
@@ -24,8 +26,8 @@ use std::alloc::Global;
 ///
 /// # Errors
 /// Those of the job: of `Output::answer`, `inspect_file`, `replay_files`, `update_checked`,
-/// `build_file`, `plan_file`, `soak_file`, `sel_file`, `device_file`, `agent_file` or
-/// `decode_file`.
+/// `build_file`, `plan_file`, `soak_file`, `sel_file`, `device_file`, `agent_file`, `run_device`,
+/// `run_agent` or `decode_file`.
 pub fn perform_job<H: Parts>(
     alloc: Global,
     job: &Job<'_>,
@@ -78,6 +80,8 @@ pub fn perform_job<H: Parts>(
         Job::Soak(job) => soak_file(alloc, *job, host),
         Job::Device(job) => device_file(alloc, *job, host),
         Job::Agent(job) => agent_file(alloc, *job, host),
+        Job::DeviceProcess(job) => run_device(alloc, job, host),
+        Job::AgentProcess(job) => run_agent(alloc, job, host),
         Job::Decode { file, unit, form } => decode_file(alloc, *file, *unit, *form, host),
         Job::Plan {
             config,

@@ -2,12 +2,14 @@
 //! and the program that performs what its arguments request.
 #![tactic(auto)]
 
+mod agent_serving;
 mod alone;
 mod building;
 mod checking;
 mod clue_lines;
 mod clues;
 mod decoding;
+mod device_serving;
 mod explaining;
 mod host;
 mod inspecting;
@@ -24,22 +26,27 @@ mod soak_progress;
 mod soaking;
 mod socket_names;
 mod sockets;
+mod system_wiring;
 mod telling;
 mod updating;
+mod wiring;
 mod words;
 mod write_behind;
 
+pub use agent_serving::run_agent;
 pub use alone::{agent_file, device_file};
 pub use building::build_file;
 pub use checking::update_checked;
 pub use decoding::decode_file;
+pub use device_serving::run_device;
 pub use fw_store::Durable;
 pub use fwupd_watch::{
     Beginning, FileCalls, FileFault, FileIdentity, Files, HistoryFile, JobFault, Observer,
     ObserverFault, Output, OutputPlaces, Recording, WholeFiles, texts_are_lines,
 };
 pub use fwupd_words::{
-    AgentAlone, DeviceAlone, Job, Order, Replay, Show, Soak, SoakOrder, TraceForm, Update, parse,
+    AgentAlone, AgentProcess, DeviceAlone, DeviceProcess, Job, Order, Replay, Serving, Show, Soak,
+    SoakOrder, TraceForm, Update, Wire, parse,
 };
 pub use host::{Host, Parts};
 pub use inspecting::{inspect_file, inspection_fault};
@@ -52,3 +59,4 @@ pub use sessions::Undone;
 pub use soaking::soak_file;
 pub use telling::{names_causes, sel_file};
 pub use updating::{Wires, update_files};
+pub use wiring::{Joined, Network, Wiring};

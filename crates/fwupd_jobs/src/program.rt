@@ -15,6 +15,7 @@ use crate::host::{Host, Parts};
 use crate::jobs::perform_job;
 use crate::soak_progress::SoakProgress;
 use crate::sockets::{SocketLink, Sockets};
+use crate::system_wiring::SystemWiring;
 use crate::words::words;
 use fw_setup::SystemStores;
 use fw_store::SystemFolder;
@@ -122,6 +123,8 @@ impl<'a, R: Read + Drop, W: Write + Drop> Parts for SystemParts<'a, R, W> {
 
     type Places = WholeFiles<SystemCalls<'a>>;
 
+    type Wiring = SystemWiring<'a>;
+
     type Writer = W;
 }
 
@@ -143,11 +146,13 @@ fn run<'a, R: Read + Drop, W: Write + Drop>(
         watch: Observers::new(rt),
         soak_watch: SoakProgress::new(rt, runs_of(job)),
         places: system_places(rt),
+        wiring: SystemWiring::new(rt),
         output,
     };
     let status = status(rt, job, &mut host);
     host.soak_watch.end();
     host.wires.explain();
+    host.wiring.explain();
     host.watch.explain();
     let Host { output, .. } = host;
     (status, output)

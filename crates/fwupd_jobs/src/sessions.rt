@@ -21,7 +21,7 @@ pub struct Undone {
 }
 
 /// Whether a session is Done.
-fn is_done(state: Option<SessionState>) -> bool
+pub(crate) fn is_done(state: Option<SessionState>) -> bool
     ensures { result ≡ is_done state }
 {
     matches!(state, Some(SessionState::Done))

@@ -32,7 +32,7 @@ pub(crate) type Socket = ReadAhead<WriteBehind<UnixStream>>;
 pub(crate) type SocketLink = StreamLink<Socket>;
 
 /// The path of the socket of a device in a folder.
-fn socket_path(alloc: Global, folder: &str, device: u8) -> Result<String, AllocError>
+pub(crate) fn socket_path(alloc: Global, folder: &str, device: u8) -> Result<String, AllocError>
     ensures { IfOk result (λ path. string_bytes path ≡ socket_path folder.now device) }
 {
     match format!(in alloc; "{folder}/{device}.sock") {
@@ -81,6 +81,19 @@ fn socket_link<N: SocketNames>(
     link
 }
 
+/// Prints on standard error, if it is a terminal, why the socket of a device couldn't be made.
+pub(crate) fn explain_socket(rt: &HostRuntime, device: u8, error: &io::Error) {
+    if !rt.stderr().is_terminal() {
+        return;
+    }
+    let _ = match error.kind() {
+        io::ErrorKind::AddrInUse => eprintln!(rt;
+            "{device}.sock: this name is taken, as a run that was killed leaves it: remove it unless another run goes on"
+        ),
+        _ => eprintln!(rt; "{device}.sock: {error}"),
+    };
+}
+
 impl<'a> Sockets<'a> {
     /// Creates the sockets of a runtime.
     pub fn new(rt: &'a HostRuntime) -> Sockets<'a> {
@@ -94,18 +107,10 @@ impl<'a> Sockets<'a> {
     /// Prints on standard error, if it is a terminal, why a socket couldn't be made, if one
     /// couldn't.
     pub fn explain(&self) {
-        let Some((device, error)) = self.refused else {
+        let Some((device, error)) = &self.refused else {
             return;
         };
-        if !self.rt.stderr().is_terminal() {
-            return;
-        }
-        let _ = match error.kind() {
-            io::ErrorKind::AddrInUse => eprintln!(self.rt;
-                "{device}.sock: this name is taken, as a run that was killed leaves it: remove it unless another run goes on"
-            ),
-            _ => eprintln!(self.rt; "{device}.sock: {error}"),
-        };
+        explain_socket(self.rt, *device, error);
     }
 }
 

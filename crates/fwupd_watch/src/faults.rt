@@ -38,6 +38,9 @@ pub enum JobFault {
     /// The socket of the device with this endpoint identifier can't be made.
     #[error("socket: {0}")]
     Socket(u8),
+    /// The serial line can't be opened.
+    #[error("tty")]
+    Tty,
     /// The trace of a run or a replay can't be written.
     #[error("trace")]
     Trace,

@@ -1,6 +1,6 @@
 -- The numbers in arguments without a fault are within the bounds of the command line.
 use Rattle.std.proofs.Common.{◌≡◌, ◌∙◌, ◌+◌, ◌∷◌, ◌<◌, ◌≤◌, ◌^◌, [], Bool, ℕ, List, Option, None, Some, ap, arith, false, true, is_some, option_map, refl, sym, true≢false}
-use Rattle.std.specs.Prelude.{option_and_then, pos, slice_get, unwrap_or}
+use Rattle.std.specs.Prelude.{IfSome, option_and_then, pos, slice_get, unwrap_or}
 use Rattle.std.specs.List.{find}
 use Rattle.std.specs.Str.{bytes_eq}
 use Rattle.std.specs.Str.Parse.{IsNumeral, ParsesUnsigned, without_leading_plus}
@@ -81,3 +81,38 @@ number_under rules rows id a k m low high number all by has parser case fits ful
     let at = number_at rules rows id a k m low high all by has parser case fits full small in
     let same = asks at.0 at.1 at.2.numeral at.2.fits in
     (rw same at.2.least, rw same at.2.most)
+
+-- without a row of an id it has no text
+no_text : (rows : List Row) (id : Text) → has_row id rows ≡ false → one_of id rows ≡ None
+no_text [] id none = refl
+no_text (r ∷ rs) id none = go (bytes_eq r.id id) refl (λ h. no_text rs id h)
+  where
+    go : (b : Bool) → bytes_eq r.id id ≡ b → (has_row id rs ≡ false → one_of id rs ≡ None) → one_of id (r ∷ rs) ≡ None
+    go true is later = absurd (true≢false (rw is at none))
+    go false is later = rw is (later (rw is at none))
+
+-- a number that is `otherwise` without its option is within its bounds
+pub number_or : (rules : List Rule) (rows : List Row) (id : Text) (a : Rule) (k m low high otherwise number : ℕ) → AreRows rules rows → arg_by_id rules id ≡ Some a
+    → a.parser ≡ Some (number_between low high) → a.ignore_case ≡ false → high < 2 ^ k → m + 1 ≡ 2 ^ k → m < 2 ^ 64 → low ≤ otherwise → otherwise ≤ high
+    → (one_of id rows ≡ None → number ≡ otherwise)
+    → ((text : Text) → one_of id rows ≡ Some text → IsNumeral 10 (without_leading_plus text) → number_of text < 2 ^ k → number ≡ number_of text)
+    → (low ≤ number) × (number ≤ high)
+number_or rules rows id a k m low high otherwise number all by parser case fits full small least most none given = go (has_row id rows) refl
+  where
+    go : (b : Bool) → has_row id rows ≡ b → (low ≤ number) × (number ≤ high)
+    go true has = number_under rules rows id a k m low high number all by has parser case fits full small given
+    go false has = let same = none (no_text rows id has) in (rw same least, rw same most)
+
+-- a number that may be missing is at least its least, if there is one
+pub some_number : (rules : List Rule) (rows : List Row) (id : Text) (a : Rule) (k m low high : ℕ) (number : Option ℕ) → AreRows rules rows → arg_by_id rules id ≡ Some a
+    → a.parser ≡ Some (number_between low high) → a.ignore_case ≡ false → high < 2 ^ k → m + 1 ≡ 2 ^ k → m < 2 ^ 64
+    → (one_of id rows ≡ None → number ≡ None)
+    → ((text : Text) → one_of id rows ≡ Some text → IsNumeral 10 (without_leading_plus text) → number_of text < 2 ^ k → number ≡ Some (number_of text))
+    → IfSome number (λ n. low ≤ n)
+some_number rules rows id a k m low high number all by parser case fits full small none given = go (has_row id rows) refl
+  where
+    go : (b : Bool) → has_row id rows ≡ b → IfSome number (λ n. low ≤ n)
+    go true has =
+        let at = number_at rules rows id a k m low high all by has parser case fits full small in
+        rw (given at.0 at.1 at.2.numeral at.2.fits) at.2.least
+    go false has = rw (none (no_text rows id has)) tt

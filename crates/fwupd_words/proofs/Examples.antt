@@ -3,8 +3,11 @@ use Rattle.std.proofs.Common.{◌≡◌, ◌∷◌, [], List, None, Option, Some
 use Rattle.clap.proofs.OnLiterals.{clap_on_literals}
 use Rattle.clap.specs.Walk.{Row, Text}
 use Rattle.clap.specs.Words.{fault_of, first_of, subcommand_of}
-use Rattle.clap.specs.declared.error.kind.ErrorKind.TheVariants.{MissingRequiredArgument, InvalidValue, ValueValidation}
+use Rattle.clap.specs.declared.error.kind.ErrorKind.{ErrorKind}
+use Rattle.clap.specs.declared.error.kind.ErrorKind.TheVariants.{ArgumentConflict, MissingRequiredArgument, InvalidValue, ValueValidation}
 use Rattle.fwupd_words.specs.CommandLine.{Forms, command_line}
+use Rattle.fwupd_words.specs.Processes.{agent_clash, device_clash}
+use Rattle.fwupd_words.specs.Words.{given_by}
 
 abbrev given : (name : Text) → Option (Text × List Row) → Option (Option Text)
 given name = option_map (λ named. first_of name named.1)
@@ -45,3 +48,54 @@ no_store forms = refl
 decodes : (forms : Forms) → given (codes "FILE") (subcommand_of (command_line forms) (codes "fwupd" ∷ codes "decode" ∷ [])) ≡ Some None
 unfolding clap_on_literals
 decodes forms = refl
+
+-- a unit is 1 to 1000 milliseconds, and the name of a folder of sockets must not be empty
+no_tick : (forms : Forms) → fault_of (command_line forms) (codes "fwupd" ∷ codes "device" ∷ codes "--tty=p" ∷ codes "--tick=1001" ∷ codes "a" ∷ codes "9" ∷ []) ≡ ValueValidation ∷ []
+unfolding clap_on_literals
+no_tick forms = refl
+
+no_sockets : (forms : Forms) → fault_of (command_line forms) (codes "fwupd" ∷ codes "agent" ∷ codes "--connect=" ∷ codes "a" ∷ []) ≡ InvalidValue ∷ []
+unfolding clap_on_literals
+no_sockets forms = refl
+
+-- which options of a node go together
+abbrev device_clashes : Forms → List Text → Option (Option ErrorKind)
+device_clashes forms words = option_map (λ named. device_clash (given_by named.1)) (subcommand_of (command_line forms) words)
+
+abbrev agent_clashes : Forms → List Text → Option (Option ErrorKind)
+agent_clashes forms words = option_map (λ named. agent_clash (given_by named.1)) (subcommand_of (command_line forms) words)
+
+-- each as a filter of lines
+device_filter : (forms : Forms) → device_clashes forms (codes "fwupd" ∷ codes "device" ∷ codes "--auto" ∷ codes "a" ∷ codes "9" ∷ []) ≡ Some None
+unfolding clap_on_literals
+device_filter forms = refl
+
+agent_filter : (forms : Forms) → agent_clashes forms (codes "fwupd" ∷ codes "agent" ∷ codes "--report=r" ∷ codes "a" ∷ []) ≡ Some None
+unfolding clap_on_literals
+agent_filter forms = refl
+
+-- each as a process
+device_process : (forms : Forms) → device_clashes forms (codes "fwupd" ∷ codes "device" ∷ codes "--listen=f" ∷ codes "--take-over" ∷ codes "a" ∷ codes "9" ∷ []) ≡ Some None
+unfolding clap_on_literals
+device_process forms = refl
+
+agent_process : (forms : Forms) → agent_clashes forms (codes "fwupd" ∷ codes "agent" ∷ codes "--tty=p" ∷ codes "--check" ∷ codes "a" ∷ []) ≡ Some None
+unfolding clap_on_literals
+agent_process forms = refl
+
+-- both wires, an option of a filter with a wire, and an option of a process without one
+both_wires : (forms : Forms) → device_clashes forms (codes "fwupd" ∷ codes "device" ∷ codes "--listen=f" ∷ codes "--tty=p" ∷ codes "a" ∷ codes "9" ∷ []) ≡ Some (Some ArgumentConflict)
+unfolding clap_on_literals
+both_wires forms = refl
+
+process_reports : (forms : Forms) → device_clashes forms (codes "fwupd" ∷ codes "device" ∷ codes "--tty=p" ∷ codes "--report=r" ∷ codes "a" ∷ codes "9" ∷ []) ≡ Some (Some ArgumentConflict)
+unfolding clap_on_literals
+process_reports forms = refl
+
+filter_ticks : (forms : Forms) → device_clashes forms (codes "fwupd" ∷ codes "device" ∷ codes "--tick=5" ∷ codes "a" ∷ codes "9" ∷ []) ≡ Some (Some MissingRequiredArgument)
+unfolding clap_on_literals
+filter_ticks forms = refl
+
+filter_checks : (forms : Forms) → agent_clashes forms (codes "fwupd" ∷ codes "agent" ∷ codes "--check" ∷ codes "a" ∷ []) ≡ Some (Some MissingRequiredArgument)
+unfolding clap_on_literals
+filter_checks forms = refl

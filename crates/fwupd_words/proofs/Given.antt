@@ -8,8 +8,9 @@ use Rattle.clap.specs.declared.parser.matches.ArgMatches.{ArgMatches}
 use Rattle.clap.specs.declared.parser.matches.ArgMatches.TheViews.{out-ArgMatches, out-SubCommand}
 use Rattle.clap.specs.declared.parser.matches.SubCommand.{SubCommand}
 use Rattle.clap.proofs.WalkLemmas.{first_value-rows, one_text-rows}
-use Rattle.fwupd_words.specs.Reading.{IsFound, IsNoByte, IsNoUuid, IsRefusedWord, ReadsWords, RefusesWords}
-use Rattle.fwupd_words.specs.Words.{AsksForJob, Given, given_by, given_in}
+use Rattle.fwupd_words.specs.Reading.{HasClash, IsFound, IsNoByte, IsNoUuid, IsRefusedWord, ReadsWords, RefusesWords}
+use Rattle.fwupd_words.specs.Jobs.{AsksForJob}
+use Rattle.fwupd_words.specs.Words.{Given, given_by, given_in}
 use Rattle.fwupd_words.specs.CommandLine.{Forms, IsCommandLine, command_line}
 use Rattle.fwupd_words.proofs.Named.{names_a_job}
 use Rattle.fwupd_words.proofs.Within.{eid_is_read, is_within}
@@ -41,12 +42,15 @@ entered_is m name rows named shown = go (subcommand_rows_of m) (subcommand_name_
         ap₂ (λ (x : Text) (y : List Row). Some (x, y)) (ap (λ (o : Option Text). unwrap_or o name) same) (ap (λ (o : Option (List Row)). unwrap_or o rows) (sym b))
 
 -- why a subcommand requests no job
-no_endpoint : (line : App) (words : List Text) (given : Given) (name : Text) (error : Error) → fault_of line words ≡ []
-    → (name ≡ codes "answer" → IsNoByte given (codes "EID") → ⊥) → IsRefusedWord name given error → HasKind (fault_of line words) error ⊎ IsNoUuid name given error
-no_endpoint line words given name error passed never (inl memory) = inl (inl memory)
-no_endpoint line words given name error passed never (inr (answers, inl memory)) = inl (inl memory)
-no_endpoint line words given name error passed never (inr (answers, inr (inl missing))) = absurd (never answers missing.1)
-no_endpoint line words given name error passed never (inr (answers, inr (inr bad))) = inr (record { answers = answers; kind = bad.0; uuid = bad.1 })
+no_job : (line : App) (words : List Text) (given : Given) (name : Text) (error : Error) → fault_of line words ≡ []
+    → (name ≡ codes "answer" → IsNoByte given (codes "EID") → ⊥) → IsRefusedWord name given error
+    → HasKind (fault_of line words) error ⊎ (IsNoUuid name given error ⊎ HasClash name given error)
+no_job line words given name error passed never (inl memory) = inl (inl memory)
+no_job line words given name error passed never (inr (inl (answers, inl memory))) = inl (inl memory)
+no_job line words given name error passed never (inr (inl (answers, inr (inl missing)))) = absurd (never answers missing.1)
+no_job line words given name error passed never (inr (inl (answers, inr (inr bad)))) =
+    inr (inl (record { answers = answers; kind = bad.0; uuid = bad.1 }))
+no_job line words given name error passed never (inr (inr clash)) = inr (inr clash)
 
 refused : (line : App) (words : List Text) (entered : ArgMatches) (name : Text) (error : Error) (forms : Forms) → fault_of line words ≡ []
     → Some (name, rows_of (found_of entered)) ≡ subcommand_of line words → fault_of (command_line forms) words ≡ []
@@ -57,9 +61,9 @@ refused line words entered name error forms passed is free entering (inl why) =
     let rows = rows_of (found_of entered) in
     let never : name ≡ codes "answer" → IsNoByte (given_by rows) (codes "EID") → ⊥ =
     eid_is_read forms words name rows free entering in
-    elim (no_endpoint line words (given_by rows) name error passed never (subst (λ given. IsRefusedWord name given error) (given_rows entered) why)) [
+    elim (no_job line words (given_by rows) name error passed never (subst (λ given. IsRefusedWord name given error) (given_rows entered) why)) [
       | inl kind ↦ inl kind
-      | inr bad ↦ inr (passed, subst (λ o. IsSomeAnd o (λ at. IsNoUuid at.0 (given_by at.1) error)) is bad)
+      | inr bad ↦ inr (passed, subst (λ o. IsSomeAnd o (λ at. IsNoUuid at.0 (given_by at.1) error ⊎ HasClash at.0 (given_by at.1) error)) is bad)
     ]
 
 -- the result of a subcommand is the result of the arguments

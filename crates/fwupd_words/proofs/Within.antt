@@ -6,15 +6,20 @@ use Rattle.std.specs.Str.{bytes_eq}
 use Rattle.clap.specs.Simple.{Shape, built, built_leaf, filled, inherited, with_index}
 use Rattle.clap.specs.Walk.{Row, Rule, Text, arg_by_id, has_row}
 use Rattle.clap.specs.Words.{App, fault_of, subcommand_of}
-use Rattle.fwupd_words.specs.CommandLine.{Forms, answer, device, number_between, command_line, option_rule, package_rule, plan, run, soak, text_option, word_rule}
-use Rattle.fwupd_words.specs.Reading.{IsNoByte, HasAllowedRoughness, IsWithinBounds}
-use Rattle.fwupd_words.specs.Words.{AsksForJob, AsksNumber, AsksOrder, AsksRoughness, AsksSmall, AsksSoak, given_by}
+use Rattle.fwupd_words.specs.CommandLine.{Forms, agent, answer, device, number_between, command_line, option_rule, own_package_rule, package_rule, plan, run, soak, text_option, word_rule}
+use Rattle.fwupd_words.specs.Reading.{IsNoByte, HasAllowedRoughness, HasAllowedTicks, IsWithinBounds}
+use Rattle.fwupd_words.specs.Jobs.{AsksForJob}
+use Rattle.fwupd_words.specs.Processes.{AsksServing, usual_tick}
+use Rattle.fwupd_words.specs.Words.{AsksNumber, AsksOrder, AsksRoughness, AsksSmall, AsksSoak, given_by}
 use Rattle.fwupd_base.specs.declared.roughness.Roughness.{Roughness}
 use Rattle.fwupd_words.specs.declared.asked.Order.{Order}
 use Rattle.fwupd_words.specs.declared.asked.SoakOrder.{SoakOrder}
 use Rattle.fwupd_words.specs.declared.asked.Job.{Job}
 use Rattle.fwupd_words.specs.declared.asked.Job.TheVariants as jobs
-use Rattle.fwupd_words.proofs.Bounds.{number_at, number_under}
+use Rattle.fwupd_words.specs.declared.processes.Serving.{Serving}
+use Rattle.fwupd_words.specs.declared.processes.Wire.{Wire}
+use Rattle.fwupd_words.specs.declared.processes.Wire.TheVariants as wires
+use Rattle.fwupd_words.proofs.Bounds.{number_at, number_or, number_under, some_number}
 use Rattle.fwupd_words.proofs.Closed.{some_forms}
 use Rattle.fwupd_words.proofs.Entered.{OnlyNamed, rows_read}
 use Rattle.fwupd_words.proofs.Rows.{AllUsual, ◌also◌, AreRead, AreRows, flag_usual, has_default, help_usual, no_fault_is_one, set_usual}
@@ -37,6 +42,27 @@ answering_usual =
 device_usual : AllUsual (building device).rules (building device).rules
 device_usual =
     flag_usual _ _ _ refl refl refl refl (inr (_, refl))
+    also set_usual _ _ refl refl refl (inl refl)
+    also set_usual _ _ refl refl refl (inl refl)
+    also set_usual _ _ refl refl refl (inl refl)
+    also flag_usual _ _ _ refl refl refl refl (inr (_, refl))
+    also set_usual _ _ refl refl refl (inl refl)
+    also set_usual _ _ refl refl refl (inl refl)
+    also set_usual _ _ refl refl refl (inl refl)
+    also set_usual _ _ refl refl refl (inl refl)
+    also set_usual _ _ refl refl refl (inl refl)
+    also help_usual _ _ refl refl refl refl
+    also tt
+
+agent_usual : AllUsual (building agent).rules (building agent).rules
+agent_usual =
+    flag_usual _ _ _ refl refl refl refl (inr (_, refl))
+    also set_usual _ _ refl refl refl (inl refl)
+    also set_usual _ _ refl refl refl (inl refl)
+    also set_usual _ _ refl refl refl (inl refl)
+    also set_usual _ _ refl refl refl (inl refl)
+    also flag_usual _ _ _ refl refl refl refl (inr (_, refl))
+    also flag_usual _ _ _ refl refl refl refl (inr (_, refl))
     also set_usual _ _ refl refl refl (inl refl)
     also set_usual _ _ refl refl refl (inl refl)
     also set_usual _ _ refl refl refl (inl refl)
@@ -188,6 +214,50 @@ device_within rows eid read asks =
     let has = given_has (codes "EID") rows (device_given rows read.checked) in
     number_under (building device).rules rows (codes "EID") device_eid_rule 8 255 8 254 eid read.each refl has refl refl (omega arith) refl (omega arith) asks
 
+device_read : (forms : Forms) (words : List Text) (name : Text) (rows : List Row) → fault_of (command_line forms) words ≡ []
+    → subcommand_of (command_line forms) words ≡ Some (name, rows) → name ≡ codes "device" → AreRead (building device) rows
+device_read forms words name rows passed is named =
+    let here = subst (λ n. subcommand_of (command_line forms) words ≡ Some (n, rows)) named is in
+    let only : OnlyNamed (codes "device") (building device) (built (command_line forms)).subs =
+    inr refl also inr refl also inr refl also inr refl also inr refl also inr refl also inr refl also inr refl also inl refl also inr refl also inr refl also inr refl also tt in
+    rows_read forms words (codes "device") rows (building device) passed here only refl device_usual
+
+agent_read : (forms : Forms) (words : List Text) (name : Text) (rows : List Row) → fault_of (command_line forms) words ≡ []
+    → subcommand_of (command_line forms) words ≡ Some (name, rows) → name ≡ codes "agent" → AreRead (building agent) rows
+agent_read forms words name rows passed is named =
+    let here = subst (λ n. subcommand_of (command_line forms) words ≡ Some (n, rows)) named is in
+    let only : OnlyNamed (codes "agent") (building agent) (built (command_line forms)).subs =
+    inr refl also inr refl also inr refl also inr refl also inr refl also inr refl also inr refl also inr refl also inr refl also inl refl also inr refl also inr refl also tt in
+    rows_read forms words (codes "agent") rows (building agent) passed here only refl agent_usual
+
+-- ---- the ticks of a process
+
+abbrev bounded_rule : Text → (low high : ℕ) → Rule
+bounded_rule name low high = as_built (record (text_option name) { parser = Some (number_between low high) })
+
+abbrev own_package : Rule
+own_package = as_built own_package_rule
+
+-- each process has these bounds
+ticks_within : (s : Shape) (rows : List Row) (serving : Serving) → AreRead s rows
+    → arg_by_id s.rules (codes "tick") ≡ Some (bounded_rule (codes "tick") 1 1000)
+    → arg_by_id s.rules (codes "ticks") ≡ Some (bounded_rule (codes "ticks") 1 4294967295)
+    → AsksServing (given_by rows) serving → HasAllowedTicks serving
+ticks_within s rows serving read tick ticks asks =
+    let usual = usual_within serving.wire in
+    let within = number_or s.rules rows (codes "tick") (bounded_rule (codes "tick") 1 1000) 32 4294967295 1 1000 (usual_tick serving.wire) serving.tick read.each tick refl refl
+    (omega arith) refl (omega arith) usual.0 usual.1 asks.tick.none asks.tick.given in
+    record {
+      least = within.0;
+      most = within.1;
+      ticks = some_number s.rules rows (codes "ticks") (bounded_rule (codes "ticks") 1 4294967295) 32 4294967295 1 4294967295 serving.ticks read.each ticks refl refl
+          (omega arith) refl (omega arith) asks.ticks.none asks.ticks.given;
+    }
+  where
+    usual_within : (wire : Wire) → (1 ≤ usual_tick wire) × (usual_tick wire ≤ 1000)
+    usual_within (wires.Sockets folder) = (omega arith, omega arith)
+    usual_within (wires.Tty path) = (omega arith, omega arith)
+
 -- the numbers of a job of arguments without a fault
 pub is_within : (forms : Forms) (words : List Text) (name : Text) (rows : List Row) (job : Job) → fault_of (command_line forms) words ≡ []
     → subcommand_of (command_line forms) words ≡ Some (name, rows) → AsksForJob name (given_by rows) job → IsWithinBounds job
@@ -212,10 +282,17 @@ is_within forms words name rows (jobs.Soak s) passed is asks =
     inr refl also inr refl also inr refl also inr refl also inr refl also inl refl also inr refl also inr refl also inr refl also inr refl also inr refl also inr refl also tt in
     soak_within rows s.order (rows_read forms words (codes "soak") rows (building soak) passed here only refl soaking_usual) asks.2
 is_within forms words name rows (jobs.Device d) passed is asks =
-    let here = subst (λ n. subcommand_of (command_line forms) words ≡ Some (n, rows)) asks.0 is in
-    let only : OnlyNamed (codes "device") (building device) (built (command_line forms)).subs =
-    inr refl also inr refl also inr refl also inr refl also inr refl also inr refl also inr refl also inr refl also inl refl also inr refl also inr refl also inr refl also tt in
-    device_within rows d.eid (rows_read forms words (codes "device") rows (building device) passed here only refl device_usual) asks.1.eid
+    device_within rows d.eid (device_read forms words name rows passed is asks.0) asks.3.eid
+is_within forms words name rows (jobs.DeviceProcess d) passed is asks =
+    let read = device_read forms words name rows passed is asks.0 in
+    let eid = device_within rows d.eid read asks.2.eid in
+    (eid.0, eid.1, ticks_within (building device) rows d.serving read refl refl asks.2.serving)
+is_within forms words name rows (jobs.AgentProcess a) passed is asks =
+    let read = agent_read forms words name rows passed is asks.0 in (
+      (number_or (building agent).rules rows (codes "package") own_package 32 4294967295 1 4294967295 1 a.number read.each refl refl refl (omega arith) refl (omega arith)
+          (omega arith) (omega arith) asks.2.number.none asks.2.number.given).0,
+      ticks_within (building agent) rows a.serving read refl refl asks.2.serving,
+    )
 is_within forms words name rows (jobs.Agent a) passed is asks = tt
 is_within forms words name rows (jobs.Inspect path form) passed is asks = tt
 is_within forms words name rows (jobs.Replay r) passed is asks = tt

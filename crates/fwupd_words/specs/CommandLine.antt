@@ -138,19 +138,51 @@ sel_rules = word_rule (codes "FILE") ∷ []
 abbrev pub build_rules : List Rule
 build_rules = word_rule (codes "SPEC") ∷ word_rule (codes "FILE") ∷ []
 
--- `fwupd device [--auto] [--store STORE] [--report FILE] CONFIG EID`
-abbrev pub device_rules : List Rule
-device_rules =
+-- The options of a node's process that a device and the agent share: its serial line, the
+-- milliseconds of a unit, and the units until it ends.
+abbrev pub process_rules : List Rule
+process_rules =
+    given_option (codes "tty")
+    ∷ record (text_option (codes "tick")) { parser = Some (number_between 1 1000) }
+    ∷ record (text_option (codes "ticks")) { parser = Some (number_between 1 4294967295) }
+    ∷ []
+
+-- The option of the agent's package, without a default: a filter of lines has no package.
+abbrev pub own_package_rule : Rule
+own_package_rule = record (text_option (codes "package")) { parser = Some (number_between 1 4294967295) }
+
+-- `fwupd device [--auto] [--store STORE] [--report FILE] [--listen FOLDER] [--take-over] CONFIG
+-- EID`, with the options of a process last
+abbrev pub device_options : List Rule
+device_options =
     flag_rule (codes "auto")
     ∷ given_option (codes "store")
     ∷ text_option (codes "report")
+    ∷ given_option (codes "listen")
+    ∷ flag_rule (codes "take-over")
     ∷ word_rule (codes "CONFIG")
     ∷ record (word_rule (codes "EID")) { parser = Some (number_between 8 254) }
     ∷ []
 
--- `fwupd agent [--auto] [--sel FILE] [--report FILE] CONFIG`
+abbrev pub device_rules : List Rule
+device_rules = device_options ++ process_rules
+
+-- `fwupd agent [--auto] [--sel FILE] [--report FILE] [--connect FOLDER] [--package N] [--check]
+-- [--json] CONFIG`, with the options of a process last
+abbrev pub agent_options : List Rule
+agent_options =
+    flag_rule (codes "auto")
+    ∷ text_option (codes "sel")
+    ∷ text_option (codes "report")
+    ∷ given_option (codes "connect")
+    ∷ own_package_rule
+    ∷ flag_rule (codes "check")
+    ∷ flag_rule (codes "json")
+    ∷ word_rule (codes "CONFIG")
+    ∷ []
+
 abbrev pub agent_rules : List Rule
-agent_rules = flag_rule (codes "auto") ∷ text_option (codes "sel") ∷ text_option (codes "report") ∷ word_rule (codes "CONFIG") ∷ []
+agent_rules = agent_options ++ process_rules
 
 -- `fwupd decode [--unit BYTES] [--json] [FILE]`
 abbrev pub decode_rules : Forms → List Rule

@@ -1,3 +1,5 @@
 pub mod CommandLine
+pub mod Jobs
+pub mod Processes
 pub mod Reading
 pub mod Words

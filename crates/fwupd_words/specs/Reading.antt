@@ -1,15 +1,18 @@
 -- The result of parsing arguments: a job, or an error with their fault.
-use Rattle.std.specs.Prelude.{◌≡◌, ◌≢◌, ◌<◌, ◌≤◌, ◌^◌, ◌⊎◌, true, IsSomeAnd, List, [], None, Some, MatchResult, Result, Ok, Err, codes}
+use Rattle.std.specs.Prelude.{◌≡◌, ◌≢◌, ◌<◌, ◌≤◌, ◌^◌, ◌⊎◌, true, IfSome, IsSomeAnd, List, [], None, Some, MatchResult, Result, Ok, Err, codes}
 use Rattle.std.specs.Str.Parse.{IsNumeral, without_leading_plus}
 use Rattle.clap.specs.Words.{App, HasKind, Text, fault_of, has_subcommand, kind_of, subcommand_of, subcommand_rows_of}
 use Rattle.clap.specs.declared.error.Error.{Error}
 use Rattle.clap.specs.declared.error.kind.ErrorKind.TheVariants as kinds
 use Rattle.clap.specs.declared.parser.matches.ArgMatches.{ArgMatches}
 use Rattle.uuid.specs.Text.{parsed}
-use Rattle.fwupd_words.specs.Words.{AsksForJob, Given, given_by, number_of, text_under}
+use Rattle.fwupd_words.specs.Jobs.{AsksForJob}
+use Rattle.fwupd_words.specs.Processes.{agent_clash, device_clash}
+use Rattle.fwupd_words.specs.Words.{Given, given_by, number_of, text_under}
 use Rattle.fwupd_base.specs.declared.roughness.Roughness.{Roughness}
 use Rattle.fwupd_words.specs.declared.asked.Job.{Job}
 use Rattle.fwupd_words.specs.declared.asked.Job.TheVariants as jobs
+use Rattle.fwupd_words.specs.declared.processes.Serving.{Serving}
 
 -- The subcommand `answer` is refused for a text that isn't a UUID.
 pub record IsNoUuid (name : Text) (words : Given) (error : Error) : Type 0 where
@@ -17,29 +20,45 @@ pub record IsNoUuid (name : Text) (words : Given) (error : Error) : Type 0 where
   pub kind : kind_of error ≡ kinds.ValueValidation
   pub uuid : parsed (text_under words (codes "uuid")) ≡ None
 
+-- The subcommand `device` or `agent` is refused for options that don't go together, with the kind
+-- of error of their clash.
+abbrev pub HasClash : (name : Text) → Given → Error → Type 0
+HasClash name words error =
+    ((name ≡ codes "device") × (device_clash words ≡ Some (kind_of error))) ⊎ ((name ≡ codes "agent") × (agent_clash words ≡ Some (kind_of error)))
+
 -- The roughness is within the bounds of the command line.
 pub record HasAllowedRoughness (roughness : Roughness) : Type 0 where
   pub loss : roughness.loss ≤ 100
   pub duplicate : roughness.duplicate ≤ 100
   pub delay : roughness.delay ≤ 8
 
+-- The ticks of a process are within the bounds of the command line.
+pub record HasAllowedTicks (serving : Serving) : Type 0 where
+  pub least : 1 ≤ serving.tick
+  pub most : serving.tick ≤ 1000
+  pub ticks : IfSome serving.ticks (λ ticks. 1 ≤ ticks)
+
 -- The numbers of a job are within the bounds of the command line.
 abbrev pub IsWithinBounds : Job → Type 0
 IsWithinBounds (jobs.Answer endpoint) = (8 ≤ endpoint.eid) × (endpoint.eid ≤ 254)
 IsWithinBounds (jobs.Device d) = (8 ≤ d.eid) × (d.eid ≤ 254)
+IsWithinBounds (jobs.DeviceProcess d) = (8 ≤ d.eid) × (d.eid ≤ 254) × HasAllowedTicks d.serving
+IsWithinBounds (jobs.AgentProcess a) = (1 ≤ a.number) × HasAllowedTicks a.serving
 IsWithinBounds (jobs.Plan config number form) = 1 ≤ number
 IsWithinBounds (jobs.Run u) = (1 ≤ u.order.number) × HasAllowedRoughness u.order.roughness
 IsWithinBounds (jobs.Soak s) = (1 ≤ s.order.runs) × (s.order.runs ≤ 1000000) × HasAllowedRoughness s.order.roughness
 IsWithinBounds _ = Unit {0}
 
 -- Arguments without a fault give the job that their subcommand requests, or are refused for a
--- malformed UUID. The kind of an error is one of the faults of the arguments, or memory ran out.
+-- malformed UUID or for options that don't go together. The kind of any other error is one of the
+-- faults of the arguments, or memory ran out.
 abbrev pub ReadsWords : App → List Text → Result Job Error → Type 0
 ReadsWords line words (Ok job) =
     (fault_of line words ≡ []) × IsSomeAnd (subcommand_of line words) (λ named. AsksForJob named.0 (given_by named.1) job) × IsWithinBounds job
 ReadsWords line words (Err error) =
     HasKind (fault_of line words) error
-    ⊎ ((fault_of line words ≡ []) × IsSomeAnd (subcommand_of line words) (λ named. IsNoUuid named.0 (given_by named.1) error))
+    ⊎ ((fault_of line words ≡ [])
+    × IsSomeAnd (subcommand_of line words) (λ named. IsNoUuid named.0 (given_by named.1) error ⊎ HasClash named.0 (given_by named.1) error))
 
 -- ---- the steps
 
@@ -70,10 +89,11 @@ IsNoJob name =
     (name ≢ codes "answer") × (name ≢ codes "inspect") × (name ≢ codes "replay") × (name ≢ codes "plan") × (name ≢ codes "run")
     × (name ≢ codes "soak") × (name ≢ codes "sel") × (name ≢ codes "build") × (name ≢ codes "device") × (name ≢ codes "agent") × (name ≢ codes "decode")
 
--- Why the subcommand with these arguments requests no job: memory ran out, or it is `answer`
--- without an endpoint.
+-- Why the subcommand with these arguments requests no job: memory ran out, it is `answer` without
+-- an endpoint, or a node whose options don't go together.
 abbrev pub IsRefusedWord : (name : Text) → Given → Error → Type 0
-IsRefusedWord name words error = (kind_of error ≡ kinds.OutOfMemory) ⊎ ((name ≡ codes "answer") × RefusesEndpoint words error)
+IsRefusedWord name words error =
+    (kind_of error ≡ kinds.OutOfMemory) ⊎ (((name ≡ codes "answer") × RefusesEndpoint words error) ⊎ HasClash name words error)
 
 -- or there is no such subcommand
 abbrev pub RefusesWords : (name : Text) → Given → Error → Type 0

@@ -1,5 +1,7 @@
--- The job that arguments request, by the texts under their names.
-use Rattle.std.specs.Prelude.{ℕ, ◌≡◌, ◌<◌, ◌^◌, Bool, true, false, List, [], Option, None, Some, codes, option_map}
+-- The parts of jobs that arguments request, by the texts under their names.
+use Rattle.std.specs.Prelude.{ℕ, ◌≡◌, ◌<◌, ◌^◌, Bool, true, false, List, [], Option, None, Some, codes, is_some, option_map}
+use Rattle.std.specs.Option.{option_map_or}
+use Rattle.std.specs.Str.{bytes_eq}
 use Rattle.std.specs.Str.Parse.{IsNumeral, digits_value, without_leading_plus}
 use Rattle.clap.specs.Words.{Row, Text, first_of, first_value, found_of, one_of, one_text}
 use Rattle.clap.specs.declared.parser.matches.ArgMatches.{ArgMatches}
@@ -12,8 +14,6 @@ use Rattle.mctp_wire.specs.declared.unit.Unit.TheVariants as units
 use Rattle.uuid.specs.Text.{parsed}
 use Rattle.fwupd_words.specs.declared.asked.AgentAlone.{AgentAlone}
 use Rattle.fwupd_words.specs.declared.asked.DeviceAlone.{DeviceAlone}
-use Rattle.fwupd_words.specs.declared.asked.Job.{Job}
-use Rattle.fwupd_words.specs.declared.asked.Job.TheVariants as jobs
 use Rattle.fwupd_words.specs.declared.asked.Order.{Order}
 use Rattle.fwupd_words.specs.declared.asked.Show.{Show}
 use Rattle.fwupd_words.specs.declared.asked.SoakOrder.{SoakOrder}
@@ -40,6 +40,13 @@ text_or_none (Some text) = text
 
 abbrev pub text_under : Given → (name : List ℕ) → List ℕ
 text_under words name = text_or_none (words.first name)
+
+-- whether there is a text under a name, and whether a flag is set
+abbrev pub has_value : Given → (name : Text) → Bool
+has_value words name = is_some (words.first name)
+
+abbrev pub is_set : Given → (name : Text) → Bool
+is_set words name = option_map_or (λ text. bytes_eq text (codes "true")) (words.first name) false
 
 -- the number that a text encodes
 abbrev pub number_of : List ℕ → ℕ
@@ -137,23 +144,3 @@ pub record AsksAgent (words : Given) (agent : AgentAlone) : Type 0 where
   pub automatic : AsksFlag words (codes "auto") agent.is_automatic
   pub log : option_map (λ path. path.now) agent.log ≡ words.first (codes "sel")
   pub report : option_map (λ path. path.now) agent.report ≡ words.first (codes "report")
-
--- The subcommand `name` with these arguments requests a job.
-abbrev pub AsksForJob : (name : List ℕ) → Given → Job → Type 0
-AsksForJob name words (jobs.Answer endpoint) = (name ≡ codes "answer") × AsksEndpoint words endpoint
-AsksForJob name words (jobs.Inspect path form) = (name ≡ codes "inspect") × (path.now ≡ text_under words (codes "FILE")) × AsksForm words form
-AsksForJob name words (jobs.Replay r) =
-    (name ≡ codes "replay") × (r.config.now ≡ text_under words (codes "CONFIG")) × (r.schedule.now ≡ text_under words (codes "SCHEDULE")) × (r.show.is_quiet ≡ true) × (r.show.history ≡ None) × AsksKept words r.show
-AsksForJob name words (jobs.Run u) =
-    (name ≡ codes "run") × (u.config.now ≡ text_under words (codes "CONFIG")) × (u.folder.now ≡ text_under words (codes "FOLDER")) × AsksOrder words u.order × AsksShow words u.show
-AsksForJob name words (jobs.Sel file) = (name ≡ codes "sel") × (file.now ≡ text_under words (codes "FILE"))
-AsksForJob name words (jobs.Build spec file) = (name ≡ codes "build") × (spec.now ≡ text_under words (codes "SPEC")) × (file.now ≡ text_under words (codes "FILE"))
-AsksForJob name words (jobs.Plan config number form) =
-    (name ≡ codes "plan") × (config.now ≡ text_under words (codes "CONFIG")) × AsksNumber words number × AsksForm words form
-AsksForJob name words (jobs.Soak s) =
-    (name ≡ codes "soak") × (s.config.now ≡ text_under words (codes "CONFIG")) × AsksSoak words s.order
-    × (option_map (λ p. p.now) s.record ≡ words.first (codes "record"))
-AsksForJob name words (jobs.Device d) = (name ≡ codes "device") × AsksDevice words d
-AsksForJob name words (jobs.Agent a) = (name ≡ codes "agent") × AsksAgent words a
-AsksForJob name words (jobs.Decode file unit form) =
-    (name ≡ codes "decode") × (option_map (λ p. p.now) file ≡ words.first (codes "FILE")) × AsksUnit words unit × AsksForm words form

@@ -1,5 +1,6 @@
 //! The jobs that arguments request.
 
+use crate::processes::{AgentProcess, DeviceProcess};
 use fwupd_base::{Form, Roughness};
 use mctp_ctl::Endpoint;
 use mctp_wire::Unit;
@@ -56,6 +57,10 @@ pub enum Job<'a> {
     Device(DeviceAlone<'a>),
     /// Serve the agent by itself, line by line.
     Agent(AgentAlone<'a>),
+    /// Serve a device as a process.
+    DeviceProcess(DeviceProcess<'a>),
+    /// Serve the agent as a process.
+    AgentProcess(AgentProcess<'a>),
 }
 
 /// A replay of a schedule on the nodes of a configuration.

@@ -2,16 +2,16 @@
 
 ghost use Rattle.std.specs.Prelude.{◌≡◌, IfOk, codes, map, true};
 ghost use Rattle.clap.specs.Words.{app_of, rule_of};
-ghost use Rattle.fwupd_words.specs.CommandLine.{IsCommandLine, agent, answer, are_simple, build, command_line, decode, device, inspect, is_plain, plan, program, replay, run, run_options, sel, soak, text_option, with_one, with_rules};
+ghost use Rattle.fwupd_words.specs.CommandLine.{IsCommandLine, agent, agent_options, answer, are_simple, build, command_line, decode, device, device_options, inspect, is_plain, plan, program, replay, run, run_options, sel, soak, text_option, with_one, with_rules};
 
 use crate::helps::{
     AGENT_HELP, ANSWER_HELP, BUILD_HELP, DECODE_HELP, DEVICE_HELP, INSPECT_HELP, PLAN_HELP,
     REPLAY_HELP, RUN_HELP, SEL_HELP, SOAK_HELP,
 };
 use crate::options::{
-    OptionNames, config_word, flag, folder_word, json_option, log_option, package_option,
-    packets_word, record_option, roughness_options, store_option, text_option, trace_form_option,
-    trace_option, unit_option, word,
+    OptionNames, config_word, flag, folder_word, json_option, log_option, own_package_option,
+    package_option, packets_word, process_options, record_option, roughness_options,
+    sockets_option, store_option, text_option, trace_form_option, trace_option, unit_option, word,
 };
 use clap::{Arg, Command, value_parser};
 use std::alloc::{AllocError, Global};
@@ -235,60 +235,91 @@ fn report_option<'a>(alloc: Global) -> Arg<'a>
     )
 }
 
-/// The subcommand `device`.
-fn device_command<'a>(alloc: Global) -> Result<Command<'a>, AllocError>
-    ensures { IfOk result (λ c. app_of c ≡ device) }
+/// The options and arguments of `device`, without those that it shares with `agent`'s process.
+fn device_options<'a>(alloc: Global) -> Result<Vec<Arg<'a>>, AllocError>
+    ensures { IfOk result (λ options. map rule_of options.items ≡ device_options) }
 {
     let auto = flag(
         alloc,
         "auto",
         "Gives each verdict that the device waits for, always a success",
     );
-    let kept = store_option(alloc, "Keeps activated images in a folder");
+    let listen = sockets_option(alloc, "listen", "Serves FOLDER/EID.sock as a process");
     let eid = word(alloc, "EID", "The device's endpoint identifier, 8 to 254");
     let numbers = value_parser!(u8).range(8..255);
-    let args = vec![in alloc;
+    Ok(vec![in alloc;
         auto,
-        kept,
+        store_option(alloc, "Keeps activated images in a folder"),
         report_option(alloc),
+        listen,
+        flag(
+            alloc,
+            "take-over",
+            "Replaces a socket on which nobody listens"
+        ),
         config_word(alloc),
         eid.value_parser(numbers),
-    ]?;
+    ]?)
+}
+
+/// The subcommand `device`.
+fn device_command<'a>(alloc: Global) -> Result<Command<'a>, AllocError>
+    ensures { IfOk result (λ c. app_of c ≡ device) }
+{
     let command = Command::new(alloc, "device")
-        .about("Serves a device by itself: lines are its calls, and it prints its packets")
+        .about("Serves a device by itself: as a filter of lines, or as a process on a socket")
         .long_about(
             "Serves a device of a configuration by itself.\n\n\
             Each line of standard input is a call of the device. For each, standard output gets one: the packets\n\
-            that the device sends, in upper-case digits. All whole lines are served before more input is awaited.",
+            that the device sends, in upper-case digits. All whole lines are served before more input is awaited.\n\
+            With --listen or --tty it is a process, whose peer is the agent at the other end.",
         )
         .after_long_help(DEVICE_HELP);
-    with_args(command, args)
+    let command = with_args(command, device_options(alloc)?)?;
+    with_args(command, process_options(alloc)?)
 }
 
-/// The subcommand `agent`.
-fn agent_command<'a>(alloc: Global) -> Result<Command<'a>, AllocError>
-    ensures { IfOk result (λ c. app_of c ≡ agent) }
+/// The options and arguments of `agent`, without those that its process shares with a device's.
+fn agent_options<'a>(alloc: Global) -> Result<Vec<Arg<'a>>, AllocError>
+    ensures { IfOk result (λ options. map rule_of options.items ≡ agent_options) }
 {
     let auto = flag(
         alloc,
         "auto",
         "Has each device activate when its session is ready",
     );
-    let args = vec![in alloc;
+    let connect = sockets_option(
+        alloc,
+        "connect",
+        "Updates the devices at FOLDER/EID.sock as a process",
+    );
+    Ok(vec![in alloc;
         auto,
         log_option(alloc),
         report_option(alloc),
+        connect,
+        own_package_option(alloc),
+        flag(alloc, "check", "Fails where a session doesn't end Done"),
+        json_option(alloc),
         config_word(alloc),
-    ]?;
+    ]?)
+}
+
+/// The subcommand `agent`.
+fn agent_command<'a>(alloc: Global) -> Result<Command<'a>, AllocError>
+    ensures { IfOk result (λ c. app_of c ≡ agent) }
+{
     let command = Command::new(alloc, "agent")
-        .about("Serves the agent by itself: lines are its calls, and it prints its packets")
+        .about("Serves the agent by itself: as a filter of lines, or as a process over sockets")
         .long_about(
             "Serves the agent of a configuration by itself.\n\n\
             Each line of standard input is a call of the agent. For each, standard output gets one: the packets\n\
-            that the agent sends, in upper-case digits. All whole lines are served before more input is awaited.",
+            that the agent sends, in upper-case digits. All whole lines are served before more input is awaited.\n\
+            With --connect or --tty it is a process, which updates the devices at the other ends.",
         )
         .after_long_help(AGENT_HELP);
-    with_args(command, args)
+    let command = with_args(command, agent_options(alloc)?)?;
+    with_args(command, process_options(alloc)?)
 }
 
 /// The subcommand `decode`.

@@ -261,8 +261,9 @@ CONFIG names fewer packages, or a fault of 'replay'; 2 for wrong usage.";
 
 /// The text below the help of `device`.
 pub(crate) const DEVICE_HELP: &str = "\
-Example:
+Examples:
   printf 'tick 40\\nreport\\n' | fwupd device examples/one.config 9
+  fwupd device --listen out --store out/store examples/one.config 9
 
 CONFIG is that of 'fwupd replay --help'. A line of the input is one of these:
   HEX            a packet arrives
@@ -283,16 +284,31 @@ it. --store is that of 'fwupd run --help', for this device alone. --report write
 input the device's lines of a report: its state, the images that run, and what was applied and
 activated.
 
+With --listen or --tty it is a process, whose peer is an agent. It reads no input and prints no
+packets:
+  --listen FOLDER  it makes the Unix socket FOLDER/EID.sock, and serves the agent that connects
+  --tty PATH       packets are DSP0253 frames on a serial line: PATH is a terminal in raw mode, a
+                   FIFO or the name of a Unix socket
+It counts a tick every MS milliseconds, which are a unit. It begins with a restart: for 40 units it
+is deaf and silent. Verdicts are those of --auto. With --ticks it ends after N units; without, it
+serves until it is killed. --take-over removes FOLDER/EID.sock first if nobody listens on it, as
+after a kill; with --tty it does nothing.
+
+--listen and --tty exclude each other, and each of them excludes --auto and --report. --tick,
+--ticks and --take-over need one of them.
+
 Faults: 'device EID: none' if CONFIG has no such device; 'report' if FILE can't be written, or is
-CONFIG.
+CONFIG; 'socket: EID' if FOLDER/EID.sock can't be made, or is there already; 'tty' if PATH can't be
+opened; and those of 'fwupd run --store'.
 
 Status: 0; 1 if standard error says 'fwupd: ' and a fault, one of these, of 'answer' or of 'replay';
 2 for wrong usage.";
 
 /// The text below the help of `agent`.
 pub(crate) const AGENT_HELP: &str = "\
-Example:
+Examples:
   printf 'start 9 1\\ntick\\nreport\\n' | fwupd agent examples/one.config
+  fwupd agent --connect out --check examples/one.config
 
 CONFIG is that of 'fwupd replay --help'. A line of the input is one of these:
   HEX                a packet arrives
@@ -315,10 +331,27 @@ With --auto each session that is ready has its device activate right before a ti
 run'. --sel is that of 'fwupd run --help'. --report writes at the end of the input the agent's lines
 of a report: its sessions, the log, and what was recorded.
 
-Faults: 'sel' or 'report' if that file can't be written, or is one that is read.
+With --connect or --tty it is a process, which updates each device of CONFIG with package N, 1 if
+--package isn't given. It reads no input:
+  --connect FOLDER  it connects to FOLDER/EID.sock, the Unix socket of each device, and tries again
+                    every unit if there is none
+  --tty PATH        packets are DSP0253 frames on a serial line: PATH is a terminal in raw mode, a
+                    FIFO or the name of a Unix socket
+It counts a tick every MS milliseconds, which are a unit. It begins with a restart: for 40 units it
+is deaf and silent. Devices activate as with --auto. It ends when each session is Done or Failed,
+with --ticks after N units at the latest, and prints the agent's lines of a report, with --json as
+one line of JSON. With --check it fails after the report if a session isn't Done.
+
+--connect and --tty exclude each other, and each of them excludes --auto and --report. --tick,
+--ticks, --package, --check and --json need one of them.
+
+Faults: 'sel' or 'report' if that file can't be written, or is one that is read; 'package: none' if
+CONFIG names fewer packages; 'tty' if PATH can't be opened; with --check, 'session EID: WORD' of the
+first session in configured order that isn't Done.
 
 Status: 0; 1 if standard error says 'fwupd: ' and a fault, one of these, of 'answer' or of 'replay';
 2 for wrong usage.";
+
 /// The text below the help of `decode`.
 pub(crate) const DECODE_HELP: &str = "\
 Examples:

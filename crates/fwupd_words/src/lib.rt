@@ -5,10 +5,14 @@
 mod asked;
 mod commands;
 mod helps;
+mod nodes;
 mod options;
+mod processes;
 mod reading;
+mod values;
 
 pub use asked::{
     AgentAlone, DeviceAlone, Job, Order, Replay, Show, Soak, SoakOrder, TraceForm, Update,
 };
+pub use processes::{AgentProcess, DeviceProcess, Serving, Wire};
 pub use reading::parse;

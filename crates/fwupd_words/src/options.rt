@@ -2,7 +2,7 @@
 
 ghost use Rattle.std.specs.Prelude.{◌≡◌, ◌∷◌, [], IfOk, Some, codes, map};
 ghost use Rattle.clap.specs.Words.{rule_of};
-ghost use Rattle.fwupd_words.specs.CommandLine.{flag_rule, given_option, given_word, optional_word, package_rule, roughness_rules, text_option, trace_form_rule, unit_rule, word_rule};
+ghost use Rattle.fwupd_words.specs.CommandLine.{flag_rule, given_option, given_word, optional_word, own_package_rule, package_rule, process_rules, roughness_rules, text_option, trace_form_rule, unit_rule, word_rule};
 
 use clap::builder::ValueParser;
 use clap::{Arg, ArgAction, value_parser};
@@ -206,4 +206,43 @@ pub(crate) fn package_option<'a>(alloc: Global) -> Arg<'a>
         "The number of the package in CONFIG, from 1 on",
     );
     read_option(package, "1", value_parser!(u32).range(1..))
+}
+
+/// An option for the path of a folder of sockets.
+pub(crate) fn sockets_option<'a>(alloc: Global, name: &'static str, help: &'static str) -> Arg<'a>
+    ensures { rule_of result ≡ given_option name.entry.now }
+{
+    text_option(alloc, name, "FOLDER", help).value_parser(ValueParser::NonEmptyString)
+}
+
+/// The option for the number of the agent's package, without a default.
+pub(crate) fn own_package_option<'a>(alloc: Global) -> Arg<'a>
+    ensures { rule_of result ≡ own_package_rule }
+{
+    let package = text_option(
+        alloc,
+        "package",
+        "N",
+        "The number of the package in CONFIG, from 1 on",
+    );
+    package.value_parser(value_parser!(u32).range(1..))
+}
+
+/// The options of a node's process that the device and the agent share.
+pub(crate) fn process_options<'a>(alloc: Global) -> Result<Vec<Arg<'a>>, AllocError>
+    ensures { IfOk result (λ options. map rule_of options.items ≡ process_rules) }
+{
+    let tty = text_option(alloc, "tty", "PATH", "Serves a serial line as a process");
+    let tick = text_option(
+        alloc,
+        "tick",
+        "MS",
+        "The milliseconds of a unit, 1 to 1000: 10 with sockets, 50 with --tty",
+    );
+    let ticks = text_option(alloc, "ticks", "N", "Ends the process after N units");
+    Ok(vec![in alloc;
+        tty.value_parser(ValueParser::NonEmptyString),
+        tick.value_parser(value_parser!(u32).range(1..1001)),
+        ticks.value_parser(value_parser!(u32).range(1..)),
+    ]?)
 }

@@ -5,46 +5,20 @@ ghost use Rattle.std.specs.String.{string_bytes};
 ghost use Rattle.clap.specs.Words.{App, kind_of};
 ghost use Rattle.fwupd_words.specs.CommandLine.{IsCommandLine};
 ghost use Rattle.fwupd_words.specs.Reading.{FindsSubcommand, ReadsWords, RefusesWords, RefusesEndpoint};
-ghost use Rattle.fwupd_words.specs.Words.{AsksAgent, AsksDevice, AsksEndpoint, AsksForJob, AsksForm, AsksKept, AsksNumber, AsksOrder, AsksRoughness, AsksRuns, AsksSeed, AsksSmall, AsksSoak, AsksTraceForm, AsksUnit, given_in, text_under};
+ghost use Rattle.fwupd_words.specs.Jobs.{AsksForJob};
+ghost use Rattle.fwupd_words.specs.Words.{AsksEndpoint, AsksKept, AsksNumber, AsksOrder, AsksRoughness, AsksRuns, AsksSeed, AsksSoak, AsksTraceForm, AsksUnit, given_in};
 
-use crate::asked::{
-    AgentAlone, DeviceAlone, Job, Order, Replay, Show, Soak, SoakOrder, TraceForm, Update,
-};
+use crate::asked::{Job, Order, Replay, Show, Soak, SoakOrder, TraceForm, Update};
 use crate::commands::command;
+use crate::nodes::{agent_in, device_in};
+use crate::values::{form_in, refusal, small_under, text_under};
 use clap::ArgMatches;
 use clap::error::ErrorKind;
-use fwupd_base::{Form, Roughness};
+use fwupd_base::Roughness;
 use mctp_ctl::Endpoint;
 use mctp_wire::Unit;
-use std::alloc::{AllocError, Global};
+use std::alloc::Global;
 use uuid::Uuid;
-
-/// The value of the package option.
-fn package_number(matches: &ArgMatches<'_>) -> usize
-    ensures { AsksNumber (given_in matches.now) result }
-{
-    match matches.get_one::<u32>("package") {
-        Some(number) => number as usize,
-        None => 1,
-    }
-}
-
-/// The text argument or option `name`, or an empty text if it is missing.
-fn text_under<'a>(matches: &ArgMatches<'a>, name: &str) -> &'a str
-    ensures { result.now ≡ text_under (given_in matches.now) name.now }
-{
-    match matches.get_str(name) {
-        Some(text) => text,
-        None => "",
-    }
-}
-
-/// An error of this kind, with this message.
-fn refusal(alloc: Global, kind: ErrorKind, message: &str) -> Result<clap::Error, AllocError>
-    ensures { IfOk result (λ error. kind_of error ≡ kind) }
-{
-    command(alloc)?.error(kind, message)
-}
 
 /// The endpoint that the arguments of `answer` specify.
 fn endpoint_in<'a>(alloc: Global, matches: &ArgMatches<'a>) -> Result<Endpoint, clap::Error>
@@ -64,14 +38,13 @@ fn endpoint_in<'a>(alloc: Global, matches: &ArgMatches<'a>) -> Result<Endpoint, 
     }
 }
 
-/// The output format that the arguments request.
-fn form_in(matches: &ArgMatches<'_>) -> Form
-    ensures { AsksForm (given_in matches.now) result }
+/// The value of the package option.
+fn package_number(matches: &ArgMatches<'_>) -> usize
+    ensures { AsksNumber (given_in matches.now) result }
 {
-    if matches.get_flag("json") {
-        Form::Json
-    } else {
-        Form::Text
+    match matches.get_one::<u32>("package") {
+        Some(number) => number as usize,
+        None => 1,
     }
 }
 
@@ -113,16 +86,6 @@ fn unit_in(matches: &ArgMatches<'_>) -> Unit
     match matches.get_str("unit") {
         Some("128") => Unit::U128,
         _ => Unit::U64,
-    }
-}
-
-/// The number of 8 bits under `name`, or 0 if it is missing.
-fn small_under(matches: &ArgMatches<'_>, name: &str) -> u8
-    ensures { AsksSmall (given_in matches.now) name.now result }
-{
-    match matches.get_one::<u8>(name) {
-        Some(number) => number,
-        None => 0,
     }
 }
 
@@ -179,33 +142,6 @@ fn soak_order_in(matches: &ArgMatches<'_>) -> SoakOrder
     }
 }
 
-/// The device that the arguments request.
-fn device_in<'a>(matches: &ArgMatches<'a>) -> DeviceAlone<'a>
-    ensures { AsksDevice (given_in matches.now) result }
-{
-    let (store, report) = (matches.get_str("store"), matches.get_str("report"));
-    DeviceAlone {
-        config: text_under(matches, "CONFIG"),
-        eid: small_under(matches, "EID"),
-        is_automatic: matches.get_flag("auto"),
-        store,
-        report,
-    }
-}
-
-/// The agent that the arguments request.
-fn agent_in<'a>(matches: &ArgMatches<'a>) -> AgentAlone<'a>
-    ensures { AsksAgent (given_in matches.now) result }
-{
-    let (log, report) = (matches.get_str("sel"), matches.get_str("report"));
-    AgentAlone {
-        config: text_under(matches, "CONFIG"),
-        is_automatic: matches.get_flag("auto"),
-        log,
-        report,
-    }
-}
-
 /// The job that the subcommand `name` with these arguments requests.
 fn job_of<'a>(alloc: Global, name: &str, matches: &ArgMatches<'a>) -> Result<Job<'a>, clap::Error>
     ensures job { IfOk result (AsksForJob name.now (given_in matches.now)) }
@@ -248,8 +184,8 @@ fn job_of<'a>(alloc: Global, name: &str, matches: &ArgMatches<'a>) -> Result<Job
             spec: text_under(matches, "SPEC"),
             package: text_under(matches, "FILE"),
         }),
-        "device" => Ok(Job::Device(device_in(matches))),
-        "agent" => Ok(Job::Agent(agent_in(matches))),
+        "device" => device_in(alloc, matches),
+        "agent" => agent_in(alloc, matches),
         "decode" => Ok(Job::Decode {
             file: matches.get_str("FILE"),
             unit: unit_in(matches),

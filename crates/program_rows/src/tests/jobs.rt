@@ -5,17 +5,19 @@ ghost use Rattle.fwupd_watch.specs.Files.{any_file};
 
 use fd_core::Bank;
 use fw_edge::{Link, MemLink, StreamLink};
+use fw_process::{Clock, Line};
 use fw_setup::SystemStores;
 use fw_soak::{SoakObserver, Summary};
 use fw_store::SystemFolder;
 use fw_world::{Step, World};
 use fwupd_base::{Form, Roughness};
 use fwupd_jobs::{
-    Beginning, FileFault, FileIdentity, Files, Host, JobFault, Observer, ObserverFault, Order,
-    Output, Parts, Show, TraceForm, Update, WholeFiles, Wires, plan_file, update_checked,
+    Beginning, DeviceProcess, FileFault, FileIdentity, Files, Host, JobFault, Joined, Network,
+    Observer, ObserverFault, Order, Output, Parts, Serving, Show, TraceForm, Update, WholeFiles,
+    Wire, Wires, Wiring, plan_file, update_checked,
 };
 use fwupd_watch::{SystemCalls, system_places};
-use mctp_wire::Unit;
+use mctp_wire::{RawPacket, Unit};
 use std::alloc::{AllocError, Global};
 use std::fs::File;
 use std::marker::PhantomData;
@@ -290,6 +292,74 @@ impl SoakObserver for Unseen {
     fn see(&mut self, _summary: &Summary) {}
 }
 
+/// A line over which nothing comes and nothing goes.
+#[derive(Drop)]
+pub struct Silence {}
+
+impl Line for Silence {
+    fn begin_round(&mut self, _unit: u32) {}
+
+    fn receive(&mut self, _packet: &mut RawPacket) -> Option<u32> {
+        None
+    }
+
+    fn send(&mut self, _unit: u32, _packet: &RawPacket) {}
+}
+
+/// A clock that shows each unit at once, from unit 1,000.
+#[derive(Drop)]
+pub struct Hasty {}
+
+impl Clock for Hasty {
+    fn wait_past(&mut self, unit: u32) -> u32 {
+        (unit + 1).max(1000)
+    }
+}
+
+/// Processes that are joined to nobody. The folder `taken` has each socket's name already.
+#[derive(Drop)]
+pub struct Lonely {}
+
+impl Wiring for Lonely {
+    type Device = Silence;
+
+    type Agent = Silence;
+
+    type Clock = Hasty;
+
+    fn device(
+        &mut self,
+        _alloc: Global,
+        _network: Network,
+        job: &DeviceProcess<'_>,
+    ) -> Result<Joined<Silence, Hasty>, JobFault> {
+        match job.serving.wire {
+            Wire::Sockets("taken") => Err(JobFault::Socket(job.eid)),
+            Wire::Sockets(_) => Ok(Joined {
+                line: Silence {},
+                clock: Hasty {},
+            }),
+            Wire::Tty(_) => Err(JobFault::Tty),
+        }
+    }
+
+    fn agent(
+        &mut self,
+        _alloc: Global,
+        _network: Network,
+        _eids: &[u8],
+        serving: Serving<'_>,
+    ) -> Result<Joined<Silence, Hasty>, JobFault> {
+        match serving.wire {
+            Wire::Sockets(_) => Ok(Joined {
+                line: Silence {},
+                clock: Hasty {},
+            }),
+            Wire::Tty(_) => Err(JobFault::Tty),
+        }
+    }
+}
+
 /// The parts of a host whose files are in memory, with these links.
 pub struct MemParts<'a, L, S> {
     parts: PhantomData<(&'a u8, L, S)>,
@@ -316,6 +386,8 @@ impl<'a, L: Link + Drop, S: Wires<L> + Drop> Parts for MemParts<'a, L, S> {
 
     type Places = WholeFiles<SystemCalls<'a>>;
 
+    type Wiring = Lonely;
+
     type Writer = Vec<u8>;
 }
 
@@ -337,6 +409,7 @@ pub fn host<'a, L: Link + Drop, S: Wires<L> + Drop>(
         watch: Counter::new(broken),
         soak_watch: Unseen {},
         places: system_places(rt),
+        wiring: Lonely {},
         output,
     })
 }

@@ -1,4 +1,4 @@
-use Rattle.std.proofs.Common.{inl, inr, map, refl, subst, sym}
+use Rattle.std.proofs.Common.{inl, inr, map, refl, sym}
 use Rattle.std.specs.Prelude.{string_bytes}
 use Rattle.fw_script.specs.Seen.{config_seen}
 use Rattle.fwupd_jobs.specs.Setups.{ArePacked}

@@ -1,8 +1,6 @@
-use Rattle.std.proofs.Common.{Some, inl, inr, map, refl, rules, subst, sym, ◌==◌, ◌≡◌, ◌∙◌}
+use Rattle.std.proofs.Common.{Some, inl, inr, refl, rules, subst, sym, ◌==◌, ◌≡◌, ◌∙◌}
 use Rattle.std.specs.Prelude.{IsSome}
 use Rattle.std.specs.List.{position}
-use Rattle.fw_script.specs.Seen.{device_of}
-use Rattle.fw_script.specs.Whole.{AreWhole}
 use Rattle.fwupd_jobs.proofs.Lone.{only_one, place_same, whole_one}
 use Rattle.fwupd_jobs.proofs.alone.only_device.Goals as goal
 

@@ -8,13 +8,18 @@ use Rattle.fw_setup.specs.Stocks.{stores_in}
 use Rattle.fwupd_watch.specs.Running.{show_of}
 use Rattle.fwupd_jobs.specs.Setups.{source_of}
 use Rattle.fwupd_jobs.proofs.Packed.{named_there, packed_slice, set_up, stores_fail}
-use Rattle.fwupd_jobs.proofs.Told.{breaks_off, place_within, replay_reports, report_there, schedule_ends, seen_ends, step_ends, stores_end_replay, unkept_ends, unseen_ends}
+use Rattle.fwupd_jobs.proofs.Told.{breaks_off, packages_end_replay, place_within, replay_reports, report_there, schedule_ends, seen_ends, step_ends, stores_end_replay, unkept_ends, unseen_ends}
 use Rattle.fwupd_jobs.proofs.replaying.replay_files.Goals as goal
 
 pub packages_in-requires : goal.packages_in-requires
 packages_in-requires g c =
     packed_slice (g.H.Files.Files.holds c.args.host.now.files) (map (λ p. string_bytes p) c.as_slice.result.now) c.in-Ok-package_files.contents.items c.as_slice-2.result.now c.in-Ok-package_files.ensures.packed
     c.as_slice-2.ensures.value
+
+pub returns-in-Err-package_files-clause-fault : goal.returns-in-Err-package_files-clause-fault
+returns-in-Err-package_files-clause-fault g c =
+    packages_end_replay (g.H.Files.Files.holds c.args.host.now.files) (source_of (stores_in (g.H.Stores.Stores.is_known c.args.host.now.stores) (g.H.Stores.Stores.files c.args.host.now.stores)) (option_map (λ p. p.now) c.args.job.show.store) c.args.job.config.now) c.args.job.schedule.now (show_of c.args.job.show) (g.H.Watch.Observer.refuses c.args.host.now.watch) c.in-Err-package_files.fault (g.H.Watch.Observer.watched c.args.host.now.watch) c.args.host.now.output
+    (config_seen c.in-Ok.config) (map (λ p. string_bytes p) c.as_slice.result.now) c.in-Ok.ensures.says (ap (λ (xs : List (String Global)). map (λ p. string_bytes p) xs) c.as_slice.ensures.value) c.in-Err-package_files.ensures.fault
 
 pub returns-in-Err-read_kept-clause-fault : goal.returns-in-Err-read_kept-clause-fault
 returns-in-Err-read_kept-clause-fault g c =

@@ -1,0 +1,120 @@
+//! The system's sockets and serial lines, and its clock.
+
+use crate::sockets::{explain_socket, socket_path};
+use crate::wiring::{Joined, Network, Wiring};
+use fwupd_watch::JobFault;
+use fwupd_wires::{
+    AgentSockets, AgentWire, DeviceSockets, DeviceWire, MachineClock, Port, SerialLine,
+};
+use fwupd_words::{DeviceProcess, Serving, Wire};
+use std::alloc::Global;
+use std::io::{self, IsTerminal};
+
+/// The system's sockets and serial lines, and its clock.
+#[derive(Drop)]
+pub(crate) struct SystemWiring<'a> {
+    rt: &'a HostRuntime,
+    /// The device whose socket couldn't be made, and the error.
+    refused: Option<(u8, io::Error)>,
+    /// The error of a serial line that couldn't be opened.
+    unopened: Option<io::Error>,
+}
+
+impl<'a> SystemWiring<'a> {
+    /// Creates the wiring of a runtime.
+    pub(crate) fn new(rt: &'a HostRuntime) -> SystemWiring<'a> {
+        SystemWiring {
+            rt,
+            refused: None,
+            unopened: None,
+        }
+    }
+
+    /// Prints on standard error, if it is a terminal, why a socket couldn't be made, if one
+    /// couldn't.
+    pub(crate) fn explain(&self) {
+        if let Some((device, error)) = &self.refused {
+            explain_socket(self.rt, *device, error);
+        }
+        if let Some(error) = &self.unopened
+            && self.rt.stderr().is_terminal()
+        {
+            let _ = eprintln!(self.rt; "tty: {error}");
+        }
+    }
+
+    /// Opens a serial line.
+    fn open(
+        &mut self,
+        alloc: Global,
+        path: &str,
+        network: Network,
+    ) -> Result<SerialLine<Port>, JobFault> {
+        match Port::open(self.rt, alloc, path) {
+            Ok(port) => Ok(SerialLine::new(port, network.unit, network.endpoint)),
+            Err(error) if error.kind() == io::ErrorKind::OutOfMemory => Err(JobFault::Memory),
+            Err(error) => {
+                self.unopened = Some(error);
+                Err(JobFault::Tty)
+            }
+        }
+    }
+
+    /// Listens at the name of a device's socket in a folder.
+    fn listen(&mut self, folder: &str, job: &DeviceProcess<'_>) -> Result<DeviceSockets, JobFault> {
+        let Ok(path) = socket_path(self.rt.alloc(), folder, job.eid) else {
+            return Err(JobFault::Memory);
+        };
+        match DeviceSockets::listen(self.rt, &path, job.takes_over) {
+            Ok(sockets) => Ok(sockets),
+            Err(error) => {
+                self.refused = Some((job.eid, error));
+                Err(JobFault::Socket(job.eid))
+            }
+        }
+    }
+}
+
+impl<'a> Wiring for SystemWiring<'a> {
+    type Device = DeviceWire;
+
+    type Agent = AgentWire<'a>;
+
+    type Clock = MachineClock<'a>;
+
+    fn device(
+        &mut self,
+        alloc: Global,
+        network: Network,
+        job: &DeviceProcess<'_>,
+    ) -> Result<Joined<Self::Device, Self::Clock>, JobFault> {
+        let line = match job.serving.wire {
+            Wire::Sockets(folder) => DeviceWire::Sockets(self.listen(folder, job)?),
+            Wire::Tty(path) => DeviceWire::Serial(self.open(alloc, path, network)?),
+        };
+        Ok(Joined {
+            line,
+            clock: MachineClock::new(self.rt, job.serving.tick),
+        })
+    }
+
+    fn agent(
+        &mut self,
+        alloc: Global,
+        network: Network,
+        eids: &[u8],
+        serving: Serving<'_>,
+    ) -> Result<Joined<Self::Agent, Self::Clock>, JobFault> {
+        let line = match serving.wire {
+            Wire::Sockets(folder) => match AgentSockets::new(self.rt, alloc, folder, eids) {
+                Ok(sockets) => AgentWire::Sockets(sockets),
+                Err(_) => return Err(JobFault::Memory),
+            },
+            Wire::Tty(path) => AgentWire::Serial(self.open(alloc, path, network)?),
+        };
+        Ok(Joined {
+            line,
+            clock: MachineClock::new(self.rt, serving.tick),
+        })
+    }
+}

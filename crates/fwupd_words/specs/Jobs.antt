@@ -1,0 +1,30 @@
+-- The job that a subcommand requests with its arguments.
+use Rattle.std.specs.Prelude.{ℕ, ◌≡◌, true, List, None, codes, option_map}
+use Rattle.fwupd_words.specs.Processes.{AsksAgentProcess, AsksDeviceProcess, AsksWire, agent_clash, device_clash}
+use Rattle.fwupd_words.specs.Words.{AsksAgent, AsksDevice, AsksEndpoint, AsksForm, AsksKept, AsksNumber, AsksOrder, AsksShow, AsksSoak, AsksUnit, Given, text_under}
+use Rattle.fwupd_words.specs.declared.asked.Job.{Job}
+use Rattle.fwupd_words.specs.declared.asked.Job.TheVariants as jobs
+
+-- The subcommand `name` with these arguments requests a job.
+abbrev pub AsksForJob : (name : List ℕ) → Given → Job → Type 0
+AsksForJob name words (jobs.Answer endpoint) = (name ≡ codes "answer") × AsksEndpoint words endpoint
+AsksForJob name words (jobs.Inspect path form) = (name ≡ codes "inspect") × (path.now ≡ text_under words (codes "FILE")) × AsksForm words form
+AsksForJob name words (jobs.Replay r) =
+    (name ≡ codes "replay") × (r.config.now ≡ text_under words (codes "CONFIG")) × (r.schedule.now ≡ text_under words (codes "SCHEDULE")) × (r.show.is_quiet ≡ true) × (r.show.history ≡ None) × AsksKept words r.show
+AsksForJob name words (jobs.Run u) =
+    (name ≡ codes "run") × (u.config.now ≡ text_under words (codes "CONFIG")) × (u.folder.now ≡ text_under words (codes "FOLDER")) × AsksOrder words u.order × AsksShow words u.show
+AsksForJob name words (jobs.Sel file) = (name ≡ codes "sel") × (file.now ≡ text_under words (codes "FILE"))
+AsksForJob name words (jobs.Build spec file) = (name ≡ codes "build") × (spec.now ≡ text_under words (codes "SPEC")) × (file.now ≡ text_under words (codes "FILE"))
+AsksForJob name words (jobs.Plan config number form) =
+    (name ≡ codes "plan") × (config.now ≡ text_under words (codes "CONFIG")) × AsksNumber words number × AsksForm words form
+AsksForJob name words (jobs.Soak s) =
+    (name ≡ codes "soak") × (s.config.now ≡ text_under words (codes "CONFIG")) × AsksSoak words s.order
+    × (option_map (λ p. p.now) s.record ≡ words.first (codes "record"))
+AsksForJob name words (jobs.Device d) =
+    (name ≡ codes "device") × (device_clash words ≡ None) × AsksWire words (codes "listen") None × AsksDevice words d
+AsksForJob name words (jobs.Agent a) =
+    (name ≡ codes "agent") × (agent_clash words ≡ None) × AsksWire words (codes "connect") None × AsksAgent words a
+AsksForJob name words (jobs.DeviceProcess d) = (name ≡ codes "device") × (device_clash words ≡ None) × AsksDeviceProcess words d
+AsksForJob name words (jobs.AgentProcess a) = (name ≡ codes "agent") × (agent_clash words ≡ None) × AsksAgentProcess words a
+AsksForJob name words (jobs.Decode file unit form) =
+    (name ≡ codes "decode") × (option_map (λ p. p.now) file ≡ words.first (codes "FILE")) × AsksUnit words unit × AsksForm words form
