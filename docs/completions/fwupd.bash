@@ -20,8 +20,8 @@ _fwupd() {
             soak:-*) words="--runs --record --loss --duplicate --delay --seed --help" ;;
             sel:-*) words="--help" ;;
             build:-*) words="--help" ;;
-            device:-*) words="--auto --store --report --help" ;;
-            agent:-*) words="--auto --sel --report --help" ;;
+            device:-*) words="--auto --store --report --listen --take-over --tty --tick --ticks --help --listen --tty" ;;
+            agent:-*) words="--auto --sel --report --connect --package --check --json --tty --tick --ticks --help --connect --tty" ;;
             decode:-*) words="--unit --json --help" ;;
         esac ;;
     esac
