@@ -12,7 +12,7 @@ _fwupd() {
         decode:--unit) words="64 128" ;;
         help:*) words="answer inspect replay plan run soak sel build device agent decode" ;;
         *) case ${COMP_WORDS[1]}:$word in
-            answer:-*) words="--uuid --help" ;;
+            answer:-*) words="--uuid --serial --help" ;;
             inspect:-*) words="--json --help" ;;
             replay:-*) words="--trace --trace-format --sel --store --json --help" ;;
             plan:-*) words="--package --json --help" ;;
@@ -20,8 +20,8 @@ _fwupd() {
             soak:-*) words="--runs --record --loss --duplicate --delay --seed --help" ;;
             sel:-*) words="--help" ;;
             build:-*) words="--help" ;;
-            device:-*) words="--auto --store --report --listen --take-over --tty --tick --ticks --help --listen --tty" ;;
-            agent:-*) words="--auto --sel --report --connect --package --check --json --tty --tick --ticks --help --connect --tty" ;;
+            device:-*) words="--auto --open --store --report --listen --take-over --tty --tick --ticks --help --listen --tty" ;;
+            agent:-*) words="--auto --open --sel --report --connect --package --check --json --tty --tick --ticks --help --connect --tty" ;;
             decode:-*) words="--unit --json --help" ;;
         esac ;;
     esac

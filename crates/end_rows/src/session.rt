@@ -2,6 +2,7 @@
 
 mod calls;
 mod packages;
+mod resuming;
 mod situations;
 mod table;
 mod updates;

@@ -23,6 +23,9 @@
 -- THE OPERATOR'S CALLS.
 -- - `Places`: places among the agent's halves.
 -- - `Calls`: the operator's calls of the agent, from those of one of its halves.
+--
+-- A RESTART of the agent.
+-- - `Resumed`: an agent that is resumed from what an agent keeps restarts as it does.
 mod Addressed
 mod Again
 mod AgentTicks
@@ -38,5 +41,6 @@ mod OneATick
 mod Places
 mod Pushed
 mod Readings
+mod Resumed
 mod Rows
 mod Working

@@ -8,3 +8,4 @@ pub mod Halves
 pub mod Nodes
 pub mod Notes
 pub mod Packets
+pub mod Resumed

@@ -1,6 +1,6 @@
 //! The node of the update agent.
 
-ghost use Rattle.std.specs.Prelude.{◌≡◌, ◌≤◌, ◌<◌, ◌↔◌, ◌*◌, ◌+◌, ◌++◌, ◌==◌, [], IfErr, IfOk, IfSome, List, None, OnErr, OnOk, Some, false, flat_map, is_some, length, map, not, option_map, slice_get, true};
+ghost use Rattle.std.specs.Prelude.{◌≡◌, ◌≤◌, ◌<◌, ◌↔◌, ◌*◌, ◌+◌, ◌++◌, ◌==◌, [], IfErr, IfOk, IfSome, List, None, OnErr, OnOk, Some, false, flat_map, is_some, length, map, not, option_map, slice_get, true, ℕ};
 ghost use Rattle.fw_package.specs.Package.{PackageText};
 ghost use Rattle.mctp_wire.specs.Packet.{IsRead, spelling};
 ghost use Rattle.sel_core.specs.Log.{sel_after, sel_reply};
@@ -8,12 +8,14 @@ ghost use Rattle.fw_node.specs.Agents.{AgentOf, any_packet, IsAddressed, IsDeafF
 ghost use Rattle.fw_node.specs.AgentViews.{agent_of, half_in, half_activated, half_cancelled, half_free, half_ready, half_restarted, half_started, halves_called, halves_noted};
 ghost use Rattle.fw_node.specs.Cores.{session_core};
 ghost use Rattle.fw_node.specs.Halves.{half_ticks};
+ghost use Rattle.fw_node.specs.Resumed.{resumed_agent, session_kept};
 ghost use Rattle.std.specs.List.{AllByRecursion};
 
 use crate::half::Half;
 use crate::identity::Identity;
 use crate::noting::{activate, cancel, grow, handle_and_note, start, wait};
 use crate::outbox::Outbox;
+use crate::resuming::{KeptSession, halves_of};
 use fw_package::Package;
 use mctp_ctl::Endpoint;
 use mctp_wire::{Packet, Unit};
@@ -82,6 +84,34 @@ impl AgentNode {
         })
     }
 
+    /// Creates the agent that goes on with what an earlier life of it kept: the sessions of its
+    /// devices, at most 16, and its log. No update is in progress.
+    ///
+    /// # Errors
+    /// `AllocError` if memory for them is refused.
+    pub fn resumed(
+        alloc: Global,
+        unit: Unit,
+        endpoint: Endpoint,
+        sessions: &[KeptSession],
+        log: Sel,
+    ) -> Result<AgentNode, AllocError>
+        requires { length sessions.now ≤ 16 }
+        ensures { IfOk result (λ n. n ≡ resumed_agent unit endpoint (map session_kept sessions.now) log) }
+    {
+        let halves = halves_of(alloc, unit, endpoint.eid, sessions)?;
+        let identity = Identity {
+            endpoint,
+            tid: Tid::unassigned(),
+        };
+        Ok(AgentNode {
+            identity,
+            deaf: 0,
+            halves,
+            log,
+        })
+    }
+
     /// Its endpoint identifier.
     pub fn eid(&self) -> u8
         ensures { result ≡ self.now.endpoint.eid }
@@ -111,6 +141,23 @@ impl AgentNode {
         ensures known { is_some result ≡ is_some (half_for self.now eid) }
     {
         session_in(self.halves.as_slice(), eid)
+    }
+
+    /// The number of its devices.
+    pub fn device_count(&self) -> usize
+        ensures count { result ≡ length self.now.halves }
+        ensures bound { result ≤ 16 }
+    {
+        self.halves.len()
+    }
+
+    /// Returns the device at a place, from 0 on in configured order, and its session. `None` if
+    /// there is no device at the place.
+    pub fn session_at(&self, place: usize) -> Option<(u8, &Session)>
+        ensures device { option_map (λ s. s.0) result ≡ option_map (λ h. h.peer) (slice_get self.now.halves place) }
+        ensures session { option_map (λ s. s.1.now) result ≡ option_map (λ h. h.core) (slice_get self.now.halves place) }
+    {
+        session_at(self.halves.as_slice(), place)
     }
 
     /// Handles the bytes of a packet, and puts the packets to send into `outbox`, which must be
@@ -345,6 +392,19 @@ fn session_in(halves: &[Half<Session>], eid: u8) -> Option<&Session>
         return None;
     };
     Some(&halves[place].core)
+}
+
+/// The device and the session at a place.
+fn session_at(halves: &[Half<Session>], place: usize) -> Option<(u8, &Session)>
+    ensures device { (deaf : ℕ) → option_map (λ s. s.0) result
+        ≡ option_map (λ h. h.peer) (slice_get (map (half_in deaf) halves.now) place) }
+    ensures session { (deaf : ℕ) → option_map (λ s. s.1.now) result
+        ≡ option_map (λ h. h.core) (slice_get (map (half_in deaf) halves.now) place) }
+{
+    let Some(half) = halves.get(place) else {
+        return None;
+    };
+    Some((half.peer(), &half.core))
 }
 
 /// The place of the half for the device that sent the packet.

@@ -14,9 +14,11 @@ mod laws;
 mod notes;
 mod noting;
 mod outbox;
+mod resuming;
 mod sending;
 
 pub use agent_node::AgentNode;
 pub use device_node::DeviceNode;
-pub use laws::bank_calls_decide;
+pub use laws::{bank_calls_decide, restarts_keep_no_more};
 pub use outbox::Outbox;
+pub use resuming::KeptSession;

@@ -17,6 +17,9 @@ use Rattle.fw_steps.specs.Steps.{is_package}
 use Rattle.fw_steps.specs.Worlds.{recorded_from, sender_of}
 use Rattle.fw_steps.specs.declared.step.Step.{Step}
 use Rattle.fw_steps.specs.declared.step.Step.TheVariants as steps
+use Rattle.fw_serve.specs.Fronts.{answer_in_front}
+use Rattle.fw_serve.specs.declared.fronts.FilterOptions.{FilterOptions}
+use Rattle.fw_serve.specs.declared.fronts.Front.{Front}
 use Rattle.fw_serve.specs.Lines.{AgentLineOf, agent_line_of}
 use Rattle.fw_serve.specs.Texts.{answer_line, fault_line, packets_line, refused_line}
 use Rattle.fw_serve.specs.declared.texts.LineRefusal.{LineRefusal}
@@ -190,18 +193,29 @@ agent_line_served auto s (Ok None) = agent_unserved s []
 agent_line_served auto s (Ok (Some line)) = agent_read_served auto s line
 agent_line_served auto s (Err cause) = agent_unserved s (fault_line cause)
 
+-- the answer in front of the agent to a line that is a packet
+abbrev pub agent_line_front : Option Front → Result (Option AgentLineOf) ScriptCause → Option (List ℕ)
+agent_line_front front (Ok (Some (AgentLineOf.Packet bytes))) = answer_in_front front bytes
+agent_line_front front line = None
+
+-- The front answers a line, and the agent doesn't see it; or it has no answer, and the agent serves
+-- the line.
+abbrev pub agent_served_behind : Option (List ℕ) → (auto : Bool) → ServedAgentOf → Result (Option AgentLineOf) ScriptCause → AgentServedOf
+agent_served_behind (Some answer) auto s line = agent_unserved s (packets_line (answer ∷ []))
+agent_served_behind None auto s line = agent_line_served auto s line
+
 -- the report of the agent: its node, its sessions, its event log, and the history
 abbrev pub agent_report : ServedAgentOf → List ℕ
 agent_report s =
     agent_line s.agent ++ sessions_text s.agent s.counts ++ log_line (length s.agent.log.records) s.answer ++ history_text s.history
 
--- the agent as a server of lines: whether activations are given, and the agent
+-- the agent as a server of lines: its options, and the agent
 pub record AgentFilterOf : Type 0 where
-  pub auto : Bool
+  pub options : FilterOptions
   pub agent : ServedAgentOf
 
 -- The agent serves a line.
 pub record ServesAgentLine (s : AgentFilterOf) (line : List ℕ) (t : AgentFilterOf) (text : List ℕ) : Type 0 where
-  pub auto : t.auto ≡ s.auto
-  pub agent : t.agent ≡ (agent_line_served s.auto s.agent (agent_line_of line)).agent
-  pub printed : text ≡ (agent_line_served s.auto s.agent (agent_line_of line)).text
+  pub options : t.options ≡ s.options
+  pub agent : t.agent ≡ (agent_served_behind (agent_line_front s.options.front (agent_line_of line)) s.options.auto s.agent (agent_line_of line)).agent
+  pub printed : text ≡ (agent_served_behind (agent_line_front s.options.front (agent_line_of line)) s.options.auto s.agent (agent_line_of line)).text

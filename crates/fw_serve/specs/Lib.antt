@@ -1,4 +1,5 @@
 pub mod Agents
+pub mod Fronts
 pub mod Lines
 pub mod Noting
 pub mod Parts

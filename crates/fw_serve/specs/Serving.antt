@@ -16,6 +16,9 @@ use Rattle.fw_json.specs.Values.{line_of}
 use Rattle.fw_script.specs.Reports.{device_alone, history_text}
 use Rattle.fw_script.specs.declared.faults.ScriptCause.{ScriptCause}
 use Rattle.fw_steps.specs.Alone.{DeviceCall, device_after_call, device_call_entries, device_call_packets}
+use Rattle.fw_serve.specs.Fronts.{answer_in_front}
+use Rattle.fw_serve.specs.declared.fronts.FilterOptions.{FilterOptions}
+use Rattle.fw_serve.specs.declared.fronts.Front.{Front}
 use Rattle.fw_serve.specs.Lines.{DeviceLineOf, device_line_of}
 use Rattle.fw_serve.specs.Texts.{fault_line, packets_line, refused_line}
 use Rattle.fw_serve.specs.declared.texts.LineRefusal.TheVariants as refusals
@@ -123,16 +126,27 @@ ServesLine auto s (Ok None) t text = (t ≡ s) × (text ≡ [])
 ServesLine auto s (Ok (Some line)) t text = ServesRead auto s line t text
 ServesLine auto s (Err cause) t text = (t ≡ s) × (text ≡ fault_line cause)
 
+-- the answer in front of the device to a line that is a packet
+abbrev pub device_line_front : Option Front → Result (Option DeviceLineOf) ScriptCause → Option (List ℕ)
+device_line_front front (Ok (Some (DeviceLineOf.Packet bytes))) = answer_in_front front bytes
+device_line_front front line = None
+
+-- The front answers a line, and the device doesn't see it; or it has no answer, and the device
+-- serves the line.
+abbrev pub ServesBehind : Option (List ℕ) → (auto : Bool) → ServedDeviceOf → Result (Option DeviceLineOf) ScriptCause → ServedDeviceOf → (text : List ℕ) → Type 0
+ServesBehind (Some answer) auto s line t text = (t ≡ s) × (text ≡ packets_line (answer ∷ []))
+ServesBehind None auto s line t text = ServesLine auto s line t text
+
 -- the report of a device: its state, its active images, and the history
 abbrev pub device_report : ServedDeviceOf → List ℕ
 device_report s = device_alone s.node ++ history_text s.history
 
--- a device as a server of lines: whether verdicts are given, and the device
+-- a device as a server of lines: its options, and the device
 pub record DeviceFilterOf : Type 0 where
-  pub auto : Bool
+  pub options : FilterOptions
   pub device : ServedDeviceOf
 
 -- A device serves a line.
 pub record ServesDeviceLine (s : DeviceFilterOf) (line : List ℕ) (t : DeviceFilterOf) (text : List ℕ) : Type 0 where
-  pub auto : t.auto ≡ s.auto
-  pub serves : ServesLine s.auto s.device (device_line_of line) t.device text
+  pub options : t.options ≡ s.options
+  pub serves : ServesBehind (device_line_front s.options.front (device_line_of line)) s.options.auto s.device (device_line_of line) t.device text

@@ -1,13 +1,15 @@
 //! The update agent as a server of lines.
 
-ghost use Rattle.std.specs.Prelude.{[], ◌≡◌, ◌≤◌, ◌++◌, IfOk, OnOk, length};
-ghost use Rattle.fw_serve.specs.Agents.{agent_called, agent_read_served, agent_report, agent_step_served, agent_ticks_served, call_text, counts_after, log_asked, new_served_agent, turn_ended};
+ghost use Rattle.std.specs.Prelude.{[], ◌≡◌, ◌≤◌, ◌++◌, IfOk, OnOk, Ok, Some, length};
+ghost use Rattle.fw_serve.specs.Agents.{agent_called, agent_line_front, agent_read_served, agent_report, agent_served_behind, agent_step_served, agent_ticks_served, call_text, counts_after, log_asked, new_served_agent, turn_ended};
+ghost use Rattle.fw_serve.specs.Fronts.{answer_in_front};
 ghost use Rattle.fw_serve.specs.Lines.{AgentLineOf, agent_line_seen};
 ghost use Rattle.fw_serve.specs.Texts.{packets_spaced};
 ghost use Rattle.fw_steps.specs.Alone.{AgentCall};
 ghost use Rattle.fw_steps.specs.declared.step.Step.{Step};
 
 use crate::agent::{CallFault, ServedAgent};
+use crate::fronts::{FilterOptions, front_answer};
 use crate::lines::{AgentLine, read_agent_line};
 use crate::texts::{
     LineRefusal, clear, end_packets, push_answer, push_fault, push_nothing, push_packet,
@@ -30,8 +32,8 @@ use std::marker::Model;
 pub struct AgentFilter<'p> {
     /// The allocator of its calls.
     alloc: Global,
-    /// Whether each session that is ready has its device activate at the end of each turn.
-    auto: bool,
+    /// What it does beside its lines.
+    options: FilterOptions,
     /// The agent.
     agent: ServedAgent<'p>,
     /// The packets that the node sends in a call.
@@ -43,13 +45,13 @@ impl<'p> Model for AgentFilter<'p> {
 
     ghost Value = { AgentFilterOf };
 
-    ghost view = { λ f. record { auto = f.auto; agent = f.agent } };
+    ghost view = { λ f. record { options = f.options; agent = f.agent } };
 }
 
 impl<'p> AgentFilter<'p> {
     /// Creates the server of the agent of the devices with these endpoint identifiers, at most 16,
-    /// in a network with this transmission unit. With `auto`, each session that is ready has its
-    /// device activate at the end of each turn.
+    /// in a network with this transmission unit. With `options.auto`, each session that is ready
+    /// has its device activate at the end of each turn.
     ///
     /// # Errors
     /// `AllocError` if memory for it is refused.
@@ -59,11 +61,11 @@ impl<'p> AgentFilter<'p> {
         endpoint: Endpoint,
         devices: &[u8],
         packages: &'p [Package<'p>],
-        auto: bool,
+        options: FilterOptions,
     ) -> Result<AgentFilter<'p>, AllocError>
         requires { length devices.now ≤ 16 }
         ensures { IfOk result (λ f. f ≡ record {
-          auto = auto;
+          options = options;
           agent = new_served_agent unit endpoint devices.now packages.now;
         }) }
     {
@@ -71,7 +73,7 @@ impl<'p> AgentFilter<'p> {
         let outbox = Outbox::new(alloc)?;
         Ok(AgentFilter {
             alloc,
-            auto,
+            options,
             agent,
             outbox,
         })
@@ -87,22 +89,24 @@ impl<'p> AgentFilter<'p> {
     /// Gives what is due at the end of the last turn. To be called at the end of the input, before
     /// the report.
     pub fn end_turn(&mut self)
-        ensures { self.new ≡ record self.old { agent = turn_ended self.old.auto self.old.agent } }
+        ensures { self.new ≡ record self.old { agent = turn_ended self.old.options.auto self.old.agent } }
     {
-        self.agent.end_turn(self.auto);
+        self.agent.end_turn(self.options.auto);
     }
 
     /// Serves a line that was read.
     fn serve_read(&mut self, line: AgentLine, text: &mut Vec<u8>) -> Result<(), AllocError>
         requires { text.old.items ≡ [] }
-        ensures auto { OnOk result (self.new.auto ≡ self.old.auto) }
-        ensures agent { OnOk result (self.new.agent
-            ≡ (agent_read_served self.old.auto self.old.agent (agent_line_seen line)).agent) }
-        ensures text { OnOk result (text.new.items
-            ≡ (agent_read_served self.old.auto self.old.agent (agent_line_seen line)).text) }
+        ensures options { OnOk result (self.new.options ≡ self.old.options) }
+        ensures agent { OnOk result (self.new.agent ≡ (agent_served_behind
+            (agent_line_front self.old.options.front (Ok (Some (agent_line_seen line))))
+            self.old.options.auto self.old.agent (Ok (Some (agent_line_seen line)))).agent) }
+        ensures text { OnOk result (text.new.items ≡ (agent_served_behind
+            (agent_line_front self.old.options.front (Ok (Some (agent_line_seen line))))
+            self.old.options.auto self.old.agent (Ok (Some (agent_line_seen line)))).text) }
     {
         match line {
-            AgentLine::Packet(bytes) => self.receive(&bytes, text),
+            AgentLine::Packet(bytes) => self.take_packet(&bytes, text),
             AgentLine::Ticks(count) => self.tick(count, text),
             AgentLine::Call(step) => self.call(&step, text),
             AgentLine::Restart => self.restart(text),
@@ -110,10 +114,27 @@ impl<'p> AgentFilter<'p> {
         }
     }
 
-    /// A packet arrives.
+    /// A packet arrives at the front, or at the node if the front has no answer.
+    fn take_packet(&mut self, bytes: &[u8], text: &mut Vec<u8>) -> Result<(), AllocError>
+        requires { text.old.items ≡ [] }
+        ensures options { OnOk result (self.new.options ≡ self.old.options) }
+        ensures agent { OnOk result (self.new.agent ≡ (agent_served_behind
+            (answer_in_front self.old.options.front bytes.now) self.old.options.auto self.old.agent
+            (Ok (Some (AgentLineOf.Packet bytes.now)))).agent) }
+        ensures text { OnOk result (text.new.items ≡ (agent_served_behind
+            (answer_in_front self.old.options.front bytes.now) self.old.options.auto self.old.agent
+            (Ok (Some (AgentLineOf.Packet bytes.now)))).text) }
+    {
+        match front_answer(self.options.front, bytes) {
+            Some(answer) => push_answer(self.alloc, text, answer.as_slice()),
+            None => self.receive(bytes, text),
+        }
+    }
+
+    /// A packet arrives at the node.
     fn receive(&mut self, bytes: &[u8], text: &mut Vec<u8>) -> Result<(), AllocError>
         requires { text.old.items ≡ [] }
-        ensures auto { OnOk result (self.new.auto ≡ self.old.auto) }
+        ensures options { OnOk result (self.new.options ≡ self.old.options) }
         ensures agent { OnOk result (self.new.agent ≡ (agent_called self.old.agent
             (AgentCall.Receives self.old.agent.now bytes.now)).agent) }
         ensures text { OnOk result (text.new.items ≡ (agent_called self.old.agent
@@ -134,16 +155,16 @@ impl<'p> AgentFilter<'p> {
     /// A number of ticks. They are refused together if the clock would pass its last unit.
     fn tick(&mut self, count: u64, text: &mut Vec<u8>) -> Result<(), AllocError>
         requires { text.old.items ≡ [] }
-        ensures auto { OnOk result (self.new.auto ≡ self.old.auto) }
-        ensures agent { OnOk result (self.new.agent ≡ (agent_ticks_served self.old.auto count self.old.agent).agent) }
-        ensures text { OnOk result (text.new.items ≡ (agent_ticks_served self.old.auto count self.old.agent).text) }
+        ensures options { OnOk result (self.new.options ≡ self.old.options) }
+        ensures agent { OnOk result (self.new.agent ≡ (agent_ticks_served self.old.options.auto count self.old.agent).agent) }
+        ensures text { OnOk result (text.new.items ≡ (agent_ticks_served self.old.options.auto count self.old.agent).text) }
     {
         if count > u64::from(u32::MAX - self.agent.now()) {
             return push_refused(text, LineRefusal::ClockEnd);
         }
         clear(&mut self.outbox);
         for _taken in 0..count {
-            self.agent.turn(self.auto, &mut self.outbox);
+            self.agent.turn(self.options.auto, &mut self.outbox);
             match push_counted(self.alloc, text, &mut self.agent, &mut self.outbox) {
                 Ok(()) => {}
                 Err(error) => return Err(error),
@@ -155,7 +176,7 @@ impl<'p> AgentFilter<'p> {
     /// The node restarts.
     fn restart(&mut self, text: &mut Vec<u8>) -> Result<(), AllocError>
         requires { text.old.items ≡ [] }
-        ensures auto { OnOk result (self.new.auto ≡ self.old.auto) }
+        ensures options { OnOk result (self.new.options ≡ self.old.options) }
         ensures agent { OnOk result (self.new.agent ≡ (agent_called self.old.agent AgentCall.Restarts).agent) }
         ensures text { OnOk result (text.new.items ≡ (agent_called self.old.agent AgentCall.Restarts).text) }
     {
@@ -166,7 +187,7 @@ impl<'p> AgentFilter<'p> {
     /// A call of the operator.
     fn call(&mut self, step: &Step, text: &mut Vec<u8>) -> Result<(), AllocError>
         requires { text.old.items ≡ [] }
-        ensures auto { OnOk result (self.new.auto ≡ self.old.auto) }
+        ensures options { OnOk result (self.new.options ≡ self.old.options) }
         ensures agent { OnOk result (self.new.agent ≡ (agent_step_served self.old.agent step.now).agent) }
         ensures text { OnOk result (text.new.items ≡ (agent_step_served self.old.agent step.now).text) }
     {
@@ -188,7 +209,7 @@ impl<'p> AgentFilter<'p> {
     /// The operator starts an update.
     fn start(&mut self, device: u8, number: usize, text: &mut Vec<u8>) -> Result<(), AllocError>
         requires { text.old.items ≡ [] }
-        ensures auto { OnOk result (self.new.auto ≡ self.old.auto) }
+        ensures options { OnOk result (self.new.options ≡ self.old.options) }
         ensures agent { OnOk result (self.new.agent ≡ (agent_step_served self.old.agent
             (Step.Start device number)).agent) }
         ensures text { OnOk result (text.new.items ≡ (agent_step_served self.old.agent
@@ -204,7 +225,7 @@ impl<'p> AgentFilter<'p> {
     /// A request to the event log.
     fn ask_log(&mut self, request: &[u8], text: &mut Vec<u8>) -> Result<(), AllocError>
         requires { text.old.items ≡ [] }
-        ensures auto { OnOk result (self.new.auto ≡ self.old.auto) }
+        ensures options { OnOk result (self.new.options ≡ self.old.options) }
         ensures agent { OnOk result (self.new.agent ≡ (log_asked self.old.agent request.now).agent) }
         ensures text { OnOk result (text.new.items ≡ (log_asked self.old.agent request.now).text) }
     {
@@ -219,7 +240,7 @@ impl<'p> AgentFilter<'p> {
     fn push_json(&self, text: &mut Vec<u8>) -> Result<(), AllocError>
         requires { text.old.items ≡ [] }
         ensures { OnOk result (text.new.items
-            ≡ (agent_read_served self.now.auto self.now.agent AgentLineOf.Reports).text) }
+            ≡ (agent_read_served self.now.options.auto self.now.agent AgentLineOf.Reports).text) }
     {
         let agent = &self.agent;
         let line = agent_json(

@@ -9,6 +9,7 @@ mod counts;
 mod device;
 mod device_filter;
 mod device_process;
+mod fronts;
 mod lines;
 mod noting;
 mod printing_laws;
@@ -21,6 +22,7 @@ pub use agent_process::AgentProcess;
 pub use device::ServedDevice;
 pub use device_filter::DeviceFilter;
 pub use device_process::DeviceProcess;
+pub use fronts::{FilterOptions, Front};
 pub use lines::{AgentLine, DeviceLine, read_agent_line, read_device_line};
 pub use printing_laws::parts_are_printed;
 pub use process_laws::{

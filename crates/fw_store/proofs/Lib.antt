@@ -1,3 +1,6 @@
+mod AgentBack
+mod AgentKeeping
+mod AgentLines
 mod Changes
 mod Decimals
 mod DiskCases

@@ -28,7 +28,7 @@ use Rattle.fw_store.proofs.EachLine.{mapped_id, read_more, with_front}
 abbrev AreDigits : List ℕ → Type 0
 AreDigits bytes = AllByRecursion (λ b. 46 < b) bytes
 
-none_of : (stop : ℕ) (bytes : List ℕ) → stop ≤ 46 → AreDigits bytes → HasNone stop bytes
+pub none_of : (stop : ℕ) (bytes : List ℕ) → stop ≤ 46 → AreDigits bytes → HasNone stop bytes
 none_of stop [] low are = tt
 none_of stop (b ∷ bytes) low are = let past = are.0 in (ne_eqb b stop (λ e. omega arith), none_of stop bytes low are.1)
 
@@ -80,7 +80,7 @@ digit_past c d h = grind (arith, nat_tests)
 past_digit : (d : ℕ) → d < 16 → 46 < slice_index upper_digits d
 past_digit d small = digit_past (slice_index upper_digits d) d (IsDigits-upper_digits d small)
 
-encoded : (bytes : List ℕ) → IsBytes bytes → AreDigits (encode_upper bytes)
+pub encoded : (bytes : List ℕ) → IsBytes bytes → AreDigits (encode_upper bytes)
 unfolding encode_with
 encoded [] h = tt
 encoded (b ∷ bytes) h =
@@ -95,7 +95,7 @@ no_dash : (b : ℕ) (bytes : List ℕ) → bytes_eq (encode_upper (b ∷ bytes))
 unfolding encode_with
 no_dash b bytes = and_right _ _ refl
 
-sized : (bytes : List ℕ) → IsBytes bytes → decode_sized (encode_upper bytes) (length bytes) ≡ Ok bytes
+pub sized : (bytes : List ℕ) → IsBytes bytes → decode_sized (encode_upper bytes) (length bytes) ≡ Ok bytes
 sized bytes h = decode_sized-twice (encode_upper bytes) (length bytes) (length-encode_with upper_digits bytes) ∙ decode_of-encode_upper bytes h
 
 half : (bytes : List ℕ) → length (encode_upper bytes) / 2 ≡ length bytes
@@ -153,7 +153,7 @@ behind_key e rest = decimal e.label.stamp ++ 32 ∷ (decimal e.label.text_type +
 abbrev apart : ImageEntryOf → List ℕ → List ℕ
 apart e rest = decimal e.key.classification ++ 32 ∷ (decimal e.key.identifier ++ 32 ∷ behind_key e rest)
 
-four_apart : (a b c d rest : List ℕ) → (a ++ b ++ c ++ d) ++ rest ≡ a ++ (b ++ (c ++ (d ++ rest)))
+pub four_apart : (a b c d rest : List ℕ) → (a ++ b ++ c ++ d) ++ rest ≡ a ++ (b ++ (c ++ (d ++ rest)))
 four_apart a b c d rest = append_assoc (a ++ b ++ c) d rest ∙ append_assoc (a ++ b) c (d ++ rest) ∙ append_assoc a b (c ++ (d ++ rest))
 
 eight_apart : (a b c d x y z w rest : List ℕ) → (a ++ b ++ c ++ d ++ x ++ y ++ z ++ w) ++ rest ≡ a ++ (b ++ (c ++ (d ++ (x ++ (y ++ (z ++ (w ++ rest)))))))
@@ -199,7 +199,7 @@ entry_back e rest h = ap entry_at (line_apart e rest) ∙ apart_back e rest h
 
 -- ALL LINES
 
-some_text : (xs ys : List ℕ) (b : ℕ) → 0 < length (xs ++ b ∷ ys)
+pub some_text : (xs ys : List ℕ) (b : ℕ) → 0 < length (xs ++ b ∷ ys)
 some_text xs ys b = omega (arith, length-append xs (b ∷ ys))
 
 some_line : (e : ImageEntryOf) → 0 < length (line_of e)
@@ -219,7 +219,7 @@ entries_back (e ∷ es) (suc most) are enough =
     ∙ ap (λ o. with_front (e ∷ []) o) (entries_back es most are.1 (omega arith))
 
 -- the lines before the last one
-front_back : (lines : List ℕ) → lines_in (lines_with_checksum lines) ≡ lines
+pub front_back : (lines : List ℕ) → lines_in (lines_with_checksum lines) ≡ lines
 unfolding lines_with_checksum in_eight
 front_back lines =
     let end : List ℕ = encode_upper (four (crc_of lines)) ++ codes "\n" in

@@ -1,4 +1,6 @@
 pub mod Active
+pub mod AgentKeeping
+pub mod AgentText
 pub mod Changes
 pub mod DiskCases
 pub mod Folders

@@ -1,6 +1,7 @@
 //! Laws of kept images.
 
 ghost use Rattle.fw_store.specs.Active.{NothingElseIsRead, WhatIsWrittenIsRead};
+ghost use Rattle.fw_store.specs.AgentText.{AgentTextIsRead, NoOtherAgentTextIsRead};
 ghost use Rattle.fw_store.specs.DiskCases.{RenamingsAreJudged};
 ghost use Rattle.fw_store.specs.Folders.{WhatIsKeptIsFound};
 
@@ -24,4 +25,15 @@ pub fn what_is_kept_is_found()
 /// disk.
 pub fn renamings_are_judged()
     ensures { RenamingsAreJudged }
+{}
+
+/// The text of what an agent keeps reads back as exactly its lines, if their numbers have their
+/// widths.
+pub fn agent_text_reads_back()
+    ensures { AgentTextIsRead }
+{}
+
+/// A text reads as lines of an agent only if it is their text, so every other text is refused.
+pub fn no_other_agent_text_reads()
+    ensures { NoOtherAgentTextIsRead }
 {}

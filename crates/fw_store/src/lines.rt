@@ -103,7 +103,7 @@ fn number_widths(key: Key, stamp: u32, kind: u8, number: u32, size: u32, checksu
 {}
 
 /// Proves that bytes have their width.
-fn byte_widths(bytes: &[u8])
+pub(crate) fn byte_widths(bytes: &[u8])
     ensures { (i : ℕ) → get_or bytes.now i 0 < 256 }
 {}
 

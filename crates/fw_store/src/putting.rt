@@ -60,7 +60,7 @@ fn write_images<F: Folder>(
 
 /// Writes the text of the lines, and renames it to `active`.
 #[tactic(auto, using(crate::proofs::Moments::putting))]
-fn put_text<F: Folder>(folder: &mut F, text: &[u8]) -> Result<(), RenameFault>
+pub(crate) fn put_text<F: Folder>(folder: &mut F, text: &[u8]) -> Result<(), RenameFault>
     ensures known { F.is_known folder.new ≡ F.is_known folder.old }
     ensures ok { OnOk result (F.is_known folder.old ≡ true
         → ReplacesActive text.now (F.files folder.old) (F.files folder.new) (F.moments folder.old)

@@ -14,7 +14,7 @@ use fwup_wire::Key;
 use std::alloc::{AllocError, Global};
 
 /// The number of bytes of the last line: eight digits and a line feed.
-const LAST_LINE: usize = 9;
+pub(crate) const LAST_LINE: usize = 9;
 
 /// Returns the place of the first such byte.
 fn place_of(text: &[u8], byte: u8) -> Option<usize>
@@ -25,7 +25,7 @@ fn place_of(text: &[u8], byte: u8) -> Option<usize>
 
 /// Returns the bytes before the first `stop` byte, and those after it.
 #[tactic(auto, using(crate::proofs::Fields::field_here, crate::proofs::Fields::field_nowhere))]
-fn field(text: &[u8], stop: u8) -> Option<(&[u8], &[u8])>
+pub(crate) fn field(text: &[u8], stop: u8) -> Option<(&[u8], &[u8])>
     ensures { option_map (λ f. (f.0.now, f.1.now)) result ≡ field_at stop text.now }
 {
     match place_of(text, stop) {
@@ -35,7 +35,7 @@ fn field(text: &[u8], stop: u8) -> Option<(&[u8], &[u8])>
 }
 
 /// Returns the decimal number of the digits, if they are digits and it fits.
-fn digits(word: &[u8]) -> Option<u64>
+pub(crate) fn digits(word: &[u8]) -> Option<u64>
     ensures { result ≡ (if list_all is_ascii_digit word.now
         && nat_lt (digits_value 10 word.now) (2 ^ 64)
         then Some (digits_value 10 word.now)
@@ -65,7 +65,7 @@ fn number_of(word: &[u8], most: u32) -> Option<u32>
 
 /// Returns a decimal number of at most `most` before the byte `stop`, and the bytes after it.
 #[tactic(auto, unfolding(crate::specs::Active::number_at))]
-fn number(text: &[u8], stop: u8, most: u32) -> Option<(u32, &[u8])>
+pub(crate) fn number(text: &[u8], stop: u8, most: u32) -> Option<(u32, &[u8])>
     ensures value { option_map (λ f. (f.0, f.1.now)) result ≡ number_at stop most text.now }
     ensures within { IfSome result (λ f. f.0 ≤ most) }
 {

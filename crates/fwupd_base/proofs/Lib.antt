@@ -1,5 +1,6 @@
 mod Answering
 mod Digits
+mod SerialLines
 mod Servers
 mod Streams
 mod Uses

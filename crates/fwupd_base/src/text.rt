@@ -27,7 +27,7 @@ const DROP: &[u8] = b"drop ";
 ///
 /// # Errors
 /// The digits are malformed.
-fn decode_digits(digits: &[u8], bytes: &mut Vec<u8>) -> Result<(), FromHexError>
+pub(crate) fn decode_digits(digits: &[u8], bytes: &mut Vec<u8>) -> Result<(), FromHexError>
     requires room { length digits.now ≤ 2 * vec_capacity bytes.old }
     ensures value { result_map_both (λ _. bytes.new.items) (λ e. e) result ≡ decode_of digits.now }
     ensures capacity { vec_capacity bytes.old ≤ vec_capacity bytes.new }

@@ -94,7 +94,7 @@ one_stocked s d (y ∷ (z ∷ ys)) h = absurd h.1
 -- a device that was served, whose report is then written or not
 pub node_served : (r : Result (Prim.Unit {0}) JobFault) (job : DeviceAlone) (n : DeviceNodeOf) (first last : DeviceFilterOf) (end : ServedDeviceOf) (found : FoundOf) (left : LeftOf)
     → first ≡ device_filter job n → ServesAll ServesDeviceLine first last (streams_found found) (streams_left left)
-    → TakesSuch last.device (AreDue (due_verdict last.auto last.device)) end []
+    → TakesSuch last.device (AreDue (due_verdict last.options.auto last.device)) end []
     → OnOk r (found.is_known ≡ true → IfSome job.report (λ p. left.held p.now ≡ Some (device_report end)))
     → OnOk r (ServesNode job n found left)
 node_served (Ok u) job n first last end found left is served due reported = record {
@@ -225,7 +225,7 @@ filter_unkept (Err e) job first last end found left served is fault kept = recor
 
 -- the agent with its packages
 pub packages_served : (r : Result (Prim.Unit {0}) JobFault) (job : AgentAlone) (config : ConfigOf) (contents : List (List ℕ)) (packages : List PackageText) (first : AgentFilterOf) (found : FoundOf) (left : LeftOf)
-    → first ≡ agent_filter job (agent_made config packages) → map (λ p. Ok p) packages ≡ map package_of contents
+    → first ≡ agent_filter job config packages → map (λ p. Ok p) packages ≡ map package_of contents
     → OnOk r (ServesFilter job first found left) → OnOk r (ServesPackages job config contents found left)
 packages_served (Ok u) job config contents packages first found left is are serves = record {
   packages = packages;
@@ -235,7 +235,7 @@ packages_served (Ok u) job config contents packages first found left is are serv
 packages_served (Err e) job config contents packages first found left is are serves = tt
 
 pub packages_end : (r : Result (Prim.Unit {0}) JobFault) (job : AgentAlone) (config : ConfigOf) (contents : List (List ℕ)) (packages : List PackageText) (first : AgentFilterOf) (found : FoundOf) (left : LeftOf)
-    → first ≡ agent_filter job (agent_made config packages) → map (λ p. Ok p) packages ≡ map package_of contents
+    → first ≡ agent_filter job config packages → map (λ p. Ok p) packages ≡ map package_of contents
     → IfErr r (λ e. FilterEnds job first e found left) → IfErr r (λ e. PackagesEnd job config contents e found left)
 packages_end (Ok u) job config contents packages first found left is are ends = tt
 packages_end (Err e) job config contents packages first found left is are ends = inl (record {

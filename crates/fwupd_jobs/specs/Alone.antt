@@ -1,6 +1,6 @@
 -- A device or the agent of a configuration by itself: the node before its first packet, what its
 -- lines print, and what is left at the end of the input.
-use Rattle.std.specs.Prelude.{ℕ, ◌≡◌, ◌⊎◌, ◌==◌, true, List, [], ◌∷◌, IfSome, IsSome, IsSomeAnd, None, Ok, Option, Some, map, option_map, slice_get}
+use Rattle.std.specs.Prelude.{ℕ, ◌≡◌, ◌⊎◌, ◌==◌, Bool, true, false, List, [], ◌∷◌, IfSome, IsSome, IsSomeAnd, None, Ok, Option, Some, map, option_map, slice_get}
 use Rattle.std.specs.List.{AllByRecursion, position}
 use Rattle.fw_node.specs.Nodes.{DeviceNodeOf}
 use Rattle.fw_package.specs.Package.{PackageText}
@@ -9,6 +9,8 @@ use Rattle.fw_script.specs.Configs.{ConfigOf, DeviceConfigOf, config_of}
 use Rattle.fw_script.specs.Seen.{device_of}
 use Rattle.fw_serve.specs.Agents.{AgentFilterOf, ServedAgentOf, ServesAgentLine, agent_report, new_served_agent, turn_ended}
 use Rattle.fw_serve.specs.Serving.{AreDue, DeviceFilterOf, ServedDeviceOf, ServesDeviceLine, TakesSuch, device_report, due_verdict}
+use Rattle.fw_serve.specs.declared.fronts.Front.{Front}
+use Rattle.mctp_ctl.specs.declared.answers.Endpoint.{Endpoint}
 use Rattle.fw_setup.specs.Nodes.{node_made}
 use Rattle.fw_trace.specs.Records.{records_bytes}
 use Rattle.fwupd_jobs.specs.declared.alone.DeviceSetup.{DeviceSetup}
@@ -55,16 +57,25 @@ IsOnly devices eid only = IsSomeAnd (place_named devices eid) (λ place. IsSomeA
 abbrev pub LacksDevice : List DeviceConfigOf → (eid : ℕ) → Type 0
 LacksDevice devices eid = place_named devices eid ≡ None
 
+-- the front of a node with this endpoint, if it is open
+abbrev pub front_if : (is_open : Bool) → «Unit» → Endpoint → Option Front
+front_if true u endpoint = Some (record { unit = u; endpoint = endpoint })
+front_if false u endpoint = None
+
 -- the server of a device before its first line
 abbrev pub device_filter : DeviceAlone → DeviceNodeOf → DeviceFilterOf
-device_filter job n = record { auto = job.is_automatic; device = record { node = n; history = [] } }
+device_filter job n =
+    record {
+      options = record { auto = job.is_automatic; front = front_if job.is_open n.half.unit n.endpoint };
+      device = record { node = n; history = [] };
+    }
 
 -- A device is served to the end of the input, and then its report is written, if it is requested.
 pub record ServesNode (job : DeviceAlone) (n : DeviceNodeOf) (found : FoundOf) (left : LeftOf) : Type 0 where
   pub last : DeviceFilterOf
   pub end : ServedDeviceOf
   pub served : ServesAll ServesDeviceLine (device_filter job n) last (streams_found found) (streams_left left)
-  pub due : TakesSuch last.device (AreDue (due_verdict last.auto last.device)) end []
+  pub due : TakesSuch last.device (AreDue (due_verdict last.options.auto last.device)) end []
   pub reported : found.is_known ≡ true → IfSome job.report (λ p. left.held p.now ≡ Some (device_report end))
 
 -- A device isn't served to the end of the input, for this fault of reading or writing.
@@ -165,12 +176,16 @@ abbrev pub agent_made : ConfigOf → List PackageText → ServedAgentOf
 agent_made config packages = new_served_agent config.unit config.agent (map (λ d. d.endpoint.eid) config.devices) packages
 
 -- the server of the agent before its first line
-abbrev pub agent_filter : AgentAlone → ServedAgentOf → AgentFilterOf
-agent_filter job agent = record { auto = job.is_automatic; agent = agent }
+abbrev pub agent_filter : AgentAlone → ConfigOf → List PackageText → AgentFilterOf
+agent_filter job config packages =
+    record {
+      options = record { auto = job.is_automatic; front = front_if job.is_open config.unit config.agent };
+      agent = agent_made config packages;
+    }
 
 -- the agent at the end of the input
 abbrev pub agent_end : AgentFilterOf → ServedAgentOf
-agent_end last = turn_ended last.auto last.agent
+agent_end last = turn_ended last.options.auto last.agent
 
 -- The agent is served to the end of the input, and then the records of its event log and its report
 -- are written, if they are requested.
@@ -198,13 +213,13 @@ pub record FilterEnds (job : AgentAlone) (first : AgentFilterOf) (told : JobFaul
 pub record ServesPackages (job : AgentAlone) (config : ConfigOf) (contents : List (List ℕ)) (found : FoundOf) (left : LeftOf) : Type 0 where
   pub packages : List PackageText
   pub are : map (λ p. Ok p) packages ≡ map package_of contents
-  pub serves : ServesFilter job (agent_filter job (agent_made config packages)) found left
+  pub serves : ServesFilter job (agent_filter job config packages) found left
 
 -- Its serving ends with a fault.
 pub record BreaksPackages (job : AgentAlone) (config : ConfigOf) (contents : List (List ℕ)) (told : JobFault) (found : FoundOf) (left : LeftOf) : Type 0 where
   pub packages : List PackageText
   pub are : map (λ p. Ok p) packages ≡ map package_of contents
-  pub ends : FilterEnds job (agent_filter job (agent_made config packages)) told found left
+  pub ends : FilterEnds job (agent_filter job config packages) told found left
 
 -- Or memory was refused before.
 abbrev pub PackagesEnd : AgentAlone → ConfigOf → (contents : List (List ℕ)) → JobFault → FoundOf → LeftOf → Type 0
@@ -229,7 +244,7 @@ pub record ServesAgent (job : AgentAlone) (found : FoundOf) (left : LeftOf) : Ty
   pub apart : AreOutputsApart job found.files config.packages
   pub packages : List PackageText
   pub are : ArePackages found.files config.packages packages
-  pub serves : ServesFilter job (agent_filter job (agent_made config packages)) found left
+  pub serves : ServesFilter job (agent_filter job config packages) found left
 
 -- Its serving ends with a fault.
 pub record BreaksAgent (job : AgentAlone) (told : JobFault) (found : FoundOf) (left : LeftOf) : Type 0 where
@@ -238,7 +253,7 @@ pub record BreaksAgent (job : AgentAlone) (told : JobFault) (found : FoundOf) (l
   pub apart : AreOutputsApart job found.files config.packages
   pub packages : List PackageText
   pub are : ArePackages found.files config.packages packages
-  pub ends : FilterEnds job (agent_filter job (agent_made config packages)) told found left
+  pub ends : FilterEnds job (agent_filter job config packages) told found left
 
 -- The records or the report would overwrite a file that is read.
 pub record OverwritesInput (job : AgentAlone) (told : JobFault) (files : List ℕ → FileOf) : Type 0 where

@@ -1,7 +1,8 @@
 -- The result of each job that arguments request.
 use Rattle.std.specs.Prelude.{ℕ, ◌≡◌, ◌⊎◌, true, false, List, None, Option, option_map}
 use Rattle.fwupd_watch.specs.Answering.{AnswerEnds, AnswersAll}
-use Rattle.fwupd_jobs.specs.Alone.{AgentEnds, DeviceEnds, ServesAgent, ServesDevice}
+use Rattle.fwupd_jobs.specs.Alone.{AgentEnds, DeviceEnds, ServesAgent, ServesDevice, streams_found, streams_left}
+use Rattle.fwupd_jobs.specs.Answered.{AnswersSerial, SerialEnds}
 use Rattle.fwupd_jobs.specs.Built.{BuildEnds, Builds}
 use Rattle.fwupd_jobs.specs.Checked.{CheckedEnds, ReportsChecked}
 use Rattle.fwupd_jobs.specs.Decoded.{DecodeEnds, Decodes}
@@ -23,6 +24,7 @@ use Rattle.fwupd_watch.specs.declared.faults.JobFault.{JobFault}
 -- A job is done: its output is written.
 abbrev pub IsDone : Job → FoundOf → LeftOf → Type 0
 IsDone (jobs.Answer endpoint) h l = AnswersAll endpoint h.input l.input h.output l.output
+IsDone (jobs.AnswerSerial endpoint) h l = AnswersSerial endpoint (streams_found h) (streams_left l)
 IsDone (jobs.Inspect path form) h l = Inspects (h.files path.now) form h.output l.output
 IsDone (jobs.Replay r) h l =
     ReportsReplay h.files (source_of h.stores (option_map (λ p. p.now) r.show.store) r.config.now) r.schedule.now (show_of r.show) l.watched h.output l.output
@@ -41,6 +43,7 @@ IsDone (jobs.Plan config number form) h l = Plans h.files config.now number form
 -- The result of a job that isn't done.
 abbrev pub JobEnds : Job → JobFault → FoundOf → LeftOf → Type 0
 JobEnds (jobs.Answer endpoint) told h l = AnswerEnds endpoint h.input l.input told h.output l.output
+JobEnds (jobs.AnswerSerial endpoint) told h l = SerialEnds endpoint told (streams_found h) (streams_left l)
 JobEnds (jobs.Inspect path form) told h l = InspectEnds h.files path.now form told h.output l.output
 JobEnds (jobs.Replay r) told h l =
     ReplayEnds h.files (source_of h.stores (option_map (λ p. p.now) r.show.store) r.config.now) r.schedule.now (show_of r.show) h.refuses told l.watched h.output l.output

@@ -1,4 +1,5 @@
 pub mod Alone
+pub mod Answered
 pub mod Built
 pub mod Checked
 pub mod ClueLines

@@ -27,7 +27,7 @@ use Rattle.fwupd_words.specs.declared.processes.DeviceProcess.{DeviceProcess}
 
 -- the same device by itself, without a report
 abbrev pub device_alone : DeviceProcess → DeviceAlone
-device_alone job = record { config = job.config; eid = job.eid; store = job.store; report = None; is_automatic = true }
+device_alone job = record { config = job.config; eid = job.eid; store = job.store; report = None; is_automatic = true; is_open = job.serving.is_open }
 
 -- A device's node is a process of its own: it begins with a restart, in the unit that the clock
 -- shows, and serves rounds.

@@ -10,7 +10,7 @@ ghost use Rattle.fw_serve.specs.Agents.{agent_report};
 ghost use Rattle.fw_serve.specs.Serving.{device_report};
 ghost use Rattle.fw_setup.specs.Stocks.{stores_in};
 ghost use Rattle.fw_trace.specs.Records.{records_bytes};
-ghost use Rattle.fwupd_jobs.specs.Alone.{AgentEnds, AreOutputsApart, DeviceEnds, DeviceSetupFails, FilterEnds, IsDeviceSetup, IsOnly, IsOutputOver, LacksDevice, NodeEnds, PackagesEnd, ServesAgent, ServesDevice, ServesFilter, ServesNode, ServesPackages, ServesSetup, SetupEnds, device_setup_seen, place_named};
+ghost use Rattle.fwupd_jobs.specs.Alone.{AgentEnds, AreOutputsApart, DeviceEnds, DeviceSetupFails, FilterEnds, IsDeviceSetup, IsOnly, IsOutputOver, LacksDevice, NodeEnds, PackagesEnd, ServesAgent, ServesDevice, ServesFilter, ServesNode, ServesPackages, ServesSetup, SetupEnds, device_setup_seen, front_if, place_named};
 ghost use Rattle.fwupd_jobs.specs.Hosts.{FoundOf, LeftOf};
 
 use crate::host::{Host, Parts};
@@ -18,11 +18,12 @@ use crate::setups::{configuration, open_kept, package_files, packages_in};
 use fd_core::Bank;
 use fw_node::DeviceNode;
 use fw_script::{Config, DeviceConfig};
-use fw_serve::{AgentFilter, DeviceFilter};
+use fw_serve::{AgentFilter, DeviceFilter, FilterOptions, Front};
 use fw_setup::{MemBanks, device_node};
 use fw_trace::log_bytes;
 use fwupd_watch::{Files, JobFault, OutputPlaces, is_over_read, write_file};
 use fwupd_words::{AgentAlone, DeviceAlone};
+use mctp_ctl::Endpoint;
 use mctp_wire::Unit;
 use std::alloc::Global;
 use std::io::Write;
@@ -96,15 +97,28 @@ fn keep_device<B: Bank + Drop, W: Write + Drop, P: OutputPlaces<W>>(
     }
 }
 
+/// The front of a node with this endpoint, if it is open.
+fn front_if(is_open: bool, unit: Unit, endpoint: Endpoint) -> Option<Front>
+    ensures { result ≡ front_if is_open unit endpoint }
+{
+    if is_open {
+        Some(Front { unit, endpoint })
+    } else {
+        None
+    }
+}
+
 /// Serves the node of a device to the end of the input, and then writes its report, if it is
 /// requested.
 fn serve_node<B: Bank + Drop, H: Parts>(
     alloc: Global,
     job: DeviceAlone<'_>,
     node: DeviceNode<B>,
+    front: Option<Front>,
     host: &mut Host<H>,
 ) -> Result<(), JobFault>
-    requires { HasComponents node.half.core.device }
+    requires device { HasComponents node.half.core.device }
+    requires front { front ≡ front_if job.is_open node.half.unit node.endpoint }
     ensures ok { OnOk result (ServesNode job.entry node (record {
       files = H.Files.holds host.old.files;
       stores = stores_in (H.Stores.is_known host.old.stores) (H.Stores.files host.old.stores);
@@ -137,7 +151,11 @@ fn serve_node<B: Bank + Drop, H: Parts>(
     })) }
     ensures untouched { host.new.watch ≡ host.old.watch }
 {
-    let Ok(mut filter) = DeviceFilter::new(alloc, node, job.is_automatic) else {
+    let options = FilterOptions {
+        auto: job.is_automatic,
+        front,
+    };
+    let Ok(mut filter) = DeviceFilter::new(alloc, node, options) else {
         return Err(JobFault::Memory);
     };
     match host.output.serve(alloc, &mut host.input, &mut filter) {
@@ -237,16 +255,12 @@ fn serve_configured<H: Parts>(
     })) }
     ensures untouched { host.new.watch ≡ host.old.watch }
 {
-    let Ok(node) = device_node(
-        alloc,
-        setup.unit,
-        setup.agent,
-        &setup.only[0],
-        &mut MemBanks,
-    ) else {
+    let device = &setup.only[0];
+    let front = front_if(job.is_open, setup.unit, device.endpoint);
+    let Ok(node) = device_node(alloc, setup.unit, setup.agent, device, &mut MemBanks) else {
         return Err(JobFault::Memory);
     };
-    serve_node(alloc, job, node, host)
+    serve_node(alloc, job, node, front, host)
 }
 
 /// Serves a device with the images in its store.
@@ -301,11 +315,13 @@ fn serve_stored<H: Parts>(
         Ok(banks) => banks,
         Err(fault) => return Err(fault),
     };
+    let device = &only[0];
+    let front = front_if(job.is_open, unit, device.endpoint);
     // The store was opened for its device, so a bank is only missing for lack of memory.
-    let Ok(node) = device_node(alloc, unit, agent, &only[0], &mut banks) else {
+    let Ok(node) = device_node(alloc, unit, agent, device, &mut banks) else {
         return Err(JobFault::Memory);
     };
-    serve_node(alloc, job, node, host)
+    serve_node(alloc, job, node, front, host)
 }
 
 /// Serves a device of the configuration in a file by itself: each line of the input is a call of
@@ -521,13 +537,17 @@ fn serve_packages<H: Parts>(
         Ok(eids) => eids,
         Err(fault) => return Err(fault),
     };
+    let options = FilterOptions {
+        auto: job.is_automatic,
+        front: front_if(job.is_open, config.unit, config.agent),
+    };
     let Ok(filter) = AgentFilter::new(
         alloc,
         config.unit,
         config.agent,
         eids.as_slice(),
         packages.as_slice(),
-        job.is_automatic,
+        options,
     ) else {
         return Err(JobFault::Memory);
     };

@@ -160,6 +160,7 @@ pub fn run_device<H: Parts>(
         store: job.store,
         report: None,
         is_automatic: true,
+        is_open: job.serving.is_open,
     };
     let setup = match device_setup(alloc, &host.files, alone) {
         Ok(setup) => setup,

@@ -8,6 +8,7 @@ ghost use Rattle.fwupd_watch.specs.Running.{HasObserverFault};
 
 use crate::agent_serving::run_agent;
 use crate::alone::{agent_file, device_file};
+use crate::answering::answer_serial;
 use crate::building::build_file;
 use crate::checking::update_checked;
 use crate::decoding::decode_file;
@@ -25,9 +26,9 @@ use std::alloc::Global;
 /// Performs a job on a host.
 ///
 /// # Errors
-/// Those of the job: of `Output::answer`, `inspect_file`, `replay_files`, `update_checked`,
-/// `build_file`, `plan_file`, `soak_file`, `sel_file`, `device_file`, `agent_file`, `run_device`,
-/// `run_agent` or `decode_file`.
+/// Those of the job: of `Output::answer`, `answer_serial`, `inspect_file`, `replay_files`,
+/// `update_checked`, `build_file`, `plan_file`, `soak_file`, `sel_file`, `device_file`,
+/// `agent_file`, `run_device`, `run_agent` or `decode_file`.
 pub fn perform_job<H: Parts>(
     alloc: Global,
     job: &Job<'_>,
@@ -68,6 +69,9 @@ pub fn perform_job<H: Parts>(
 {
     match job {
         Job::Answer(endpoint) => host.output.answer(alloc, &mut host.input, endpoint),
+        Job::AnswerSerial(endpoint) => {
+            answer_serial(alloc, &mut host.input, *endpoint, &mut host.output)
+        }
         Job::Inspect { package, form } => {
             inspect_file(alloc, &host.files, package, *form, &mut host.output)
         }

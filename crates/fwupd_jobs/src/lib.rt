@@ -4,6 +4,7 @@
 
 mod agent_serving;
 mod alone;
+mod answering;
 mod building;
 mod checking;
 mod clue_lines;
@@ -35,6 +36,7 @@ mod write_behind;
 
 pub use agent_serving::run_agent;
 pub use alone::{agent_file, device_file};
+pub use answering::answer_serial;
 pub use building::build_file;
 pub use checking::update_checked;
 pub use decoding::decode_file;

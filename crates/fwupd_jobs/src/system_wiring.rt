@@ -4,11 +4,23 @@ use crate::sockets::{explain_socket, socket_path};
 use crate::wiring::{Joined, Network, Wiring};
 use fwupd_watch::JobFault;
 use fwupd_wires::{
-    AgentSockets, AgentWire, DeviceSockets, DeviceWire, MachineClock, Port, SerialLine,
+    AgentSockets, AgentWire, DeviceSockets, DeviceWire, Front, FrontedLine, MachineClock, Port,
+    SerialLine,
 };
 use fwupd_words::{DeviceProcess, Serving, Wire};
 use std::alloc::Global;
 use std::io::{self, IsTerminal};
+
+/// The front of a node over sockets, if it is requested.
+fn front(network: Network, serving: Serving<'_>) -> Option<Front> {
+    if !serving.is_open {
+        return None;
+    }
+    Some(Front {
+        network: network.unit,
+        endpoint: network.endpoint,
+    })
+}
 
 /// The system's sockets and serial lines, and its clock.
 #[derive(Drop)]
@@ -89,7 +101,10 @@ impl<'a> Wiring for SystemWiring<'a> {
         job: &DeviceProcess<'_>,
     ) -> Result<Joined<Self::Device, Self::Clock>, JobFault> {
         let line = match job.serving.wire {
-            Wire::Sockets(folder) => DeviceWire::Sockets(self.listen(folder, job)?),
+            Wire::Sockets(folder) => {
+                let sockets = self.listen(folder, job)?;
+                DeviceWire::Sockets(FrontedLine::new(sockets, front(network, job.serving)))
+            }
             Wire::Tty(path) => DeviceWire::Serial(self.open(alloc, path, network)?),
         };
         Ok(Joined {
@@ -107,7 +122,9 @@ impl<'a> Wiring for SystemWiring<'a> {
     ) -> Result<Joined<Self::Agent, Self::Clock>, JobFault> {
         let line = match serving.wire {
             Wire::Sockets(folder) => match AgentSockets::new(self.rt, alloc, folder, eids) {
-                Ok(sockets) => AgentWire::Sockets(sockets),
+                Ok(sockets) => {
+                    AgentWire::Sockets(FrontedLine::new(sockets, front(network, serving)))
+                }
                 Err(_) => return Err(JobFault::Memory),
             },
             Wire::Tty(path) => AgentWire::Serial(self.open(alloc, path, network)?),

@@ -1,2 +1,3 @@
 -- The definitions.
+pub mod Fronts
 pub mod Serial

@@ -5,6 +5,7 @@
 mod agent_sockets;
 mod connection;
 mod device_sockets;
+mod fronted_line;
 mod machine_clock;
 mod port;
 mod serial_line;
@@ -12,6 +13,7 @@ mod wires;
 
 pub use agent_sockets::AgentSockets;
 pub use device_sockets::DeviceSockets;
+pub use fronted_line::{Front, FrontedLine};
 pub use machine_clock::MachineClock;
 pub use port::Port;
 pub use serial_line::SerialLine;

@@ -2,6 +2,7 @@
 
 use crate::agent_sockets::AgentSockets;
 use crate::device_sockets::DeviceSockets;
+use crate::fronted_line::FrontedLine;
 use crate::port::Port;
 use crate::serial_line::SerialLine;
 use fw_process::Line;
@@ -11,7 +12,7 @@ use mctp_wire::RawPacket;
 #[derive(Drop)]
 pub enum DeviceWire {
     /// A socket to which the agent connects.
-    Sockets(DeviceSockets),
+    Sockets(FrontedLine<DeviceSockets>),
     /// A serial line.
     Serial(SerialLine<Port>),
 }
@@ -43,7 +44,7 @@ impl Line for DeviceWire {
 #[derive(Drop)]
 pub enum AgentWire<'a> {
     /// The sockets of the devices.
-    Sockets(AgentSockets<'a>),
+    Sockets(FrontedLine<AgentSockets<'a>>),
     /// A serial line.
     Serial(SerialLine<Port>),
 }

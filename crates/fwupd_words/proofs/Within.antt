@@ -10,8 +10,9 @@ use Rattle.fwupd_words.specs.CommandLine.{Forms, agent, answer, device, number_b
 use Rattle.fwupd_words.specs.Reading.{IsNoByte, HasAllowedRoughness, HasAllowedTicks, IsWithinBounds}
 use Rattle.fwupd_words.specs.Jobs.{AsksForJob}
 use Rattle.fwupd_words.specs.Processes.{AsksServing, usual_tick}
-use Rattle.fwupd_words.specs.Words.{AsksNumber, AsksOrder, AsksRoughness, AsksSmall, AsksSoak, given_by}
+use Rattle.fwupd_words.specs.Words.{AsksEndpoint, AsksNumber, AsksOrder, AsksRoughness, AsksSmall, AsksSoak, given_by}
 use Rattle.fwupd_base.specs.declared.roughness.Roughness.{Roughness}
+use Rattle.mctp_ctl.specs.declared.answers.Endpoint.{Endpoint}
 use Rattle.fwupd_words.specs.declared.asked.Order.{Order}
 use Rattle.fwupd_words.specs.declared.asked.SoakOrder.{SoakOrder}
 use Rattle.fwupd_words.specs.declared.asked.Job.{Job}
@@ -36,12 +37,14 @@ answering_usual : AllUsual (building answer).rules (building answer).rules
 answering_usual =
     set_usual _ _ refl refl refl (inl refl)
     also set_usual _ _ refl refl refl (inr (_, refl))
+    also flag_usual _ _ _ refl refl refl refl (inr (_, refl))
     also help_usual _ _ refl refl refl refl
     also tt
 
 device_usual : AllUsual (building device).rules (building device).rules
 device_usual =
     flag_usual _ _ _ refl refl refl refl (inr (_, refl))
+    also flag_usual _ _ _ refl refl refl refl (inr (_, refl))
     also set_usual _ _ refl refl refl (inl refl)
     also set_usual _ _ refl refl refl (inl refl)
     also set_usual _ _ refl refl refl (inl refl)
@@ -57,6 +60,7 @@ device_usual =
 agent_usual : AllUsual (building agent).rules (building agent).rules
 agent_usual =
     flag_usual _ _ _ refl refl refl refl (inr (_, refl))
+    also flag_usual _ _ _ refl refl refl refl (inr (_, refl))
     also set_usual _ _ refl refl refl (inl refl)
     also set_usual _ _ refl refl refl (inl refl)
     also set_usual _ _ refl refl refl (inl refl)
@@ -196,6 +200,16 @@ eid_is_read forms words name rows passed is named never =
     let at = number_at (building answer).rules rows (codes "EID") eid_rule 8 255 8 254 read.each refl has refl refl (omega arith) refl (omega arith) in
     never at.0 at.1 at.2.numeral at.2.fits
 
+-- the identifier of an endpoint is 8 to 254
+endpoint_within : (forms : Forms) (words : List Text) (name : Text) (rows : List Row) (endpoint : Endpoint) → fault_of (command_line forms) words ≡ []
+    → subcommand_of (command_line forms) words ≡ Some (name, rows) → name ≡ codes "answer" → AsksEndpoint (given_by rows) endpoint
+    → (8 ≤ endpoint.eid) × (endpoint.eid ≤ 254)
+endpoint_within forms words name rows endpoint passed is named asks =
+    let read = answer_read forms words name rows passed is named in
+    let has = given_has (codes "EID") rows (eid_given rows read.checked) in
+    number_under (building answer).rules rows (codes "EID") eid_rule 8 255 8 254 endpoint.eid read.each refl has refl refl (omega arith) refl (omega arith)
+    (λ text one _ _. asks.eid text one)
+
 device_given : (rows : List Row) → check_fault (building device) rows false ≡ [] → is_given (codes "EID") rows ≡ true
 device_given rows passed = go (is_given (codes "CONFIG") rows) (is_given (codes "EID") rows) refl refl
   where
@@ -261,11 +275,8 @@ ticks_within s rows serving read tick ticks asks =
 -- the numbers of a job of arguments without a fault
 pub is_within : (forms : Forms) (words : List Text) (name : Text) (rows : List Row) (job : Job) → fault_of (command_line forms) words ≡ []
     → subcommand_of (command_line forms) words ≡ Some (name, rows) → AsksForJob name (given_by rows) job → IsWithinBounds job
-is_within forms words name rows (jobs.Answer endpoint) passed is asks =
-    let read = answer_read forms words name rows passed is asks.0 in
-    let has = given_has (codes "EID") rows (eid_given rows read.checked) in
-    number_under (building answer).rules rows (codes "EID") eid_rule 8 255 8 254 endpoint.eid read.each refl has refl refl (omega arith) refl (omega arith)
-    (λ text one _ _. asks.1.eid text one)
+is_within forms words name rows (jobs.Answer endpoint) passed is asks = endpoint_within forms words name rows endpoint passed is asks.0 asks.1
+is_within forms words name rows (jobs.AnswerSerial endpoint) passed is asks = endpoint_within forms words name rows endpoint passed is asks.0 asks.1
 is_within forms words name rows (jobs.Plan config number form) passed is asks =
     let here = subst (λ n. subcommand_of (command_line forms) words ≡ Some (n, rows)) asks.0 is in
     let only : OnlyNamed (codes "plan") (building plan) (built (command_line forms)).subs =

@@ -75,11 +75,12 @@ roughness_rules =
     ∷ option_rule (codes "seed") (codes "0") any_number
     ∷ []
 
--- `fwupd answer [--uuid UUID] EID`
+-- `fwupd answer [--uuid UUID] [--serial] EID`
 abbrev pub answer_rules : List Rule
 answer_rules =
     record (word_rule (codes "EID")) { parser = Some (number_between 8 254) }
     ∷ record (text_option (codes "uuid")) { defaults = codes "00000000-0000-0000-0000-000000000000" ∷ [] }
+    ∷ flag_rule (codes "serial")
     ∷ []
 
 -- `fwupd inspect [--json] FILE`
@@ -151,11 +152,12 @@ process_rules =
 abbrev pub own_package_rule : Rule
 own_package_rule = record (text_option (codes "package")) { parser = Some (number_between 1 4294967295) }
 
--- `fwupd device [--auto] [--store STORE] [--report FILE] [--listen FOLDER] [--take-over] CONFIG
--- EID`, with the options of a process last
+-- `fwupd device [--auto] [--open] [--store STORE] [--report FILE] [--listen FOLDER] [--take-over]
+-- CONFIG EID`, with the options of a process last
 abbrev pub device_options : List Rule
 device_options =
     flag_rule (codes "auto")
+    ∷ flag_rule (codes "open")
     ∷ given_option (codes "store")
     ∷ text_option (codes "report")
     ∷ given_option (codes "listen")
@@ -167,11 +169,12 @@ device_options =
 abbrev pub device_rules : List Rule
 device_rules = device_options ++ process_rules
 
--- `fwupd agent [--auto] [--sel FILE] [--report FILE] [--connect FOLDER] [--package N] [--check]
--- [--json] CONFIG`, with the options of a process last
+-- `fwupd agent [--auto] [--open] [--sel FILE] [--report FILE] [--connect FOLDER] [--package N]
+-- [--check] [--json] CONFIG`, with the options of a process last
 abbrev pub agent_options : List Rule
 agent_options =
     flag_rule (codes "auto")
+    ∷ flag_rule (codes "open")
     ∷ text_option (codes "sel")
     ∷ text_option (codes "report")
     ∷ given_option (codes "connect")

@@ -1,13 +1,14 @@
 -- The job that a subcommand requests with its arguments.
-use Rattle.std.specs.Prelude.{ℕ, ◌≡◌, true, List, None, codes, option_map}
+use Rattle.std.specs.Prelude.{ℕ, ◌≡◌, true, false, List, None, codes, option_map}
 use Rattle.fwupd_words.specs.Processes.{AsksAgentProcess, AsksDeviceProcess, AsksWire, agent_clash, device_clash}
-use Rattle.fwupd_words.specs.Words.{AsksAgent, AsksDevice, AsksEndpoint, AsksForm, AsksKept, AsksNumber, AsksOrder, AsksShow, AsksSoak, AsksUnit, Given, text_under}
+use Rattle.fwupd_words.specs.Words.{AsksAgent, AsksDevice, AsksEndpoint, AsksFlag, AsksForm, AsksKept, AsksNumber, AsksOrder, AsksShow, AsksSoak, AsksUnit, Given, text_under}
 use Rattle.fwupd_words.specs.declared.asked.Job.{Job}
 use Rattle.fwupd_words.specs.declared.asked.Job.TheVariants as jobs
 
 -- The subcommand `name` with these arguments requests a job.
 abbrev pub AsksForJob : (name : List ℕ) → Given → Job → Type 0
-AsksForJob name words (jobs.Answer endpoint) = (name ≡ codes "answer") × AsksEndpoint words endpoint
+AsksForJob name words (jobs.Answer endpoint) = (name ≡ codes "answer") × AsksEndpoint words endpoint × AsksFlag words (codes "serial") false
+AsksForJob name words (jobs.AnswerSerial endpoint) = (name ≡ codes "answer") × AsksEndpoint words endpoint × AsksFlag words (codes "serial") true
 AsksForJob name words (jobs.Inspect path form) = (name ≡ codes "inspect") × (path.now ≡ text_under words (codes "FILE")) × AsksForm words form
 AsksForJob name words (jobs.Replay r) =
     (name ≡ codes "replay") × (r.config.now ≡ text_under words (codes "CONFIG")) × (r.schedule.now ≡ text_under words (codes "SCHEDULE")) × (r.show.is_quiet ≡ true) × (r.show.history ≡ None) × AsksKept words r.show

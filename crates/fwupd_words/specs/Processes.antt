@@ -68,6 +68,7 @@ usual_tick (wires.Tty path) = 50
 
 -- How the process of a node is served.
 pub record AsksServing (words : Given) (serving : Serving) : Type 0 where
+  pub opened : AsksFlag words (codes "open") serving.is_open
   pub tick : AsksNumberOr words (codes "tick") (usual_tick serving.wire) serving.tick
   pub ticks : AsksOptional words (codes "ticks") serving.ticks
 

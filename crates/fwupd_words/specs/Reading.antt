@@ -41,6 +41,7 @@ pub record HasAllowedTicks (serving : Serving) : Type 0 where
 -- The numbers of a job are within the bounds of the command line.
 abbrev pub IsWithinBounds : Job → Type 0
 IsWithinBounds (jobs.Answer endpoint) = (8 ≤ endpoint.eid) × (endpoint.eid ≤ 254)
+IsWithinBounds (jobs.AnswerSerial endpoint) = (8 ≤ endpoint.eid) × (endpoint.eid ≤ 254)
 IsWithinBounds (jobs.Device d) = (8 ≤ d.eid) × (d.eid ≤ 254)
 IsWithinBounds (jobs.DeviceProcess d) = (8 ≤ d.eid) × (d.eid ≤ 254) × HasAllowedTicks d.serving
 IsWithinBounds (jobs.AgentProcess a) = (1 ≤ a.number) × HasAllowedTicks a.serving

@@ -135,6 +135,7 @@ pub record AsksDevice (words : Given) (device : DeviceAlone) : Type 0 where
   pub config : device.config.now ≡ text_under words (codes "CONFIG")
   pub eid : AsksSmall words (codes "EID") device.eid
   pub automatic : AsksFlag words (codes "auto") device.is_automatic
+  pub opened : AsksFlag words (codes "open") device.is_open
   pub store : option_map (λ path. path.now) device.store ≡ words.first (codes "store")
   pub report : option_map (λ path. path.now) device.report ≡ words.first (codes "report")
 
@@ -142,5 +143,6 @@ pub record AsksDevice (words : Given) (device : DeviceAlone) : Type 0 where
 pub record AsksAgent (words : Given) (agent : AgentAlone) : Type 0 where
   pub config : agent.config.now ≡ text_under words (codes "CONFIG")
   pub automatic : AsksFlag words (codes "auto") agent.is_automatic
+  pub opened : AsksFlag words (codes "open") agent.is_open
   pub log : option_map (λ path. path.now) agent.log ≡ words.first (codes "sel")
   pub report : option_map (λ path. path.now) agent.report ≡ words.first (codes "report")

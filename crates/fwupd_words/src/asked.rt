@@ -10,6 +10,8 @@ use mctp_wire::Unit;
 pub enum Job<'a> {
     /// Answer packets as this endpoint, whose identifier is 8 to 254.
     Answer(Endpoint),
+    /// Answer packets in frames of a serial line as this endpoint, whose identifier is 8 to 254.
+    AnswerSerial(Endpoint),
     /// Inspect a package, and print in this format.
     Inspect {
         /// The path of the package.
@@ -107,6 +109,8 @@ pub struct DeviceAlone<'a> {
     pub eid: u8,
     /// Whether the verdict that the device waits for is given at the end of each turn.
     pub is_automatic: bool,
+    /// Whether what discovery requests is answered in front of the node.
+    pub is_open: bool,
     /// The folder of the devices' stores, if the device's images persist.
     pub store: Option<&'a str>,
     /// The file that the device's report is written to at the end, if any.
@@ -120,6 +124,8 @@ pub struct AgentAlone<'a> {
     pub config: &'a str,
     /// Whether each session that is ready has its device activate at the end of each turn.
     pub is_automatic: bool,
+    /// Whether what discovery requests is answered in front of the node.
+    pub is_open: bool,
     /// The file that the event log's records are written to at the end, if any.
     pub log: Option<&'a str>,
     /// The file that the agent's report is written to at the end, if any.

@@ -2,7 +2,7 @@
 
 ghost use Rattle.std.specs.Prelude.{◌≡◌, IfOk, codes, map, true};
 ghost use Rattle.clap.specs.Words.{app_of, rule_of};
-ghost use Rattle.fwupd_words.specs.CommandLine.{IsCommandLine, agent, agent_options, answer, are_simple, build, command_line, decode, device, device_options, inspect, is_plain, plan, program, replay, run, run_options, sel, soak, text_option, with_one, with_rules};
+ghost use Rattle.fwupd_words.specs.CommandLine.{IsCommandLine, agent, agent_options, answer, are_simple, build, command_line, decode, device, device_options, flag_rule, inspect, is_plain, plan, program, replay, run, run_options, sel, soak, text_option, with_one, with_rules};
 
 use crate::helps::{
     AGENT_HELP, ANSWER_HELP, BUILD_HELP, DECODE_HELP, DEVICE_HELP, INSPECT_HELP, PLAN_HELP,
@@ -38,14 +38,20 @@ fn answer_command<'a>(alloc: Global) -> Result<Command<'a>, AllocError>
     let args = vec![in alloc;
         eid.value_parser(value_parser!(u8).range(8..255)),
         uuid.default_value("00000000-0000-0000-0000-000000000000"),
+        flag(
+            alloc,
+            "serial",
+            "Reads and writes frames of a serial line in place of packets"
+        ),
     ]?;
     let command = Command::new(alloc, "answer")
         .about("Answers MCTP packets as an endpoint without a device")
         .long_about(
             "Answers MCTP packets as an endpoint without a device.\n\n\
-            Each line of standard input is one packet in hexadecimal digits. For each line, standard output gets\n\
-            one: the packet that answers it, in upper-case digits, or 'drop' and the cause. The answers to all\n\
-            whole lines are written before more input is awaited.",
+            Each line of standard input is one packet in hexadecimal digits. For each line,\n\
+            standard output gets one: the packet that answers it, in upper-case digits, or\n\
+            'drop' and the cause. The answers to all whole lines are written before more\n\
+            input is awaited.",
         )
         .after_long_help(ANSWER_HELP);
     with_args(command, args)
@@ -63,10 +69,10 @@ fn inspect_command<'a>(alloc: Global) -> Result<Command<'a>, AllocError>
         .about("Prints what a firmware update package holds")
         .long_about(
             "Prints what a firmware update package holds.\n\n\
-            It prints a line for the package, one for each record and each of its descriptors, and one for each\n\
-            component. Records and components are counted from 1. A byte of a text that isn't plain ASCII is\n\
-            printed as \\x and two digits. A file that isn't a package is refused with the first fault that\n\
-            holds.",
+            It prints a line for the package, one for each record and each of its\n\
+            descriptors, and one for each component. Records and components are counted from\n\
+            1. A byte of a text that isn't plain ASCII is printed as \\x and two digits. A\n\
+            file that isn't a package is refused with the first fault that holds.",
         )
         .after_long_help(INSPECT_HELP);
     with_args(command, args)
@@ -95,12 +101,12 @@ fn replay_command<'a>(alloc: Global, names: OptionNames<'a>) -> Result<Command<'
         schedule,
     ]?;
     let command = Command::new(alloc, "replay")
-        .about("Replays a schedule of packets, ticks and commands, and prints a report")
+        .about("Replays a schedule of packets, ticks and commands")
         .long_about(
-            "Replays a schedule of packets, ticks and commands on an update agent and its devices, and\n\
-            prints a report.\n\n\
-            A packet may be delivered at once, later, more than once or never, for 8 units after it was sent.\n\
-            The schedule says which packet is delivered when.",
+            "Replays a schedule of packets, ticks and commands on an update agent and its\n\
+            devices, and prints a report.\n\n\
+            A packet may be delivered at once, later, more than once or never, for 8 units\n\
+            after it was sent. The schedule says which packet is delivered when.",
         )
         .after_long_help(REPLAY_HELP);
     with_args(command, args)
@@ -135,9 +141,9 @@ fn run_command<'a>(alloc: Global, names: OptionNames<'a>) -> Result<Command<'a>,
     let command = Command::new(alloc, "run")
         .about("Updates each device with a package, over Unix sockets")
         .long_about(
-            "Updates each device of a configuration with its first package, or with package N, each over a Unix\n\
-            socket FOLDER/EID.sock to itself, and prints a report. A socket's file is removed as soon as both of\n\
-            its ends are connected.",
+            "Updates each device of a configuration with its first package, or with package\n\
+            N, each over a Unix socket FOLDER/EID.sock to itself, and prints a report. A\n\
+            socket's file is removed as soon as both of its ends are connected.",
         )
         .after_long_help(RUN_HELP);
     let command = with_args(command, run_options(alloc, names)?)?;
@@ -153,15 +159,15 @@ fn soak_command<'a>(alloc: Global) -> Result<Command<'a>, AllocError>
         .value_parser(value_parser!(u32).range(1..1_000_001));
     let record = record_option(
         alloc,
-        "Writes the steps of the first run that goes wrong to a file, as a schedule to replay",
+        "Writes the steps of the first run that goes wrong, as a schedule",
     );
     let args = vec![in alloc; runs, record, config_word(alloc)]?;
     let command = Command::new(alloc, "soak")
         .about("Makes many rough runs of updates, and checks each")
         .long_about(
-            "Makes many runs of updates of the devices of a configuration, with restarts of each node, cancels,\n\
-            bad verdicts and failing banks at random moments, and checks after each what devices activated and\n\
-            what runs.",
+            "Makes many runs of updates of the devices of a configuration, with restarts of\n\
+            each node, cancels, bad verdicts and failing banks at random moments, and checks\n\
+            after each what devices activated and what runs.",
         )
         .after_long_help(SOAK_HELP);
     let command = with_args(command, args)?;
@@ -177,7 +183,8 @@ fn sel_command<'a>(alloc: Global) -> Result<Command<'a>, AllocError>
         .about("Prints the records of an event log, a line each")
         .long_about(
             "Prints the records of an event log, a line each, oldest first.\n\n\
-            The file holds at most 128 records of 16 bytes, as 'run --sel' and 'replay --sel' write them.",
+            The file holds at most 128 records of 16 bytes, as 'run --sel' and\n\
+            'replay --sel' write them.",
         )
         .after_long_help(SEL_HELP);
     with_args(command, args)
@@ -198,7 +205,8 @@ fn build_command<'a>(alloc: Global) -> Result<Command<'a>, AllocError>
         .about("Builds a firmware update package from a text and images")
         .long_about(
             "Builds a firmware update package from a text and images.\n\n\
-            The text says what the package holds, and names the files of the images. Nothing is printed.",
+            The text says what the package holds, and names the files of the images. Nothing\n\
+            is printed.",
         )
         .after_long_help(BUILD_HELP);
     with_args(command, args)
@@ -214,10 +222,10 @@ fn plan_command<'a>(alloc: Global) -> Result<Command<'a>, AllocError>
         config_word(alloc),
     ]?;
     let command = Command::new(alloc, "plan")
-        .about("Prints what an update of each device would come to")
+        .about("Prints what an update of each device would result in")
         .long_about(
-            "Prints what an update of each device of a configuration would come to, with its first package or\n\
-            another, and why. Nothing is updated, and nothing is made.",
+            "Prints what an update of each device of a configuration would result in, with\n\
+            its first package or another, and why. Nothing is updated, and nothing is made.",
         )
         .after_long_help(PLAN_HELP);
     with_args(command, args)
@@ -235,6 +243,17 @@ fn report_option<'a>(alloc: Global) -> Arg<'a>
     )
 }
 
+/// The option for answers in front of a node.
+fn open_option<'a>(alloc: Global) -> Arg<'a>
+    ensures { rule_of result ≡ flag_rule (codes "open") }
+{
+    flag(
+        alloc,
+        "open",
+        "Answers what discovery requests, in front of the node",
+    )
+}
+
 /// The options and arguments of `device`, without those that it shares with `agent`'s process.
 fn device_options<'a>(alloc: Global) -> Result<Vec<Arg<'a>>, AllocError>
     ensures { IfOk result (λ options. map rule_of options.items ≡ device_options) }
@@ -249,6 +268,7 @@ fn device_options<'a>(alloc: Global) -> Result<Vec<Arg<'a>>, AllocError>
     let numbers = value_parser!(u8).range(8..255);
     Ok(vec![in alloc;
         auto,
+        open_option(alloc),
         store_option(alloc, "Keeps activated images in a folder"),
         report_option(alloc),
         listen,
@@ -267,12 +287,13 @@ fn device_command<'a>(alloc: Global) -> Result<Command<'a>, AllocError>
     ensures { IfOk result (λ c. app_of c ≡ device) }
 {
     let command = Command::new(alloc, "device")
-        .about("Serves a device by itself: as a filter of lines, or as a process on a socket")
+        .about("Serves a device by itself: a filter of lines, or a process")
         .long_about(
             "Serves a device of a configuration by itself.\n\n\
-            Each line of standard input is a call of the device. For each, standard output gets one: the packets\n\
-            that the device sends, in upper-case digits. All whole lines are served before more input is awaited.\n\
-            With --listen or --tty it is a process, whose peer is the agent at the other end.",
+            Each line of standard input is a call of the device. For each, standard output\n\
+            gets one: the packets that the device sends, in upper-case digits. All whole\n\
+            lines are served before more input is awaited. With --listen or --tty it is a\n\
+            process, whose peer is the agent at the other end.",
         )
         .after_long_help(DEVICE_HELP);
     let command = with_args(command, device_options(alloc)?)?;
@@ -295,6 +316,7 @@ fn agent_options<'a>(alloc: Global) -> Result<Vec<Arg<'a>>, AllocError>
     );
     Ok(vec![in alloc;
         auto,
+        open_option(alloc),
         log_option(alloc),
         report_option(alloc),
         connect,
@@ -310,12 +332,13 @@ fn agent_command<'a>(alloc: Global) -> Result<Command<'a>, AllocError>
     ensures { IfOk result (λ c. app_of c ≡ agent) }
 {
     let command = Command::new(alloc, "agent")
-        .about("Serves the agent by itself: as a filter of lines, or as a process over sockets")
+        .about("Serves the agent by itself: a filter of lines, or a process")
         .long_about(
             "Serves the agent of a configuration by itself.\n\n\
-            Each line of standard input is a call of the agent. For each, standard output gets one: the packets\n\
-            that the agent sends, in upper-case digits. All whole lines are served before more input is awaited.\n\
-            With --connect or --tty it is a process, which updates the devices at the other ends.",
+            Each line of standard input is a call of the agent. For each, standard output\n\
+            gets one: the packets that the agent sends, in upper-case digits. All whole\n\
+            lines are served before more input is awaited. With --connect or --tty it is a\n\
+            process, which updates the devices at the other ends.",
         )
         .after_long_help(AGENT_HELP);
     let command = with_args(command, agent_options(alloc)?)?;
@@ -334,9 +357,11 @@ fn decode_command<'a>(alloc: Global, names: OptionNames<'a>) -> Result<Command<'
     let command = Command::new(alloc, "decode")
         .about("Prints what packets say, whoever sent them")
         .long_about(
-            "Prints what packets say, whoever sent them: a line for each, as in a trace of text.\n\n\
-            The packets are lines of hexadecimal digits, also with what a trace of digits writes before them, or a\n\
-            capture. Each pair of endpoints has a reader of its own, which assembles its messages.",
+            "Prints what packets say, whoever sent them: a line for each, as in a trace of\n\
+            text.\n\n\
+            The packets are lines of hexadecimal digits, also with what a trace of digits\n\
+            writes before them, or a capture. Each pair of endpoints has a reader of its\n\
+            own, which assembles its messages.",
         )
         .after_long_help(DECODE_HELP);
     with_args(command, args)

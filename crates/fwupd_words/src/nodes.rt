@@ -83,8 +83,10 @@ fn serving_in<'a>(matches: &ArgMatches<'a>, wire: Wire<'a>) -> Serving<'a>
     ensures wire { result.wire ≡ wire.entry }
     ensures serving { AsksServing (given_in matches.now) result }
 {
+    let is_open = matches.get_flag("open");
     Serving {
         wire,
+        is_open,
         tick: tick_in(matches, wire),
         ticks: number_under(matches, "ticks"),
     }
@@ -99,6 +101,7 @@ fn device_alone<'a>(matches: &ArgMatches<'a>) -> DeviceAlone<'a>
         config: text_under(matches, "CONFIG"),
         eid: small_under(matches, "EID"),
         is_automatic: matches.get_flag("auto"),
+        is_open: matches.get_flag("open"),
         store,
         report,
     }
@@ -142,6 +145,7 @@ fn agent_alone<'a>(matches: &ArgMatches<'a>) -> AgentAlone<'a>
     AgentAlone {
         config: text_under(matches, "CONFIG"),
         is_automatic: matches.get_flag("auto"),
+        is_open: matches.get_flag("open"),
         log,
         report,
     }

@@ -51,7 +51,7 @@ pub(crate) fn packets_word<'a>(alloc: Global) -> Arg<'a>
     ensures { rule_of result ≡ optional_word (codes "FILE") }
 {
     Arg::new(alloc, "FILE")
-        .help("The packets: lines of digits, or a capture; standard input if it is - or missing")
+        .help("Lines of digits, or a capture; standard input if - or missing")
         .action(ArgAction::Set)
 }
 
@@ -100,7 +100,7 @@ pub(crate) fn trace_form_option<'a>(alloc: Global, names: OptionNames<'a>) -> Ar
         alloc,
         "trace-format",
         "FORM",
-        "The form of the trace: lines of digits, lines that tell what packets say, or a capture",
+        "The form of the trace: digits, what packets say, or a capture",
     )
     .value_parser(names.traces)
     .default_value("hex")

@@ -16,6 +16,8 @@ pub enum Wire<'a> {
 pub struct Serving<'a> {
     /// What joins it to its peers.
     pub wire: Wire<'a>,
+    /// Whether what discovery requests is answered in front of the node, also over sockets.
+    pub is_open: bool,
     /// The milliseconds of a unit, 1 to 1000.
     pub tick: u32,
     /// The units until it ends, at least 1, if it ends.

@@ -38,6 +38,24 @@ fn endpoint_in<'a>(alloc: Global, matches: &ArgMatches<'a>) -> Result<Endpoint, 
     }
 }
 
+/// The job that the arguments of `answer` request.
+fn answer_in<'a>(alloc: Global, matches: &ArgMatches<'a>) -> Result<Job<'a>, clap::Error>
+    ensures job { IfOk result (AsksForJob (codes "answer") (given_in matches.now)) }
+    ensures refused { IfErr result (RefusesEndpoint (given_in matches.now)) }
+{
+    let is_serial = matches.get_flag("serial");
+    match endpoint_in(alloc, matches) {
+        Ok(endpoint) => {
+            if is_serial {
+                Ok(Job::AnswerSerial(endpoint))
+            } else {
+                Ok(Job::Answer(endpoint))
+            }
+        }
+        Err(error) => Err(error),
+    }
+}
+
 /// The value of the package option.
 fn package_number(matches: &ArgMatches<'_>) -> usize
     ensures { AsksNumber (given_in matches.now) result }
@@ -148,10 +166,7 @@ fn job_of<'a>(alloc: Global, name: &str, matches: &ArgMatches<'a>) -> Result<Job
     ensures refused { IfErr result (RefusesWords name.now (given_in matches.now)) }
 {
     match name {
-        "answer" => match endpoint_in(alloc, matches) {
-            Ok(endpoint) => Ok(Job::Answer(endpoint)),
-            Err(error) => Err(error),
-        },
+        "answer" => answer_in(alloc, matches),
         "inspect" => Ok(Job::Inspect {
             package: text_under(matches, "FILE"),
             form: form_in(matches),

@@ -5,5 +5,6 @@ mod bench;
 mod nodes;
 mod noise;
 mod packages;
+mod resuming;
 mod setup;
 mod updates;

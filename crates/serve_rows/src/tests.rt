@@ -3,5 +3,7 @@
 mod agent_lines;
 mod device_lines;
 mod joined;
+mod open_lines;
+mod serial_lines;
 mod setup;
 mod streams;

@@ -2,8 +2,12 @@
 #![tactic(auto)]
 
 #[cfg(test)]
+mod agents;
+#[cfg(test)]
 mod banks;
 #[cfg(test)]
 mod failing;
+#[cfg(test)]
+mod keepers;
 #[cfg(test)]
 mod lasting;

@@ -1,13 +1,19 @@
 -- The operator's calls, time and restarts.
-use Rattle.std.specs.Prelude.{None, Option, Some, [], false, true, Bool, if◌then◌else◌, not, ◌+◌, ◌==◌, ℕ}
+use Rattle.std.specs.Prelude.{List, None, Option, Some, [], false, true, Bool, if◌then◌else◌, not, ◌+◌, ◌==◌, ℕ}
 use Rattle.std.specs.Option.{option_map}
 use Rattle.mctp_wire.specs.declared.unit.Unit.{«Unit»}
 use Rattle.ua_core.specs.Session.{SessionOf, Stage, TimedOf, at_stage, is_free_state, state_of}
+use Rattle.ua_core.specs.declared.planned.Recorded.{Recorded}
 use Rattle.ua_core.specs.declared.state.Cause.TheVariants as causes
 
 -- a new session on a network with this unit
 abbrev pub new_session : «Unit» → TimedOf
 new_session unit = record { session = record { unit = unit; stage = Stage.Idle; number = 0; records = [] }; idle = 0 }
+
+-- a session without an update in progress, with the number of the package that it was last started
+-- with, and its records
+abbrev pub resumed_session : «Unit» → (number : ℕ) → List Recorded → TimedOf
+resumed_session unit number records = record { session = record { unit = unit; stage = Stage.Idle; number = number; records = records }; idle = 0 }
 
 -- no update is in progress
 abbrev pub is_free : SessionOf → Bool

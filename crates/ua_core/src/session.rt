@@ -1,7 +1,7 @@
 //! A session and its user's calls.
 
-ghost use Rattle.std.specs.Prelude.{◌≡◌, ◌<◌, ◌↔◌, if◌then◌else◌, false, true, length, IfErr, OnErr, OnOk, Some, None};
-ghost use Rattle.ua_core.specs.Calls.{agent_activated, agent_cancelled, agent_restart, agent_silent, agent_started, idle_ticked, is_free, may_cancel, new_session};
+ghost use Rattle.std.specs.Prelude.{◌≡◌, ◌<◌, ◌↔◌, if◌then◌else◌, false, true, length, IfErr, IfOk, OnErr, OnOk, Some, None};
+ghost use Rattle.ua_core.specs.Calls.{agent_activated, agent_cancelled, agent_restart, agent_silent, agent_started, idle_ticked, is_free, may_cancel, new_session, resumed_session};
 ghost use Rattle.ua_core.specs.Session.{state_of};
 
 use crate::fault::{NotReady, StartFault};
@@ -11,7 +11,7 @@ use crate::position::{IDLE_LIMIT, Position};
 use crate::state::{Cause, SessionState};
 use fw_package::PLAN_LIMIT;
 use mctp_wire::Unit;
-use std::alloc::Global;
+use std::alloc::{AllocError, Global};
 use std::marker::Model;
 
 mod learning;
@@ -93,6 +93,26 @@ impl Session {
             made: 0,
             records: Vec::new(alloc),
         }
+    }
+
+    /// Returns the session that goes on with what an earlier life of it kept: the number of the
+    /// package that it was last started with, 0 before the first start, and its records. No update
+    /// is in progress.
+    ///
+    /// # Errors
+    /// `AllocError` if memory for the records is refused.
+    pub fn resumed(
+        alloc: Global,
+        unit: Unit,
+        package: usize,
+        records: &[Recorded],
+    ) -> Result<Session, AllocError>
+        ensures { IfOk result (λ s. s ≡ resumed_session unit «package» records.now) }
+    {
+        let mut session = Session::new(alloc, unit);
+        session.package = package;
+        session.records.extend_from_slice(records)?;
+        Ok(session)
     }
 
     /// Returns the transmission unit of its network.

@@ -7,7 +7,7 @@ use arrayvec::ArrayVec;
 use fd_core::{BankComponent, Device, Key, Label, MemBank};
 use fw_node::DeviceNode;
 use fw_package::{Package, PackageFault};
-use fw_serve::{AgentFilter, DeviceFilter};
+use fw_serve::{AgentFilter, DeviceFilter, FilterOptions, Front};
 use fwup_wire::{DescriptorList, DeviceDescriptor, TypedText, Version};
 use fwupd_base::LineServer;
 use mctp_ctl::Endpoint;
@@ -41,7 +41,7 @@ pub fn package(bytes: &[u8]) -> Result<Package<'_>, PackageFault> {
 }
 
 /// An endpoint without a UUID.
-fn endpoint(eid: u8) -> Endpoint {
+pub fn endpoint(eid: u8) -> Endpoint {
     Endpoint {
         eid,
         uuid: Uuid::nil(),
@@ -78,11 +78,36 @@ fn device(alloc: Global) -> Result<Device<MemBank>, AllocError>
     Ok(Device::new(Unit::U64, descriptors, components, bank))
 }
 
+/// The options of a filter without a front.
+fn closed(auto: bool) -> FilterOptions {
+    FilterOptions { auto, front: None }
+}
+
+/// The options of a filter with the front of an endpoint.
+pub fn open(eid: u8) -> FilterOptions {
+    let front = Front {
+        unit: Unit::U64,
+        endpoint: endpoint(eid),
+    };
+    FilterOptions {
+        auto: false,
+        front: Some(front),
+    }
+}
+
 /// The worked device 9 of the agent 8, as a server of lines.
 pub fn device_filter(alloc: Global, auto: bool) -> Result<DeviceFilter<MemBank>, AllocError> {
+    device_with(alloc, closed(auto))
+}
+
+/// The same with these options.
+pub fn device_with(
+    alloc: Global,
+    options: FilterOptions,
+) -> Result<DeviceFilter<MemBank>, AllocError> {
     let device = device(alloc)?;
     let node = DeviceNode::new(endpoint(9), 8, device);
-    DeviceFilter::new(alloc, node, auto)
+    DeviceFilter::new(alloc, node, options)
 }
 
 /// The agent 8 of the device 9, as a server of lines.
@@ -91,7 +116,16 @@ pub fn agent_filter<'p>(
     packages: &'p [Package<'p>],
     auto: bool,
 ) -> Result<AgentFilter<'p>, AllocError> {
-    AgentFilter::new(alloc, Unit::U64, endpoint(8), &[9], packages, auto)
+    agent_with(alloc, packages, closed(auto))
+}
+
+/// The same with these options.
+pub fn agent_with<'p>(
+    alloc: Global,
+    packages: &'p [Package<'p>],
+    options: FilterOptions,
+) -> Result<AgentFilter<'p>, AllocError> {
+    AgentFilter::new(alloc, Unit::U64, endpoint(8), &[9], packages, options)
 }
 
 /// Serves a line, and returns what it prints.

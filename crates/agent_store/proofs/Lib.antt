@@ -1,0 +1,4 @@
+mod GivenBack
+mod Keeping
+mod Places
+mod Same

@@ -1,0 +1,15 @@
+//! What the update agent keeps over a restart, in a folder: the records of its sessions, and its
+//! event log.
+#![tactic(auto)]
+
+mod folder_keeper;
+mod keeper;
+mod laws;
+mod resuming;
+mod writing;
+
+pub use folder_keeper::FolderKeeper;
+pub use keeper::{AgentKeeper, KeepFault, NoKeeper};
+pub use laws::what_is_kept_is_resumed;
+pub use resuming::resumed_agent;
+pub use writing::agent_lines;
