@@ -14,6 +14,11 @@ abbrev pub lines_left : Option (List ℕ) → List (List ℕ)
 lines_left None = []
 lines_left (Some rest) = file_lines rest
 
+-- the line with this number, counted from 1
+abbrev pub line_at : (number : ℕ) → List (List ℕ) → Option (List ℕ)
+line_at number [] = None
+line_at number (line ∷ lines) = if number == 1 then Some line else line_at (number - 1) lines
+
 -- the number of steps that were read
 abbrev pub steps_read : Result (List Step) ScriptFault → ℕ
 steps_read (Ok steps) = length steps

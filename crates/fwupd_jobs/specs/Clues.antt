@@ -5,20 +5,25 @@ use Rattle.fwupd_words.specs.declared.asked.Job.TheVariants as jobs
 use Rattle.fwupd_words.specs.declared.asked.Show.{Show}
 use Rattle.fwupd_jobs.specs.declared.clues.Clue.{Clue}
 use Rattle.fwupd_jobs.specs.declared.clues.Clue.TheVariants as clues
+use Rattle.fw_script.specs.declared.faults.ScriptFault.{ScriptFault}
 use Rattle.fwupd_watch.specs.declared.faults.JobFault.{JobFault}
 use Rattle.fwupd_watch.specs.declared.faults.JobFault.TheVariants as faults
 
 -- A clue, by the paths that it names.
 pub data ClueOf : Type 0 where
   Unread : (path : List ℕ) → ClueOf
+  NotAPackage : (path : List ℕ) → ClueOf
   NoPackage : (config : List ℕ) → ClueOf
+  InText : (path : List ℕ) → ScriptFault → ClueOf
   OfStep : (schedule : List ℕ) → (number : ℕ) → ClueOf
   Unwritten : (path : List ℕ) → ClueOf
   OfHistory : (folder : List ℕ) → ClueOf
 
 abbrev pub clue_seen : Clue → ClueOf
 clue_seen (clues.Unread path) = ClueOf.Unread path.now
+clue_seen (clues.Other path) = ClueOf.NotAPackage path.now
 clue_seen (clues.Package config) = ClueOf.NoPackage config.now
+clue_seen (clues.Line path fault) = ClueOf.InText path.now fault
 clue_seen (clues.Step schedule number) = ClueOf.OfStep schedule.now number
 clue_seen (clues.Unwritten path) = ClueOf.Unwritten path.now
 clue_seen (clues.History folder) = ClueOf.OfHistory folder.now
@@ -31,8 +36,9 @@ clue_to_shown show faults.Record = option_map (λ path. ClueOf.Unwritten path.no
 clue_to_shown show faults.History = option_map (λ folder. ClueOf.OfHistory folder.now) show.history
 clue_to_shown show fault = None
 
--- a job that reads packages of a configuration
+-- a job that reads a package, or those of a configuration
 abbrev pub clue_to_package : Job → Option ClueOf
+clue_to_package (jobs.Inspect path form) = Some (ClueOf.NotAPackage path.now)
 clue_to_package (jobs.Replay r) = Some (ClueOf.NoPackage r.config.now)
 clue_to_package (jobs.Run u) = Some (ClueOf.NoPackage u.config.now)
 clue_to_package (jobs.Soak s) = Some (ClueOf.NoPackage s.config.now)
@@ -54,6 +60,7 @@ clue_to_output job fault = None
 -- the clue to why a job ended with a fault
 abbrev pub clue_of : Job → JobFault → Option ClueOf
 clue_of job (faults.Unreadable path) = Some (ClueOf.Unread (string_bytes path))
+clue_of job (faults.Text path fault) = Some (ClueOf.InText (string_bytes path) fault)
 clue_of job (faults.Package fault) = clue_to_package job
 clue_of job (faults.Step number fault) = clue_to_step job number
 clue_of job fault = clue_to_output job fault

@@ -7,6 +7,7 @@ pub mod Clues
 pub mod Decoded
 pub mod Failures
 pub mod Hosts
+pub mod Identifiers
 pub mod Inspected
 pub mod Jobs
 pub mod Logs
@@ -14,6 +15,7 @@ pub mod Planned
 pub mod Processes
 pub mod Progress
 pub mod Promises
+pub mod Reasons
 pub mod Recorded
 pub mod Replayed
 pub mod Sessions

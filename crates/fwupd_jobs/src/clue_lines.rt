@@ -1,7 +1,7 @@
 //! The lines of a file that a clue names, numbered from 1.
 
 ghost use Rattle.std.specs.Prelude.{◌≡◌, ◌∷◌, ◌<◌, IfOk, IfSome, length, map, option_map};
-ghost use Rattle.fwupd_jobs.specs.ClueLines.{file_lines, lines_left, package_in_line, package_lines, step_line, steps_in_line};
+ghost use Rattle.fwupd_jobs.specs.ClueLines.{file_lines, line_at, lines_left, package_in_line, package_lines, step_line, steps_in_line};
 
 use fw_script::{ScriptCause, read_schedule};
 use std::alloc::{AllocError, Global};
@@ -16,6 +16,23 @@ fn first_line(text: &str) -> (&str, Option<&str>)
         Some((line, rest)) => (line, Some(rest)),
         None => (text, None),
     }
+}
+
+/// Returns the line of a text with this number, if there is one.
+pub(crate) fn line_at(text: &str, number: usize) -> Option<&str>
+    ensures { option_map (λ line. line.now) result ≡ line_at number (file_lines text.now) }
+{
+    let mut rest = Some(text);
+    let mut left = number;
+    while let Some(lines) = rest {
+        let (line, after) = first_line(lines);
+        if left == 1 {
+            return Some(line);
+        }
+        left = left.saturating_sub(1);
+        rest = after;
+    }
+    None
 }
 
 /// The number of steps of a line of a schedule, 0 if it can't be read.

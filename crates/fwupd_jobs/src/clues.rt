@@ -3,6 +3,7 @@
 ghost use Rattle.std.specs.Prelude.{◌≡◌, option_map};
 ghost use Rattle.fwupd_jobs.specs.Clues.{clue_of, clue_seen, clue_to_shown};
 
+use fw_script::ScriptFault;
 use fwupd_watch::JobFault;
 use fwupd_words::{Job, Replay, Show, Soak, Update};
 
@@ -11,8 +12,12 @@ use fwupd_words::{Job, Replay, Show, Soak, Update};
 pub enum Clue<'a> {
     /// Why the file of this path can't be read.
     Unread(&'a str),
+    /// What the file of this path may be, which isn't a package.
+    Other(&'a str),
     /// The package that is malformed, of the configuration in the file of this path.
     Package(&'a str),
+    /// The line of a fault in the text in the file of this path.
+    Line(&'a str, ScriptFault),
     /// The line of a step, numbered from 1, in the schedule in the file of this path.
     Step(&'a str, usize),
     /// Why the file of this path can't be written.
@@ -40,6 +45,8 @@ pub fn clue_to<'a>(job: &Job<'a>, fault: &'a JobFault) -> Option<Clue<'a>>
 {
     match (fault, job) {
         (JobFault::Unreadable(path), _) => Some(Clue::Unread(path.as_str())),
+        (JobFault::Text(path, fault), _) => Some(Clue::Line(path.as_str(), *fault)),
+        (JobFault::Package(_), Job::Inspect { package, .. }) => Some(Clue::Other(package)),
         (JobFault::Package(_), Job::Replay(Replay { config, .. }))
         | (JobFault::Package(_), Job::Run(Update { config, .. }))
         | (JobFault::Package(_), Job::Soak(Soak { config, .. }))

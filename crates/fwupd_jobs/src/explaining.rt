@@ -1,16 +1,23 @@
-//! Explains why a job failed, below the line that reports it, and only on a terminal.
+//! Explains why a job failed, below the line that reports it, on a terminal or where it is wanted.
 
 ghost use Rattle.std.specs.Prelude.{◌≡◌, is_err};
 ghost use Rattle.fw_package.specs.Reading.{package_of};
 
-use crate::clue_lines::{package_lines, step_line};
+use crate::clue_lines::{line_at, package_lines, step_line};
 use crate::clues::{Clue, clue_to};
+use crate::identifiers::later_version;
+use crate::reasons::reason;
 use fw_package::Package;
-use fwupd_watch::{Files, JobFault, SystemFiles, folder_and_name, history_path, is_special};
+use fw_script::ScriptFault;
+use fwupd_watch::{
+    Files, JobFault, SystemFiles, explains, folder_and_name, history_path, is_special,
+};
 use fwupd_words::Job;
 use std::fs::OpenOptions;
-use std::io::{self, IsTerminal};
-use std::str;
+use std::{io, str};
+
+/// The most bytes of a line that an explanation shows.
+const LONGEST: usize = 100;
 
 /// Prints the system's error for a file that can't be read, by reading it once more.
 fn explain_unreadable(rt: &HostRuntime, path: &str) {
@@ -40,6 +47,36 @@ fn is_no_package(bytes: &[u8]) -> bool
     }
 }
 
+/// Prints the later version of the standard whose packages begin as a file does, if there is one.
+fn explain_other(rt: &HostRuntime, path: &str) {
+    if let Some(bytes) = read_again(rt, path)
+        && let Some(version) = later_version(&bytes)
+    {
+        let _ = eprintln!(rt;
+            "{path}: it begins as a package of DSP0267 {version} does, and only those of 1.0 are read"
+        );
+    }
+}
+
+/// Prints the line of a fault in a text, as far as it is short, and what is wrong with it.
+fn explain_line(rt: &HostRuntime, path: &str, fault: ScriptFault) {
+    let Some(bytes) = read_again(rt, path) else {
+        return;
+    };
+    let Ok(text) = str::from_utf8(&bytes) else {
+        return;
+    };
+    let reason = reason(fault.cause);
+    let _ = match line_at(text, fault.line) {
+        None | Some("") => eprintln!(rt; "{path}: {reason}"),
+        Some(line) if line.len() <= LONGEST => eprintln!(rt; "{path}: {reason}: {line}"),
+        Some(line) => {
+            let (start, _) = line.split_at(line.floor_char_boundary(LONGEST));
+            eprintln!(rt; "{path}: {reason}: {start}..")
+        }
+    };
+}
+
 /// Prints the first malformed package of a configuration, and its line there. Nothing is printed if
 /// a package before it can't be read again.
 fn explain_package(rt: &HostRuntime, config: &str) {
@@ -58,7 +95,7 @@ fn explain_package(rt: &HostRuntime, config: &str) {
         };
         if is_no_package(&package) {
             let _ = eprintln!(rt; "{config}: line {number}: {path}");
-            return;
+            return explain_other(rt, path);
         }
     }
 }
@@ -108,14 +145,16 @@ fn explain_history(rt: &HostRuntime, folder: &str) {
     }
 }
 
-/// Prints on standard error, if it is a terminal, the clue to why a job failed.
+/// Prints on standard error the clue to why a job failed, where faults are explained.
 pub fn explain(rt: &HostRuntime, job: &Job<'_>, fault: &JobFault) {
-    if !rt.stderr().is_terminal() {
+    if !explains(rt) {
         return;
     }
     match clue_to(job, fault) {
         Some(Clue::Unread(path)) => explain_unreadable(rt, path),
+        Some(Clue::Other(path)) => explain_other(rt, path),
         Some(Clue::Package(config)) => explain_package(rt, config),
+        Some(Clue::Line(path, fault)) => explain_line(rt, path, fault),
         Some(Clue::Step(schedule, number)) => explain_step(rt, schedule, number),
         Some(Clue::Unwritten(path)) => explain_unwritten(rt, path),
         Some(Clue::History(folder)) => explain_history(rt, folder),

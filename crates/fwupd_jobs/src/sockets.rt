@@ -9,10 +9,10 @@ use crate::socket_names::{SocketNames, SystemNames};
 use crate::updating::Wires;
 use crate::write_behind::WriteBehind;
 use fw_edge::StreamLink;
-use fwupd_watch::JobFault;
+use fwupd_watch::{JobFault, explains};
 use mctp_wire::Unit;
 use std::alloc::{AllocError, Global};
-use std::io::{self, IsTerminal};
+use std::io;
 use std::os::unix::net::{UnixListener, UnixStream};
 
 /// Unix sockets in folders. The socket of a device is named `EID.sock`; the name is removed when
@@ -21,8 +21,8 @@ use std::os::unix::net::{UnixListener, UnixStream};
 pub struct Sockets<'a> {
     rt: &'a HostRuntime,
     names: SystemNames<'a>,
-    /// The device whose socket couldn't be made last, and the error.
-    refused: Option<(u8, io::Error)>,
+    /// The path of the socket that couldn't be made last, and the error.
+    refused: Option<(String, io::Error)>,
 }
 
 /// A socket with buffered reads, whose writes are held back until the other end is read.
@@ -81,16 +81,16 @@ fn socket_link<N: SocketNames>(
     link
 }
 
-/// Prints on standard error, if it is a terminal, why the socket of a device couldn't be made.
-pub(crate) fn explain_socket(rt: &HostRuntime, device: u8, error: &io::Error) {
-    if !rt.stderr().is_terminal() {
+/// Prints on standard error, where faults are explained, why a socket couldn't be made.
+pub(crate) fn explain_socket(rt: &HostRuntime, path: &str, error: &io::Error) {
+    if !explains(rt) {
         return;
     }
     let _ = match error.kind() {
         io::ErrorKind::AddrInUse => eprintln!(rt;
-            "{device}.sock: this name is taken, as a run that was killed leaves it: remove it unless another run goes on"
+            "{path}: this name is taken, as a run that was killed leaves it: remove it unless another run goes on"
         ),
-        _ => eprintln!(rt; "{device}.sock: {error}"),
+        _ => eprintln!(rt; "{path}: {error}"),
     };
 }
 
@@ -104,13 +104,13 @@ impl<'a> Sockets<'a> {
         }
     }
 
-    /// Prints on standard error, if it is a terminal, why a socket couldn't be made, if one
+    /// Prints on standard error, where faults are explained, why a socket couldn't be made, if one
     /// couldn't.
     pub fn explain(&self) {
-        let Some((device, error)) = &self.refused else {
+        let Some((path, error)) = &self.refused else {
             return;
         };
-        explain_socket(self.rt, *device, error);
+        explain_socket(self.rt, path, error);
     }
 }
 
@@ -127,7 +127,7 @@ impl<'a> Wires<SocketLink> for Sockets<'a> {
             Ok(link) => Ok(link),
             Err(error) if error.kind() == io::ErrorKind::OutOfMemory => Err(JobFault::Memory),
             Err(error) => {
-                self.refused = Some((device, error));
+                self.refused = Some((path, error));
                 Err(JobFault::Socket(device))
             }
         }

@@ -2,14 +2,14 @@
 
 use crate::sockets::{explain_socket, socket_path};
 use crate::wiring::{Joined, Network, Wiring};
-use fwupd_watch::JobFault;
+use fwupd_watch::{JobFault, explains};
 use fwupd_wires::{
     AgentSockets, AgentWire, DeviceSockets, DeviceWire, Front, FrontedLine, MachineClock, Port,
     SerialLine,
 };
 use fwupd_words::{DeviceProcess, Serving, Wire};
 use std::alloc::Global;
-use std::io::{self, IsTerminal};
+use std::io;
 
 /// The front of a node over sockets, if it is requested.
 fn front(network: Network, serving: Serving<'_>) -> Option<Front> {
@@ -26,8 +26,8 @@ fn front(network: Network, serving: Serving<'_>) -> Option<Front> {
 #[derive(Drop)]
 pub(crate) struct SystemWiring<'a> {
     rt: &'a HostRuntime,
-    /// The device whose socket couldn't be made, and the error.
-    refused: Option<(u8, io::Error)>,
+    /// The path of the socket that couldn't be made, and the error.
+    refused: Option<(String, io::Error)>,
     /// The error of a serial line that couldn't be opened.
     unopened: Option<io::Error>,
 }
@@ -42,14 +42,14 @@ impl<'a> SystemWiring<'a> {
         }
     }
 
-    /// Prints on standard error, if it is a terminal, why a socket couldn't be made, if one
-    /// couldn't.
+    /// Prints on standard error, where faults are explained, why a socket or a serial line couldn't
+    /// be made or opened, if one couldn't.
     pub(crate) fn explain(&self) {
-        if let Some((device, error)) = &self.refused {
-            explain_socket(self.rt, *device, error);
+        if let Some((path, error)) = &self.refused {
+            explain_socket(self.rt, path, error);
         }
         if let Some(error) = &self.unopened
-            && self.rt.stderr().is_terminal()
+            && explains(self.rt)
         {
             let _ = eprintln!(self.rt; "tty: {error}");
         }
@@ -80,7 +80,7 @@ impl<'a> SystemWiring<'a> {
         match DeviceSockets::listen(self.rt, &path, job.takes_over) {
             Ok(sockets) => Ok(sockets),
             Err(error) => {
-                self.refused = Some((job.eid, error));
+                self.refused = Some((path, error));
                 Err(JobFault::Socket(job.eid))
             }
         }

@@ -17,8 +17,8 @@ erasure_of true = codes "\r                                                     
 abbrev pub lost_line : (device : ℕ) → List ℕ
 lost_line device = word_and_number (codes "device ") device ++ codes ": its link failed\n"
 
--- what is written about it: nothing if no link failed, or if the writer isn't a terminal
-abbrev pub explanation_of : (is_terminal : Bool) → Option ℕ → List ℕ
-explanation_of is_terminal None = []
+-- what is written about it: nothing if no link failed, or if faults aren't explained
+abbrev pub explanation_of : (is_explained : Bool) → Option ℕ → List ℕ
+explanation_of is_explained None = []
 explanation_of false (Some device) = []
 explanation_of true (Some device) = lost_line device

@@ -36,5 +36,6 @@ pub use output::Output;
 pub use places::{FileCalls, OutputPlaces, WholeFiles, write_file};
 pub use recording::Recording;
 pub use running::{Observer, ObserverFault, observer_fault, update_observed};
+pub use terminal::explains;
 pub use tracing_laws::texts_are_lines;
 pub use watching::Observers;

@@ -7,7 +7,8 @@ ghost use Rattle.fwupd_watch.specs.Terminals.{erasure_of, explanation_of, is_due
 
 use fw_text::{push_number, push_words};
 use std::alloc::{AllocError, Global};
-use std::io::{self, ErrorKind, Write};
+use std::env;
+use std::io::{self, ErrorKind, IsTerminal, Write};
 use std::time::Duration;
 
 /// The least time between two updates of the display, in milliseconds.
@@ -26,6 +27,16 @@ pub(crate) fn is_due(passed: Option<Duration>) -> bool
         Some(passed) => passed >= Duration::from_millis(PAUSE),
         None => true,
     }
+}
+
+/// Returns whether faults are explained: where standard error is a terminal, or the environment has
+/// `FWUPD_EXPLAIN=1`.
+pub fn explains(rt: &HostRuntime) -> bool {
+    rt.stderr().is_terminal()
+        || match env::var(rt, "FWUPD_EXPLAIN") {
+            Ok(value) => value.as_str() == "1",
+            Err(_) => false,
+        }
 }
 
 /// Whether a run shows its progress: on a terminal, unless it is quiet.
@@ -58,22 +69,22 @@ fn lost_line(alloc: Global, device: u8) -> Result<Vec<u8>, AllocError>
     Ok(line)
 }
 
-/// Writes the device whose link failed, if there is one and the writer is a terminal.
+/// Writes the device whose link failed, if there is one and faults are explained.
 ///
 /// # Errors
 /// The writer's error, or `OutOfMemory` if memory is refused.
 pub(crate) fn explain_on<W: Write>(
     alloc: Global,
     writer: &mut W,
-    is_terminal: bool,
+    is_explained: bool,
     lost: Option<u8>,
 ) -> io::Result<()>
-    ensures { OnOk result (Appends (W.contents writer.old) (W.contents writer.new) (explanation_of is_terminal lost)) }
+    ensures { OnOk result (Appends (W.contents writer.old) (W.contents writer.new) (explanation_of is_explained lost)) }
 {
     let Some(device) = lost else {
         return Ok(());
     };
-    if !is_terminal {
+    if !is_explained {
         return Ok(());
     }
     let Ok(line) = lost_line(alloc, device) else {

@@ -1,0 +1,16 @@
+-- What is wrong with a line of a configuration, a schedule or a package's description, in words.
+use Rattle.std.specs.Prelude.{ℕ, List, codes}
+use Rattle.fw_script.specs.declared.faults.ScriptCause.{ScriptCause}
+use Rattle.fw_script.specs.declared.faults.ScriptCause.TheVariants as causes
+
+abbrev pub reason_of : ScriptCause → List ℕ
+reason_of causes.Directive = codes "no line of this format begins with this word"
+reason_of causes.Fields = codes "there are too few words, or too many"
+reason_of causes.Order = codes "such a line may not be here"
+reason_of causes.Number = codes "a number isn't all digits, a word isn't known, a UUID is malformed, or a path isn't UTF-8"
+reason_of causes.Hex = codes "bytes aren't an even number of hexadecimal digits, or a descriptor's type isn't four"
+reason_of causes.Range = codes "a number is outside its bounds"
+reason_of causes.Duplicate = codes "what it names is there already"
+reason_of causes.Limit = codes "there are more of these, or more bytes, than is allowed"
+reason_of causes.Missing = codes "the agent, a device, or a device's component is missing"
+reason_of causes.Memory = codes "memory was refused"
