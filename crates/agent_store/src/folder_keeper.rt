@@ -55,7 +55,7 @@ impl<F: Folder + Drop> FolderKeeper<F> {
 }
 
 /// Whether these are the last lines.
-fn are_last(last: &Option<Vec<KeptLine>>, lines: &[KeptLine]) -> bool
+pub(crate) fn are_last(last: &Option<Vec<KeptLine>>, lines: &[KeptLine]) -> bool
     ensures { result ≡ true → IsSomeAnd last.now (λ v. v.items ≡ lines.now) }
 {
     match last {

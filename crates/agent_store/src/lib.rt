@@ -2,12 +2,14 @@
 //! event log.
 #![tactic(auto)]
 
+mod change_keeper;
 mod folder_keeper;
 mod keeper;
 mod laws;
 mod resuming;
 mod writing;
 
+pub use change_keeper::ChangeKeeper;
 pub use folder_keeper::FolderKeeper;
 pub use keeper::{AgentKeeper, KeepFault, NoKeeper};
 pub use laws::what_is_kept_is_resumed;
