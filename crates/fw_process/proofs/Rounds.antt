@@ -1,10 +1,10 @@
 -- What a process does while it is served: deeds one after another, and what they send over its
 -- line.
-use Rattle.std.proofs.Common.{◌≡◌, ◌∙◌, ◌+◌, ◌-◌, ◌++◌, ◌≤◌, ℕ, zero, suc, List, [], ◌∷◌, Option, None, Some, append-nil, append_assoc, ◌^◌, Result, Ok, Err, OnOk, ap, arith, refl, subst, sym}
+use Rattle.std.proofs.Common.{◌≡◌, ◌∙◌, ◌+◌, ◌-◌, ◌++◌, ◌≤◌, ℕ, zero, suc, List, [], ◌∷◌, Option, None, Some, append-nil, append_assoc, ◌^◌, Result, Ok, Err, OnErr, OnOk, ap, arith, refl, subst, sym}
 use Rattle.std.proofs.lemmas.Bool.{le-leb}
 use Rattle.std.specs.Option.{option_map}
 use Rattle.exch_lane.specs.Lanes.{Sent}
-use Rattle.fw_process.specs.Processes.{Deed, Does, DoesAll, LineOf, RoundOf, Serves, ServesCome, ServesRounds, came_in, deed_with, deeds_for, deeds_for_all, deeds_to, line_with, round_deeds, rounds_deeds, turns, unit_after_deed, unit_after_deeds}
+use Rattle.fw_process.specs.Processes.{Deed, Does, DoesAll, FailsAt, LineOf, RoundOf, Serves, ServesCome, ServesRounds, ServesUntil, came_in, deed_with, deeds_for, deeds_for_all, deeds_to, line_with, round_deeds, rounds_deeds, turns, unit_after_deed, unit_after_deeds}
 
 -- LINES
 
@@ -159,3 +159,35 @@ rounds_on does unit s t v l m n shown h k =
           (subst (λ ps. Serves does unit ps (rounds_deeds (unit s) h.rounds ++ round_deeds (unit t) r) s l v n) (sym (came_more h.rounds r))
           (serves_on does unit s t v l m n (came_in h.rounds) k.came (rounds_deeds (unit s) h.rounds) (round_deeds (unit t) r) h.serves k.serves));
     }
+
+-- FAILURE
+
+-- a deed fails
+pub stops_at : {P : Type 0} {E : Type 0} (does : P → Deed → P → List Sent → Type 0) (fails : P → Deed → P → Type 0) (d : Deed) (s t : P) (l m : LineOf) (r : Result (Prim.Unit {0}) E)
+    → OnErr r (FailsAt fails d s l t m) → OnErr r (ServesUntil does fails s l t m)
+stops_at does fails d s t l m (Ok done) h = tt
+stops_at does fails d s t l m (Err e) h =
+    record { came = []; deeds = []; last = s; sent = []; done = (refl, refl); line = h.silent ∙ sym (line_none l); failed = d; leaves = h.leaves }
+
+-- a deed fails after others
+pub until_on : {P : Type 0} (does : P → Deed → P → List Sent → Type 0) (fails : P → Deed → P → Type 0) (unit : P → ℕ) (s t v : P) (l m n : LineOf) (came : List Sent) (ds : List Deed)
+    → Serves does unit came ds s l t m → ServesUntil does fails t m v n → ServesUntil does fails s l v n
+until_on does fails unit s t v l m n came ds h k = record {
+  came = came ++ k.came;
+  deeds = ds ++ k.deeds;
+  last = k.last;
+  sent = h.sent ++ k.sent;
+  done = does_on does s t k.last ds k.deeds h.sent k.sent h.done k.done;
+  line = k.line ∙ ap (λ x. line_with x k.came k.sent) h.line ∙ line_more l came h.sent k.came k.sent;
+  failed = k.failed;
+  leaves = k.leaves;
+}
+
+pub stops_on : {P : Type 0} {E : Type 0} (does : P → Deed → P → List Sent → Type 0) (fails : P → Deed → P → Type 0) (unit : P → ℕ) (s t v : P) (l m n : LineOf) (came : List Sent) (ds : List Deed) (r : Result (Prim.Unit {0}) E)
+    → Serves does unit came ds s l t m → OnErr r (ServesUntil does fails t m v n) → OnErr r (ServesUntil does fails s l v n)
+stops_on does fails unit s t v l m n came ds (Ok done) h k = tt
+stops_on does fails unit s t v l m n came ds (Err e) h k = until_on does fails unit s t v l m n came ds h k
+
+-- packets come
+pub comes : {P : Type 0} (does : P → Deed → P → List Sent → Type 0) (unit : P → ℕ) (s : P) (came : List Sent) (l m : LineOf) → m ≡ line_with l came [] → Serves does unit came [] s l s m
+comes does unit s came l m line = record { sent = []; done = (refl, refl); counted = refl; line = line }

@@ -126,3 +126,22 @@ pub record ServesCome {P : Type 0} (does : P → Deed → P → List Sent → Ty
 pub record ServesRounds {P : Type 0} (does : P → Deed → P → List Sent → Type 0) (unit : P → ℕ) (s : P) (before : LineOf) (t : P) (after : LineOf) : Type 0 where
   pub rounds : List RoundOf
   pub serves : Serves does unit (came_in rounds) (rounds_deeds (unit s) rounds) s before t after
+
+-- FAILURE
+
+-- A deed fails, and nothing of it is sent. `fails s d t`: what it leaves of a process `s` is `t`.
+pub record FailsAt {P : Type 0} (fails : P → Deed → P → Type 0) (deed : Deed) (s : P) (before : LineOf) (t : P) (after : LineOf) : Type 0 where
+  pub leaves : fails s deed t
+  pub silent : after ≡ before
+
+-- A process does deeds, and sends over the line what they send, in order. Then a deed fails, and
+-- nothing of it is sent.
+pub record ServesUntil {P : Type 0} (does : P → Deed → P → List Sent → Type 0) (fails : P → Deed → P → Type 0) (s : P) (before : LineOf) (t : P) (after : LineOf) : Type 0 where
+  pub came : List Sent
+  pub deeds : List Deed
+  pub last : P
+  pub sent : List Sent
+  pub done : DoesAll does s deeds last sent
+  pub line : after ≡ line_with before came sent
+  pub failed : Deed
+  pub leaves : fails last failed t

@@ -1,9 +1,9 @@
 //! A node as a process of its own.
 
-ghost use Rattle.std.specs.Prelude.{[], ◌≡◌, ◌≤◌, ◌<◌, ◌+◌, ◌-◌, ◌^◌, ◌∷◌, ◌⊎◌, Bool, List, OnOk, map, true, ℕ};
+ghost use Rattle.std.specs.Prelude.{[], ◌≡◌, ◌≤◌, ◌<◌, ◌+◌, ◌-◌, ◌^◌, ◌∷◌, ◌⊎◌, Bool, List, OnErr, OnOk, map, true, ℕ};
 ghost use Rattle.exch_lane.specs.Lanes.{Sent};
 ghost use Rattle.exch_lane.specs.Steps.{sent_at};
-ghost use Rattle.fw_process.specs.Processes.{Deed, Serves, ServesCome, ServesRounds, deed_with, deeds_for, deeds_for_all, deeds_to, round_deeds, turns};
+ghost use Rattle.fw_process.specs.Processes.{Deed, FailsAt, Serves, ServesCome, ServesRounds, ServesUntil, deed_with, deeds_for, deeds_for_all, deeds_to, round_deeds, turns};
 
 use crate::wire::{Clock, Line};
 use mctp_wire::RawPacket;
@@ -23,9 +23,12 @@ const MOST_PACKETS: u32 = 1024;
 
 /// A node that may be a process: its calls, and the unit that it is in. It sends the packets of a
 /// call over its line, each stamped with the unit after the call. In contracts, `does s d t sent`
-/// says that a process `s` does a deed, is `t` afterwards, and sends packets.
+/// says that a process `s` does a deed, is `t` afterwards, and sends packets; `fails s d t` says
+/// that the deed fails, and leaves `t`.
 pub trait ProcessNode {
     ghost does: { Self → Deed → Self → (sent : List Sent) → Type 0 };
+
+    ghost fails: { Self → Deed → Self → Type 0 } = { λ s d t. Prim.Unit {0} };
 
     ghost unit: { Self → ℕ };
 
@@ -42,23 +45,29 @@ pub trait ProcessNode {
     /// Receives a packet with this stamp.
     ///
     /// # Errors
-    /// `AllocError` if memory is refused.
+    /// `AllocError` if memory is refused, or if it can't go on for another reason. Nothing is sent
+    /// then.
     fn receive<L: Line>(
         &mut self,
         line: &mut L,
         stamp: u32,
         packet: &[u8],
     ) -> Result<(), AllocError>
-        ensures { OnOk result (Serves does unit [] (Deed.Receives (sent_at stamp packet.now) ∷ [])
+        ensures served { OnOk result (Serves does unit [] (Deed.Receives (sent_at stamp packet.now) ∷ [])
+            self.old (L.known line.old) self.new (L.known line.new)) }
+        ensures failed { OnErr result (FailsAt fails (Deed.Receives (sent_at stamp packet.now))
             self.old (L.known line.old) self.new (L.known line.new)) };
 
     /// Does what is due at the end of its unit, and begins the next one with a tick.
     ///
     /// # Errors
-    /// `AllocError` if memory is refused.
+    /// `AllocError` if memory is refused, or if it can't go on for another reason. Nothing is sent
+    /// then.
     fn turn<L: Line>(&mut self, line: &mut L) -> Result<(), AllocError>
         requires { unit self.old < 2 ^ 32 - 1 }
-        ensures { OnOk result (Serves does unit [] (Deed.Turns ∷ [])
+        ensures served { OnOk result (Serves does unit [] (Deed.Turns ∷ [])
+            self.old (L.known line.old) self.new (L.known line.new)) }
+        ensures failed { OnErr result (FailsAt fails Deed.Turns
             self.old (L.known line.old) self.new (L.known line.new)) };
 
     /// Restarts, and goes on after this number of units.
@@ -69,7 +78,7 @@ pub trait ProcessNode {
 }
 
 /// Goes on by a number of turns.
-#[tactic(auto, using(crate::proofs::Rounds::serves_none, crate::proofs::Rounds::serves_turn))]
+#[tactic(auto, using(crate::proofs::Rounds::serves_none, crate::proofs::Rounds::serves_turn, crate::proofs::Rounds::stops_at, crate::proofs::Rounds::until_on))]
 fn make_up<P: ProcessNode, L: Line>(
     process: &mut P,
     line: &mut L,
@@ -77,6 +86,8 @@ fn make_up<P: ProcessNode, L: Line>(
 ) -> Result<(), AllocError>
     requires clock { P.unit process.old + units < 2 ^ 32 }
     ensures served { OnOk result (Serves P.does P.unit [] (turns units) process.old (L.known line.old)
+        process.new (L.known line.new)) }
+    ensures stopped { OnErr result (ServesUntil P.does P.fails process.old (L.known line.old)
         process.new (L.known line.new)) }
     ensures unit { OnOk result (P.unit process.new ≡ P.unit process.old + units) }
 {
@@ -98,6 +109,8 @@ fn advance<P: ProcessNode, L: Line>(
 ) -> Result<(), AllocError>
     ensures served { OnOk result (Serves P.does P.unit [] (deeds_to (P.unit process.old) to) process.old
         (L.known line.old) process.new (L.known line.new)) }
+    ensures stopped { OnErr result (ServesUntil P.does P.fails process.old (L.known line.old)
+        process.new (L.known line.new)) }
     ensures there { OnOk result (to ≤ P.unit process.new) }
     ensures later { OnOk result (P.unit process.old ≤ P.unit process.new) }
 {
@@ -119,6 +132,8 @@ fn receive_timely<P: ProcessNode, L: Line>(
 ) -> Result<(), AllocError>
     ensures served { OnOk result (Serves P.does P.unit [] (deed_with (P.unit process.old)
         (sent_at stamp packet.now.items) ∷ []) process.old (L.known line.old) process.new (L.known line.new)) }
+    ensures stopped { OnErr result (ServesUntil P.does P.fails process.old (L.known line.old)
+        process.new (L.known line.new)) }
     ensures unit { OnOk result (P.unit process.new ≡ P.unit process.old) }
 {
     if process.unit().saturating_sub(stamp) > LIFE {
@@ -137,6 +152,8 @@ fn accept<P: ProcessNode, L: Line>(
 ) -> Result<(), AllocError>
     ensures served { OnOk result (Serves P.does P.unit [] (deeds_for (P.unit process.old)
         (sent_at stamp packet.now.items)) process.old (L.known line.old) process.new (L.known line.new)) }
+    ensures stopped { OnErr result (ServesUntil P.does P.fails process.old (L.known line.old)
+        process.new (L.known line.new)) }
     ensures later { OnOk result (P.unit process.old ≤ P.unit process.new) }
 {
     if stamp > process.unit().saturating_add(MOST_AHEAD) {
@@ -158,6 +175,8 @@ fn accept_all<P: ProcessNode, L: Line>(
 ) -> Result<(), AllocError>
     ensures served { OnOk result (ServesCome P.does P.unit (deeds_for_all (P.unit process.old)) process.old
         (L.known line.old) process.new (L.known line.new)) }
+    ensures stopped { OnErr result (ServesUntil P.does P.fails process.old (L.known line.old)
+        process.new (L.known line.new)) }
     ensures later { OnOk result (P.unit process.old ≤ P.unit process.new) }
 {
     for _taken in 0..MOST_PACKETS {
@@ -182,6 +201,8 @@ fn round<P: ProcessNode, L: Line>(
 ) -> Result<(), AllocError>
     ensures served { OnOk result (ServesCome P.does P.unit (λ came. round_deeds (P.unit process.old) (record { shown = shown; came = came }))
         process.old (L.known line.old) process.new (L.known line.new)) }
+    ensures stopped { OnErr result (ServesUntil P.does P.fails process.old (L.known line.old)
+        process.new (L.known line.new)) }
     ensures there { OnOk result (shown ≤ P.unit process.new) }
 {
     match advance(process, line, shown) {
@@ -196,7 +217,7 @@ fn round<P: ProcessNode, L: Line>(
 /// each unit of the clock.
 ///
 /// # Errors
-/// `AllocError` if memory is refused.
+/// `AllocError` if a deed fails. Nothing of that deed is sent, and nothing after it.
 #[tactic(auto, using(crate::proofs::Rounds::rounds_on, crate::proofs::Rounds::rounds_none))]
 pub fn serve_process<P: ProcessNode, L: Line, C: Clock>(
     process: &mut P,
@@ -206,6 +227,8 @@ pub fn serve_process<P: ProcessNode, L: Line, C: Clock>(
 ) -> Result<(), AllocError>
     ensures served { OnOk result (ServesRounds P.does P.unit process.old
         (L.known line.old) process.new (L.known line.new)) }
+    ensures stopped { OnErr result (ServesUntil P.does P.fails process.old (L.known line.old)
+        process.new (L.known line.new)) }
     ensures ends { OnOk result ((P.is_over process.new ≡ true) ⊎ (end ≤ P.unit process.new)) }
 {
     let mut packet = RawPacket::new();

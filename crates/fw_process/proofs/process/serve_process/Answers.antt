@@ -1,4 +1,4 @@
-use Rattle.fw_process.proofs.Rounds.{rounds_on}
+use Rattle.fw_process.proofs.Rounds.{rounds_on, until_on}
 use Rattle.fw_process.proofs.process.serve_process.Goals as goal
 
 pub loop-process-preserved : goal.loop-process-preserved
@@ -8,3 +8,8 @@ loop-process-preserved g c = record {
       (g.L.Line.known c.args.line.now) (g.L.Line.known c.loop-process.line) (g.L.Line.known c.round.new.line) c.wait_past-shown.result
       c.loop-process.invariant.served c.in-Ok.ensures.served;
 }
+
+pub returns-in-Err-clause-stopped : goal.returns-in-Err-clause-stopped
+returns-in-Err-clause-stopped g c =
+    until_on g.P.ProcessNode.does g.P.ProcessNode.fails g.P.ProcessNode.unit c.args.process.now c.loop-process.process c.round.new.process
+    (g.L.Line.known c.args.line.now) (g.L.Line.known c.loop-process.line) (g.L.Line.known c.round.new.line) _ _ c.loop-process.invariant.served.serves c.in-Err.ensures.stopped
