@@ -28,7 +28,7 @@ use Rattle.fw_serve.proofs.Turns.{end_keeps}
 abbrev has_sender : Sent → Bool
 has_sender p = is_some (sender_of (any_packet p.bytes))
 
-same_process : (u v : ℕ) (m n : AgentOf) (ps qs : List Sent) → u ≡ v → m ≡ n → ps ≡ qs → ◌≡◌ {A = AgentProcess} (record { unit = u; node = m; sent = ps }) (record { unit = v; node = n; sent = qs })
+pub same_process : (u v : ℕ) (m n : AgentOf) (ps qs : List Sent) → u ≡ v → m ≡ n → ps ≡ qs → ◌≡◌ {A = AgentProcess} (record { unit = u; node = m; sent = ps }) (record { unit = v; node = n; sent = qs })
 same_process u v m n ps qs e f g = λ i. record { unit = e i; node = f i; sent = g i }
 
 -- ACTS AFTER ACTS
@@ -166,7 +166,7 @@ halves_again packages (h ∷ hs) = ap (λ (xs : List (HalfOf TimedOf)). half_res
 restarted_again : (packages : List PackageText) (now : ℕ) (n : AgentOf) → agent_restarts packages (agent_ticks packages now (agent_restarts packages n)) ≡ agent_restarts packages n
 restarted_again packages now n = rw (halves_again packages n.halves) refl
 
-absence_after : (packages : List PackageText) (units : ℕ) (p : AgentProcess)
+pub absence_after : (packages : List PackageText) (units : ℕ) (p : AgentProcess)
     → agent_process_after_acts packages p (agent_absence units) ≡ record { unit = p.unit + units; node = agent_restarts packages p.node; sent = p.sent }
 absence_after packages zero p = same_process p.unit (p.unit + 0) (agent_restarts packages p.node) (agent_restarts packages p.node) (p.sent ++ []) p.sent (omega arith) refl (append-nil p.sent)
 absence_after packages (suc units) p =
@@ -175,7 +175,7 @@ absence_after packages (suc units) p =
     ∙ same_process (on.unit + units) (p.unit + suc units) (agent_restarts packages on.node) (agent_restarts packages p.node) on.sent p.sent (omega arith)
     (restarted_again packages (p.unit + 1) p.node) (append-nil (p.sent ++ []) ∙ append-nil p.sent)
 
-absence_may : (packages : List PackageText) (units : ℕ) (p : AgentProcess) → p.unit + units ≤ 2 ^ 32 - 1 → AgentMayDo packages p (agent_absence units)
+pub absence_may : (packages : List PackageText) (units : ℕ) (p : AgentProcess) → p.unit + units ≤ 2 ^ 32 - 1 → AgentMayDo packages p (agent_absence units)
 absence_may packages zero p clock = ((tt, tt), tt)
 absence_may packages (suc units) p clock =
     let on = agent_process_after_act packages (agent_process_after_act packages p AgentAct.Restarts) AgentAct.Ticks in

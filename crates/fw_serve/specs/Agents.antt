@@ -6,6 +6,8 @@ use Rattle.mctp_ctl.specs.declared.answers.Endpoint.{Endpoint}
 use Rattle.mctp_wire.specs.declared.unit.Unit.{«Unit»}
 use Rattle.sel_core.specs.Log.{LogOf, sel_reply}
 use Rattle.fw_message.specs.Worlds.{NotedOf}
+use Rattle.ua_core.specs.Session.{TimedOf}
+use Rattle.fw_node.specs.Halves.{HalfOf}
 use Rattle.fw_node.specs.Agents.{AgentOf, agent_on_packet, any_packet, free_for, half_for, new_agent, ready_for}
 use Rattle.fw_json.specs.Alone.{agent_alone_value}
 use Rattle.fw_json.specs.Values.{line_of}
@@ -42,6 +44,16 @@ new_counts devices = map (λ device. record { device = device; count = 0 }) devi
 abbrev pub new_served_agent : «Unit» → Endpoint → (devices : List ℕ) → List PackageText → ServedAgentOf
 new_served_agent u endpoint devices packages =
     record { packages = packages; now = 0; agent = new_agent u endpoint devices; counts = new_counts devices; answer = None; history = [] }
+
+-- the agent with a node, at time 0, that has sent nothing
+abbrev pub served_agent_of : AgentOf → List PackageText → ServedAgentOf
+served_agent_of n packages =
+    record { packages = packages; now = 0; agent = n; counts = new_counts (map (λ h. h.peer) n.halves); answer = None; history = [] }
+
+-- the count of the device at a place
+abbrev pub count_of_half : Option (HalfOf TimedOf) → List SentCount
+count_of_half None = []
+count_of_half (Some h) = record { device = h.peer; count = 0 } ∷ []
 
 -- A packet that is sent is counted for its device. A count stops at its last value, 2^64 - 1.
 abbrev pub count_with : List ℕ → SentCount → SentCount

@@ -1,5 +1,7 @@
 pub mod Agents
+pub mod Anew
 pub mod Fronts
+pub mod Keeping
 pub mod Lines
 pub mod Noting
 pub mod Parts

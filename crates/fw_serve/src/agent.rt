@@ -6,9 +6,9 @@ ghost use Rattle.fw_node.specs.Agents.{free_for, half_for, new_agent, ready_for}
 ghost use Rattle.fw_steps.specs.Alone.{AgentCall};
 ghost use Rattle.fw_steps.specs.Steps.{is_package};
 ghost use Rattle.fw_serve.specs.Processes.{agent_after_missing};
-ghost use Rattle.fw_serve.specs.Agents.{activated_if_ready, agent_report, agent_served, counts_with, known_refusal, log_answer, new_counts, new_served_agent, ready_refusal, served_packets, start_refusal, turn_ended, turn_packets, turn_taken};
+ghost use Rattle.fw_serve.specs.Agents.{activated_if_ready, agent_report, agent_served, counts_with, known_refusal, log_answer, new_counts, new_served_agent, ready_refusal, served_agent_of, served_packets, start_refusal, turn_ended, turn_packets, turn_taken};
 
-use crate::counts::{count_packet, counts_for};
+use crate::counts::{count_packet, counts_for, counts_of};
 use crate::texts::LineRefusal;
 use fw_message::Entry;
 use fw_node::{AgentNode, Outbox};
@@ -88,6 +88,28 @@ impl<'p> ServedAgent<'p> {
             packages,
             time: 0,
             agent,
+            counts,
+            answer: None,
+            history: Vec::new(alloc),
+        })
+    }
+
+    /// Creates the agent with this node, which may be resumed, at time 0. It has sent nothing.
+    ///
+    /// # Errors
+    /// `AllocError` if memory for it is refused.
+    pub fn of_node(
+        alloc: Global,
+        node: AgentNode,
+        packages: &'p [Package<'p>],
+    ) -> Result<ServedAgent<'p>, AllocError>
+        ensures { IfOk result (λ s. s ≡ served_agent_of node packages.now) }
+    {
+        let counts = counts_of(alloc, &node)?;
+        Ok(ServedAgent {
+            packages,
+            time: 0,
+            agent: node,
             counts,
             answer: None,
             history: Vec::new(alloc),

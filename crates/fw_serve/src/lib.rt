@@ -18,7 +18,7 @@ mod texts;
 
 pub use agent::{CallFault, ServedAgent};
 pub use agent_filter::AgentFilter;
-pub use agent_process::AgentProcess;
+pub use agent_process::{AgentProcess, serve_agent_process};
 pub use device::ServedDevice;
 pub use device_filter::DeviceFilter;
 pub use device_process::DeviceProcess;
@@ -27,5 +27,6 @@ pub use lines::{AgentLine, DeviceLine, read_agent_line, read_device_line};
 pub use printing_laws::parts_are_printed;
 pub use process_laws::{
     agents_act, devices_act, rounds_are_timely, served_processes_are_safe, services_act,
+    started_anew_is_absence,
 };
 pub use texts::LineRefusal;

@@ -1,7 +1,10 @@
 //! The deeds of served processes as acts of a trace, so that the headline holds for them.
 
+ghost use Rattle.fw_serve.specs.Anew.{StartedAnewIsAbsence};
 ghost use Rattle.fw_serve.specs.Traced.{AgentsAct, DevicesAct, RoundsAreTimely, ServedProcessesAreSafe, ServedProcessesEnd, ServicesAct};
 
+use agent_store::what_is_kept_is_resumed;
+use fw_node::restarts_keep_no_more;
 use fw_steps::traces_are_safe;
 
 /// A process receives each packet in the unit of its stamp or in one of the 8 units after it.
@@ -34,4 +37,13 @@ pub fn served_processes_are_safe()
     ensures law { ServedProcessesAreSafe }
 {
     traces_are_safe();
+}
+
+/// An agent whose process was stopped or killed after a deed, and that is started anew from what was
+/// kept then, is the agent that was absent. So the lives of an agent are one process of a trace.
+pub fn started_anew_is_absence()
+    ensures law { StartedAnewIsAbsence }
+{
+    what_is_kept_is_resumed();
+    restarts_keep_no_more();
 }

@@ -13,10 +13,11 @@ use crate::host::{Host, Parts};
 use crate::sessions::{Undone, is_done, undone_fault};
 use crate::setups::{configuration, package_files, packages_in};
 use crate::wiring::{Joined, Network, Wiring, end_of};
+use agent_store::NoKeeper;
 use fw_json::agent_json;
-use fw_process::{Clock, Line, serve_process};
+use fw_process::{Clock, Line};
 use fw_script::{Config, session_of};
-use fw_serve::{AgentProcess, CallFault, ServedAgent};
+use fw_serve::{AgentProcess, CallFault, ServedAgent, serve_agent_process};
 use fw_trace::log_bytes;
 use fwupd_base::Form;
 use fwupd_watch::{JobFault, OutputPlaces, is_over_read, write_file};
@@ -44,9 +45,9 @@ fn serve_started<'p, L: Line + Drop, C: Clock + Drop>(
     agent: ServedAgent<'p>,
     eids: &[u8],
     joined: &mut Joined<L, C>,
-) -> Result<AgentProcess<'p>, JobFault>
+) -> Result<AgentProcess<'p, NoKeeper>, JobFault>
     requires { agent.now ≡ 0 }
-    ensures { IfOk result (λ last. ServesStarted job.now.number eids.now agent.entry last) }
+    ensures { IfOk result (λ last. ServesStarted job.now.number eids.now agent.entry last.agent) }
 {
     let mut agent = agent;
     let shown = joined.clock.wait_past(0);
@@ -55,11 +56,11 @@ fn serve_started<'p, L: Line + Drop, C: Clock + Drop>(
         Ok(()) => {}
         Err(fault) => return Err(fault),
     }
-    let Ok(mut process) = AgentProcess::new(alloc, agent) else {
+    let Ok(mut process) = AgentProcess::new(alloc, agent, NoKeeper) else {
         return Err(JobFault::Memory);
     };
     let end = end_of(shown, job.serving.ticks);
-    match serve_process(&mut process, &mut joined.line, &mut joined.clock, end) {
+    match serve_agent_process(&mut process, &mut joined.line, &mut joined.clock, end) {
         Ok(()) => Ok(process),
         Err(_) => Err(JobFault::Memory),
     }

@@ -3,6 +3,7 @@
 mod agent_lines;
 mod device_lines;
 mod joined;
+mod keepers;
 mod open_lines;
 mod serial_lines;
 mod setup;

@@ -4,12 +4,12 @@ use Rattle.fw_serve.specs.Agents.{ServedAgentOf}
 use Rattle.fw_serve.specs.Processes.{AgentDoes}
 use Rattle.fwupd_jobs.proofs.agent_serving.serve_started.Goals as goal
 
-pub returns-in-Ok-serve_process : goal.returns-in-Ok-serve_process
-returns-in-Ok-serve_process g c = record {
+pub returns-in-Ok-serve_agent_process : goal.returns-in-Ok-serve_agent_process
+returns-in-Ok-serve_agent_process g c = record {
   shown = c.wait_past-shown.result;
   joined = g.L.Line.known c.args.joined.now.line;
-  left = g.L.Line.known c.serve_process.new.line;
+  left = g.L.Line.known c.serve_agent_process.new.line;
   serves =
-      subst (λ (s : ServedAgentOf). ServesRounds AgentDoes (λ x. x.now) s (g.L.Line.known c.args.joined.now.line) c.serve_process.new.process (g.L.Line.known c.serve_process.new.line))
-      (search rules) c.in-Ok-serve_process.ensures.served;
+      subst (λ (s : ServedAgentOf). ServesRounds AgentDoes (λ x. x.now) s (g.L.Line.known c.args.joined.now.line) c.serve_agent_process.new.process.agent (g.L.Line.known c.serve_agent_process.new.line))
+      (search rules) c.in-Ok-serve_agent_process.ensures.agent;
 }
