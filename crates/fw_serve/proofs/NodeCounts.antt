@@ -1,5 +1,5 @@
 -- The counts of an agent with a node.
-use Rattle.std.proofs.Common.{◌≡◌, ◌∙◌, ◌<◌, ◌+◌, ◌++◌, ℕ, zero, suc, List, [], ◌∷◌, Option, Some, None, append-nil, append_assoc, ap, length, map, option_map, slice_get, take, refl, arith}
+use Rattle.std.proofs.Common.{◌≡◌, ◌∙◌, ◌<◌, ◌+◌, ◌++◌, ℕ, zero, suc, List, [], ◌∷◌, Option, Some, None, append-nil, ap, length, map, option_map, slice_get, take, refl, arith}
 use Rattle.std.proofs.lemmas.List.{take_all}
 use Rattle.ua_core.specs.Session.{TimedOf}
 use Rattle.fw_node.specs.Halves.{HalfOf}
