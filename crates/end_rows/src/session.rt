@@ -1,6 +1,7 @@
 //! Tests of the session.
 
 mod calls;
+mod cases;
 mod packages;
 mod resuming;
 mod situations;

@@ -1,17 +1,17 @@
 //! The state after memory is refused. Whichever single allocation is refused, each test holds.
 
 use crate::device::setup::{
-    ACTIVATE, DOWNLOAD, KEY, READY, SIZE, advance, advance_between, ask, bank, label, number,
-    offer, worked, write,
+    ACTIVATE, DOWNLOAD, IDLE, KEY, READY, SIZE, Tested, WORKED, ask, bank, device, go, label,
+    number, offer, write,
 };
-use fd_core::{Bank, Device, MemBank};
+use fd_core::{Bank, MemBank};
 use fwup_wire::code::command::UPDATE_COMPONENT;
 use pldm_base::Reply;
 
 /// Writes an image of two bytes, then begins one of three in its place. If that is refused, the two
 /// bytes are still there as a whole and are applied; else the three bytes are. Returns the number
 /// of applied bytes, 0 if the first calls failed.
-fn write_over<B: Bank>(bank: &mut B) -> usize {
+fn write_over(bank: &mut MemBank) -> usize {
     let label = label(2, b"v2");
     if bank.active(KEY).is_none() {
         return 0;
@@ -32,7 +32,7 @@ fn write_over<B: Bank>(bank: &mut B) -> usize {
 }
 
 /// Writes and activates an image of these bytes. Returns whether each call worked.
-fn update<B: Bank>(bank: &mut B, image: &[u8]) -> bool {
+fn update(bank: &mut MemBank, image: &[u8]) -> bool {
     write(bank, image, true) && bank.switch().is_ok()
 }
 
@@ -90,7 +90,7 @@ fn refused_memory_leaves_the_stage(rt: HostRuntime) {
 }
 
 /// The reply to UpdateComponent.
-fn offered(device: &mut Device<MemBank>) -> Reply {
+fn offered(device: &mut Tested) -> Reply {
     ask(device, UPDATE_COMPONENT, &offer(2, SIZE, false), true)
 }
 
@@ -99,7 +99,7 @@ static TAKEN: [u8; 9] = [0; 9];
 
 /// Whether UpdateComponent is accepted in READY XFER, at the second try if memory is refused and
 /// the device stays in that state.
-fn takes_the_offer(device: &mut Device<MemBank>) -> bool {
+fn takes_the_offer(device: &mut Tested) -> bool {
     let reply = offered(device);
     if reply.as_slice() == [1].as_slice() {
         device.bank().failures() == 1
@@ -111,16 +111,16 @@ fn takes_the_offer(device: &mut Device<MemBank>) -> bool {
 }
 
 /// Whether a device accepts the offer that way, and is then updated.
-fn is_asked_again(device: &mut Device<MemBank>) -> bool {
-    advance(device, READY);
+fn is_asked_again(device: &mut Tested) -> bool {
+    go(device, IDLE, READY, SIZE);
     let taken = takes_the_offer(device);
-    advance_between(device, DOWNLOAD, ACTIVATE, SIZE);
+    go(device, DOWNLOAD, ACTIVATE, SIZE);
     taken && number(device) == 6
 }
 
 #[test]
 fn refused_memory_is_asked_for_again(rt: HostRuntime) {
-    if let Ok(mut device) = worked(rt.alloc()) {
+    if let Ok(mut device) = device(rt.alloc(), WORKED) {
         assert!(rt; is_asked_again(&mut device));
     }
 }

@@ -5,14 +5,15 @@ ghost use Rattle.fd_core.specs.Images.{key_of};
 
 use arrayvec::ArrayVec;
 use fd_core::{
-    Bank, BankComponent, BankFault, Device, Key, Label, MAX_IMAGE, MemBank, Progress, Verdict,
+    Bank, BankComponent, BankFault, Device, FailBank, Key, Label, MAX_IMAGE, MemBank, Verdict,
 };
 use fwup_wire::code::command::{
-    ACTIVATE_FIRMWARE, APPLY_COMPLETE, GET_STATUS, PASS_COMPONENT_TABLE, REQUEST_UPDATE,
+    ACTIVATE_FIRMWARE, APPLY_COMPLETE, PASS_COMPONENT_TABLE, REQUEST_FIRMWARE_DATA, REQUEST_UPDATE,
     TRANSFER_COMPLETE, UPDATE_COMPONENT, VERIFY_COMPLETE,
 };
 use fwup_wire::{
-    Answer, Command, DescriptorList, DeviceDescriptor, MAX_TRANSFER, TypedText, Version, read,
+    Answer, Command, DescriptorList, DeviceDescriptor, MAX_TRANSFER, Malformed, TypedText, Version,
+    read,
 };
 use mctp_wire::Unit;
 use pldm_base::Reply;
@@ -24,6 +25,12 @@ pub const KEY: Key = Key {
     identifier: 1,
 };
 
+/// The second component of a device of two.
+pub const OTHER: Key = Key {
+    classification: 10,
+    identifier: 2,
+};
+
 /// RequestUpdate: transfer size 240, one component, set text `A`.
 pub const REQUEST: [u8; 12] = [0xF0, 0, 0, 0, 1, 0, 1, 0, 0, 1, 1, 0x41];
 
@@ -33,7 +40,7 @@ pub const LONG_REQUEST: [u8; 12] = [0xF0, 1, 0, 0, 1, 0, 1, 0, 0, 1, 1, 0x41];
 /// PassComponentTable: (10, 1) alone, stamp 2, `v2`.
 pub const ENTRY: [u8; 14] = [5, 0x0A, 0, 1, 0, 0, 2, 0, 0, 0, 1, 2, 0x76, 0x32];
 
-/// The size in bytes of the image that `advance` offers.
+/// The size in bytes of the worked image.
 pub const SIZE: u32 = 241;
 
 /// The padding after the image in an answer to RequestFirmwareData.
@@ -95,7 +102,7 @@ pub fn offer(stamp: u32, size: u32, force: bool) -> [u8; 21] {
 }
 
 /// The worked device's descriptors: type 0, data 34 12.
-pub fn descriptors() -> DescriptorList {
+fn descriptors() -> DescriptorList {
     let mut descriptors = DescriptorList::new();
     descriptors.push(&DeviceDescriptor {
         kind: 0,
@@ -124,30 +131,55 @@ pub fn bank(alloc: Global, stamp: u32) -> Result<MemBank, BankFault>
     Ok(bank)
 }
 
-/// The worked device over this bank, at the unit of 64 bytes.
-pub fn device<B: Bank>(bank: B) -> Device<B>
-    requires { map key_of (B.rows bank) ≡ KEY ∷ [] }
-{
-    device_at(Unit::U64, bank)
-}
+/// A device of the tests.
+pub type Tested = Device<FailBank>;
 
-/// The same at this transmission unit.
-fn device_at<B: Bank>(unit: Unit, bank: B) -> Device<B>
-    requires { map key_of (B.rows bank) ≡ KEY ∷ [] }
+/// The worked device over this bank, at this transmission unit.
+fn device_of_one(unit: Unit, bank: FailBank) -> Tested
+    requires { map key_of bank.bank.rows ≡ KEY ∷ [] }
 {
     let mut components = ArrayVec::new();
     components.push(BankComponent { key: KEY, index: 0 });
     Device::new(unit, descriptors(), components, bank)
 }
 
-/// The worked device, with stamp 1.
-pub fn worked(alloc: Global) -> Result<Device<MemBank>, BankFault> {
-    worked_at(alloc, Unit::U64)
+/// A device of two components, (10, 1) and (10, 2), both of stamp 1 and text `1.0`.
+fn device_of_two(alloc: Global) -> Result<Tested, BankFault> {
+    let mut bank = MemBank::new(alloc);
+    let label = label(1, b"1.0");
+    bank.add(KEY, &label, &[0xAA])?;
+    bank.add(OTHER, &label, &[0xBB])?;
+    let mut components = ArrayVec::new();
+    components.push(BankComponent { key: KEY, index: 0 });
+    components.push(BankComponent {
+        key: OTHER,
+        index: 1,
+    });
+    Ok(Device::new(Unit::U64, descriptors(), components, FailBank::new(bank, 0)))
 }
 
-/// The same at this transmission unit.
-pub fn worked_at(alloc: Global, unit: Unit) -> Result<Device<MemBank>, BankFault> {
-    Ok(device_at(unit, bank(alloc, 1)?))
+/// How a device is made.
+#[derive(Clone, Copy)]
+pub enum Made {
+    /// The worked device, at this transmission unit and with this stamp.
+    Worked(Unit, u32),
+    /// The worked device over a bank whose call of this number, counted from 1, fails.
+    Failing(u64),
+    /// The device of two components.
+    Twofold,
+}
+
+/// The worked device.
+pub const WORKED: Made = Made::Worked(Unit::U64, 1);
+
+/// Makes a device.
+pub fn device(alloc: Global, made: Made) -> Result<Tested, BankFault> {
+    let (unit, stamp, fails) = match made {
+        Made::Worked(unit, stamp) => (unit, stamp, 0),
+        Made::Failing(call) => (Unit::U64, 1, call),
+        Made::Twofold => return device_of_two(alloc),
+    };
+    Ok(device_of_one(unit, FailBank::new(bank(alloc, stamp)?, fails)))
 }
 
 /// RequestUpdate of an agent at this transmission unit.
@@ -159,7 +191,7 @@ pub fn request(unit: Unit) -> [u8; 12] {
 }
 
 /// The reply to a command and its request data.
-pub fn ask<B: Bank>(device: &mut Device<B>, command: u8, fields: &[u8], quiet: bool) -> Reply {
+pub fn ask(device: &mut Tested, command: u8, fields: &[u8], quiet: bool) -> Reply {
     match read(command, fields) {
         Ok(command) => device.take(&command, quiet),
         Err(code) => {
@@ -172,7 +204,7 @@ pub fn ask<B: Bank>(device: &mut Device<B>, command: u8, fields: &[u8], quiet: b
 
 /// Answers the requests for data with byte `i` being `i mod 256`, and `PADDING` past the image, as
 /// long as there are any. Returns the number of requests, and the offset and length of the last.
-pub fn transfer<B: Bank>(device: &mut Device<B>, size: u32) -> (u32, u32, u32) {
+fn transfer(device: &mut Tested, size: u32) -> (u32, u32, u32) {
     let mut last = (0, 0);
     for count in 0..MOST_REQUESTS {
         let Some(Command::RequestFirmwareData { offset, length }) = device.wish() else {
@@ -194,7 +226,7 @@ pub fn transfer<B: Bank>(device: &mut Device<B>, size: u32) -> (u32, u32, u32) {
 }
 
 /// Takes one step of an update of `size` bytes, from place `place` to the next.
-fn step<B: Bank>(device: &mut Device<B>, place: usize, size: u32) {
+fn step(device: &mut Tested, place: usize, size: u32) {
     match place {
         IDLE => {
             let _ = ask(device, REQUEST_UPDATE, &request(device.unit()), true);
@@ -223,19 +255,18 @@ fn step<B: Bank>(device: &mut Device<B>, place: usize, size: u32) {
     }
 }
 
-/// Advances a new device to a place of an update of `SIZE` bytes.
-pub fn advance<B: Bank>(device: &mut Device<B>, to: usize) {
-    advance_between(device, IDLE, to, SIZE);
-}
-
 /// Advances a device from one place to a later one of an update of `size` bytes.
-pub fn advance_between<B: Bank>(device: &mut Device<B>, from: usize, to: usize, size: u32) {
+pub fn go(device: &mut Tested, from: usize, to: usize, size: u32) {
     for place in from..to {
         step(device, place, size);
     }
 }
 
-/// A call of a device in a case, and its result.
+/// An image: its stamp, its size and its first byte. Each further byte is the one before it plus 1,
+/// modulo 256.
+pub type Image = (u32, u32, u8);
+
+/// A call of a device in a case, or an observation of it, and the expected result.
 #[derive(Clone, Copy)]
 pub enum Call<'a> {
     /// A command and its request data, and the reply.
@@ -244,118 +275,146 @@ pub enum Call<'a> {
     Busy(u8, &'a [u8], &'a [u8]),
     /// Advances from one place to a later one of an update of this many bytes.
     Go(usize, usize, u32),
+    /// Transfers an image of this many bytes: the number of requests for data, and the offset and
+    /// length of the last.
+    Transfer(u32, (u32, u32, u32)),
+    /// The device receives the answer that a command is malformed, or is refused with this code.
+    Malformed,
+    Refused(u8),
+    /// This verdict, which is taken.
+    Judge(Verdict),
+    /// This number of ticks.
+    Ticks(u32),
     /// The expected number of the state.
     Is(u8),
     /// Whether the update may be activated.
     May(bool),
+    /// The pending command and its result, if any.
+    Reports(Option<(u8, u8)>),
+    /// The active image of a component.
+    Active(Key, Image),
+    /// The applied image of the worked component, if any.
+    Applied(Option<Image>),
+    /// The components.
+    Keys(&'a [BankComponent]),
+}
+
+/// Makes a call. Returns whether a device behaves as it expects.
+fn does(device: &mut Tested, call: &Call<'_>) -> bool {
+    match *call {
+        Call::Ask(command, fields, reply) => ask(device, command, fields, true).as_slice() == reply,
+        Call::Busy(command, fields, reply) => {
+            ask(device, command, fields, false).as_slice() == reply
+        }
+        Call::Go(from, to, size) => {
+            go(device, from, to, size);
+            true
+        }
+        Call::Transfer(size, requests) => transfer(device, size) == requests,
+        Call::Malformed => {
+            device.learn(Err(Malformed));
+            true
+        }
+        Call::Refused(code) => {
+            device.learn(Ok(&Answer::Refused { code }));
+            true
+        }
+        Call::Judge(verdict) => device.verdict(verdict).is_ok(),
+        Call::Ticks(count) => {
+            pass(device, count);
+            true
+        }
+        _ => is_so(device, call),
+    }
+}
+
+/// Whether an observation of a device is as expected.
+fn is_so(device: &Tested, call: &Call<'_>) -> bool {
+    match *call {
+        Call::Is(state) => number(device) == state,
+        Call::May(may) => device.may_activate() == may,
+        Call::Reports(pending) => report(device) == pending,
+        Call::Active(key, image) => is_image(device.bank().active(key), Some(image)),
+        Call::Applied(image) => is_image(device.bank().applied(KEY), image),
+        Call::Keys(keys) => device.keys() == keys,
+        _ => false,
+    }
 }
 
 /// Returns whether a device behaves as the calls expect.
-pub fn follows<B: Bank>(device: &mut Device<B>, calls: &[Call<'_>]) -> bool {
+fn follows(device: &mut Tested, calls: &[Call<'_>]) -> bool {
     for call in calls {
-        let holds = match *call {
-            Call::Ask(command, fields, reply) => {
-                ask(device, command, fields, true).as_slice() == reply
-            }
-            Call::Busy(command, fields, reply) => {
-                ask(device, command, fields, false).as_slice() == reply
-            }
-            Call::Go(from, to, size) => {
-                advance_between(device, from, to, size);
-                true
-            }
-            Call::Is(state) => number(device) == state,
-            Call::May(may) => device.may_activate() == may,
-        };
-        if !holds {
+        if !does(device, call) {
             return false;
         }
     }
     true
 }
 
-/// The number of the device's state.
-pub fn number<B: Bank>(device: &Device<B>) -> u8 {
-    device.state() as u8
+/// A case: a device, and its calls.
+#[derive(Clone, Copy)]
+pub struct Row<'a> {
+    pub situation: &'a str,
+    pub made: Made,
+    pub calls: &'a [Call<'a>],
 }
 
-/// Returns whether the device has all bytes of its image and requests no more.
-pub fn is_done<B: Bank>(device: &Device<B>) -> bool {
-    device.progress() == Some(Progress::Succeeded)
-}
-
-/// The status of the device: state, previous state, aux, its status, and the reason.
-pub fn status<B: Bank>(device: &mut Device<B>) -> [u8; 5] {
-    let reply = ask(device, GET_STATUS, &[], true);
-    match reply.as_slice() {
-        [
-            0,
-            state,
-            previous,
-            aux,
-            aux_status,
-            0x65,
-            reason,
-            _,
-            0,
-            0,
-            0,
-        ] => { [*state, *previous, *aux, *aux_status, *reason] }
-        _ => [0xFF; 5],
+/// Returns whether the device of a case behaves as its calls expect.
+pub fn holds(alloc: Global, row: &Row<'_>) -> bool {
+    match device(alloc, row.made) {
+        Ok(mut device) => follows(&mut device, row.calls),
+        Err(_) => false,
     }
 }
 
-/// Returns the report that the device sends next: its command and its result.
-pub fn report<B: Bank>(device: &Device<B>) -> Option<(u8, u8)> {
-    match device.wish() {
-        Some(Command::TransferComplete { result }) => Some((TRANSFER_COMPLETE, result)),
-        Some(Command::VerifyComplete { result }) => Some((VERIFY_COMPLETE, result)),
-        Some(Command::ApplyComplete { result, .. }) => Some((APPLY_COMPLETE, result)),
-        _ => None,
+/// The number of the device's state.
+pub fn number(device: &Tested) -> u8 {
+    device.state() as u8
+}
+
+/// The pending command of the device and its result, 0 for a request for data.
+fn report(device: &Tested) -> Option<(u8, u8)> {
+    match device.wish()? {
+        Command::TransferComplete { result } => Some((TRANSFER_COMPLETE, result)),
+        Command::VerifyComplete { result } => Some((VERIFY_COMPLETE, result)),
+        Command::ApplyComplete { result, .. } => Some((APPLY_COMPLETE, result)),
+        _ => Some((REQUEST_FIRMWARE_DATA, 0)),
     }
 }
 
 /// Passes `ticks` ticks.
-pub fn pass<B: Bank>(device: &mut Device<B>, ticks: u32) {
+fn pass(device: &mut Tested, ticks: u32) {
     for _ in 0..ticks {
         device.idle_tick();
     }
 }
 
-/// Whether a component is applied.
-pub fn has_applied<B: Bank>(device: &Device<B>) -> bool {
-    device.bank().applied(KEY).is_some()
-}
-
-/// Returns whether the bank's active image is the first `size` bytes of the image, of which byte
-/// `i` is `i mod 256`.
-pub fn runs<B: Bank>(device: &Device<B>, size: u32) -> bool {
-    match device.bank().active(KEY) {
-        None => false,
-        Some((_, bytes)) => is_image(bytes, size as usize),
+/// Whether an image is the expected one.
+fn is_image(found: Option<(&Label, &[u8])>, image: Option<Image>) -> bool {
+    match (found, image) {
+        (Some((label, bytes)), Some((stamp, size, first))) => {
+            label.stamp() == stamp && bytes.len() == size as usize && are_rising(bytes, first)
+        }
+        (None, None) => true,
+        _ => false,
     }
 }
 
-/// Returns whether the bank's applied image is these bytes.
-pub fn is_applied<B: Bank>(device: &Device<B>, size: u32) -> bool {
-    match device.bank().applied(KEY) {
-        None => false,
-        Some((_, bytes)) => is_image(bytes, size as usize),
-    }
-}
-
-fn is_image(bytes: &[u8], size: usize) -> bool {
-    for (i, byte) in bytes.iter().enumerate() {
-        if *byte as usize != i % 256 {
+/// Whether bytes rise from this one, modulo 256.
+fn are_rising(bytes: &[u8], first: u8) -> bool {
+    let mut expected = first;
+    for byte in bytes {
+        if *byte != expected {
             return false;
         }
+        expected = expected.wrapping_add(1);
     }
-    bytes.len() == size
+    true
 }
 
 /// Writes an image of these bytes for the worked component, and seals it if `seals` is set. Returns
 /// whether all calls worked.
-pub fn write<B: Bank>(bank: &mut B, image: &[u8], seals: bool) -> bool {
+pub fn write(bank: &mut MemBank, image: &[u8], seals: bool) -> bool {
     if bank.active(KEY).is_none() || image.len() > MAX_IMAGE as usize {
         return false;
     }

@@ -4,7 +4,6 @@ use super::{STARTED, holds};
 use sel_core::SelCall::{Note, Request};
 use sel_core::{LogRecord, LogSettings, ResumeFault, Sel, SelCall};
 use std::alloc::Global;
-use std::test::Fail;
 
 /// Settings of a log that refused a record.
 const SETTINGS: LogSettings = LogSettings {
@@ -16,14 +15,14 @@ const SETTINGS: LogSettings = LogSettings {
     overflow: true,
 };
 
-/// A record with this identifier.
-fn record(id: u16) -> LogRecord {
-    LogRecord {
-        id,
-        record_type: 0x12,
-        rest: [1, 2, 3, 4, 5, 6, 7, 8, 9, 10, 11, 12, 13],
-    }
-}
+/// A record; the others have other identifiers.
+const RECORD: LogRecord = LogRecord {
+    id: 5,
+    record_type: 0x12,
+    rest: [1, 2, 3, 4, 5, 6, 7, 8, 9, 10, 11, 12, 13],
+};
+
+const SECOND: LogRecord = LogRecord { id: 2, ..RECORD };
 
 /// Calls of a log with these settings and the records 5 and 2, and their replies.
 static RESUMED: [(SelCall<'static>, &[u8]); 6] = [
@@ -50,70 +49,79 @@ static RESUMED: [(SelCall<'static>, &[u8]); 6] = [
     (Request(0x44, &[0x12; 16], 1), &[0, 7, 0]),
 ];
 
-#[test]
-fn a_resumed_log_goes_on(rt: HostRuntime) -> Result<(), Fail> {
-    let mut log = Sel::resumed(rt.alloc(), SETTINGS, &[record(5), record(2)])?;
-    assert!(rt; holds(&mut log, &RESUMED));
-    Ok(())
+/// Whether the log of these settings and records goes on.
+fn goes_on(alloc: Global) -> bool {
+    match Sel::resumed(alloc, SETTINGS, &[RECORD, SECOND]) {
+        Ok(mut log) => holds(&mut log, &RESUMED),
+        Err(_) => false,
+    }
 }
 
-/// Whether a log with these settings and records can't be resumed.
-fn is_none(alloc: Global, settings: LogSettings, records: &[LogRecord]) -> bool {
+/// Whether a log with these settings and records can be resumed; None if memory is refused.
+fn resumes(alloc: Global, settings: LogSettings, records: &[LogRecord]) -> Option<bool> {
     match Sel::resumed(alloc, settings, records) {
-        Ok(_) => false,
-        Err(fault) => fault == ResumeFault::NoLog,
+        Ok(_) => Some(true),
+        Err(ResumeFault::NoLog) => Some(false),
+        Err(_) => None,
     }
 }
 
-#[test]
-fn a_full_log_is_resumed_and_no_more(rt: HostRuntime) -> Result<(), Fail> {
-    let alloc = rt.alloc();
-    let mut records = Vec::new(alloc);
-    for id in 0..128_u16 {
-        records.push(record(id + 1))?;
+/// Settings and records that are no log: an identifier twice; identifiers that no record has; and
+/// next identifiers and a next reservation that there are not.
+static NONE: [(LogSettings, &[LogRecord]); 6] = [
+    (SETTINGS, &[RECORD, SECOND, RECORD]),
+    (SETTINGS, &[LogRecord { id: 0, ..RECORD }]),
+    (
+        SETTINGS,
+        &[LogRecord {
+            id: 0xFFFF,
+            ..RECORD
+        }],
+    ),
+    (
+        LogSettings {
+            next_id: 0,
+            ..SETTINGS
+        },
+        &[],
+    ),
+    (
+        LogSettings {
+            next_id: 0xFFFF,
+            ..SETTINGS
+        },
+        &[],
+    ),
+    (
+        LogSettings {
+            next_reservation: 0,
+            ..SETTINGS
+        },
+        &[],
+    ),
+];
+
+/// Whether a log of this number of records can be resumed; None if memory is refused.
+fn resumes_of(alloc: Global, count: u16) -> Option<bool> {
+    let mut records = [RECORD; 129];
+    for (record, id) in records.iter_mut().zip(1..130_u16) {
+        record.id = id;
     }
-    assert!(rt; Sel::resumed(alloc, SETTINGS, &records).is_ok());
-    records.push(record(129))?;
-    assert!(rt; is_none(alloc, SETTINGS, &records));
-    Ok(())
+    resumes(
+        alloc,
+        SETTINGS,
+        records.get(..usize::from(count)).unwrap_or(&[]),
+    )
 }
 
 #[test]
-fn what_is_no_log_is_refused(rt: HostRuntime) {
-    let alloc = rt.alloc();
-    assert!(rt; is_none(alloc, SETTINGS, &[record(5), record(2), record(5)]));
-    assert!(rt; is_none(alloc, SETTINGS, &[record(0)]));
-    assert!(rt; is_none(alloc, SETTINGS, &[record(0xFFFF)]));
-    assert!(rt;
-        is_none(
-            alloc,
-            LogSettings {
-                next_id: 0,
-                ..SETTINGS
-            },
-            &[]
-        )
-    );
-    assert!(rt;
-        is_none(
-            alloc,
-            LogSettings {
-                next_id: 0xFFFF,
-                ..SETTINGS
-            },
-            &[]
-        )
-    );
-    assert!(rt;
-        is_none(
-            alloc,
-            LogSettings {
-                next_reservation: 0,
-                ..SETTINGS
-            },
-            &[]
-        )
-    );
+fn a_log_is_resumed_and_what_is_none_is_refused(rt: HostRuntime) {
+    assert!(rt; goes_on(rt.alloc()));
+    assert!(rt; resumes_of(rt.alloc(), 128) == Some(true));
+    assert!(rt; resumes_of(rt.alloc(), 129) == Some(false));
+    for (settings, records) in &NONE {
+        assert!(rt; resumes(rt.alloc(), *settings, records) == Some(false));
+    }
 }
 
 /// Calls that move each setting of a log.
@@ -123,18 +131,16 @@ static MOVES: [(SelCall<'static>, &[u8]); 3] = [
     (Request(0x49, &[14, 0, 0, 0], 4), &[0]),
 ];
 
-#[test]
-fn the_settings_are_those_of_the_log(rt: HostRuntime) -> Result<(), Fail> {
-    let mut log = Sel::new(rt.alloc())?;
-    assert!(rt; holds(&mut log, &MOVES));
-    let moved = LogSettings {
-        next_id: 2,
-        next_reservation: 2,
-        offset: 10,
-        last_addition: Some(4),
-        last_erase: None,
-        overflow: false,
-    };
-    assert!(rt; log.settings() == moved);
-    Ok(())
+const MOVED: LogSettings = LogSettings {
+    next_id: 2,
+    next_reservation: 2,
+    offset: 10,
+    last_addition: Some(4),
+    last_erase: None,
+    overflow: false,
+};
+
+/// Returns whether the settings of a new log are those that calls moved.
+pub fn moves(log: &mut Sel) -> bool {
+    holds(log, &MOVES) && log.settings() == MOVED
 }

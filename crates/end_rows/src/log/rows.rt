@@ -1,9 +1,9 @@
 //! Calls of a new log, one after the other.
 
-use super::{Row, STARTED, holds};
+use super::{Row, STARTED};
 use sel_core::SelCall::{Note, Request, Restart};
-use sel_core::{Event, EventKind, Sel, SelReply};
-use std::alloc::Global;
+use sel_core::{Event, EventKind, Sel, SelCall, SelReply};
+use std::alloc::{AllocError, Global};
 
 /// An entry that is read as a whole: a note at time 5.
 const WHOLE: [u8; 19] = [
@@ -11,7 +11,7 @@ const WHOLE: [u8; 19] = [
 ];
 
 /// A note is read as a whole and in parts.
-const PARTS: [Row<'static>; 14] = [
+pub const PARTS: [Row<'static>; 14] = [
     (Note(STARTED, 5), &[]),
     (Request(0x43, &[0, 0, 0, 0, 0, 0xFF], 0), &WHOLE),
     // a part without a reservation, and with one
@@ -39,7 +39,7 @@ const PARTS: [Row<'static>; 14] = [
 ];
 
 /// A delete removes the record.
-const DELETES: [Row<'static>; 18] = [
+pub const DELETES: [Row<'static>; 18] = [
     (Request(0x43, &[0, 0, 0, 0, 0, 2], 0), &[0xCB]),
     (Request(0x43, &[0, 0, 0xFF, 0xFF, 0, 2], 0), &[0xCB]),
     (Note(STARTED, 0), &[]),
@@ -67,7 +67,7 @@ const DELETES: [Row<'static>; 18] = [
 
 /// A wrong length is checked first: without a reservation and without a record each of these would
 /// be refused for another reason too. There are no commands 0x41, 0x45 and 0x4A.
-const LENGTHS: [Row<'static>; 12] = [
+pub const LENGTHS: [Row<'static>; 12] = [
     (Request(0x40, &[0xFF; 1], 0), &[0xC7]),
     (Request(0x42, &[0xFF; 1], 0), &[0xC7]),
     (Request(0x43, &[0xFF; 5], 0), &[0xC7]),
@@ -83,7 +83,7 @@ const LENGTHS: [Row<'static>; 12] = [
 ];
 
 /// Each kind of event has its number: an entry of each, at time 0x01020304.
-const KINDS: [Row<'static>; 10] = [
+pub const KINDS: [Row<'static>; 10] = [
     (
         Note(
             Event {
@@ -181,7 +181,7 @@ const OWN: [u8; 16] = [
 ];
 
 /// A clear under an old reservation is refused.
-const CLEARS: [Row<'static>; 8] = [
+pub const CLEARS: [Row<'static>; 8] = [
     (
         Request(0x40, &[], 0),
         &[
@@ -198,7 +198,7 @@ const CLEARS: [Row<'static>; 8] = [
 ];
 
 /// The calls that cancel a reservation.
-const CANCELS: [Row<'static>; 17] = [
+pub const CANCELS: [Row<'static>; 17] = [
     (Note(STARTED, 0), &[]),
     (Request(0x42, &[], 0), &[0, 1, 0]),
     // neither other letters, nor another action, nor the progress
@@ -222,7 +222,7 @@ const CANCELS: [Row<'static>; 17] = [
 ];
 
 /// The time is set between additions, and none of the records changes its own.
-const TIMES: [Row<'static>; 13] = [
+pub const TIMES: [Row<'static>; 13] = [
     (Request(0x48, &[], 5), &[0, 5, 0, 0, 0]),
     (Note(STARTED, 6), &[]),
     (Request(0x49, &[0xF0, 0xFF, 0xFF, 0xFF], 10), &[0]),
@@ -254,16 +254,6 @@ const TIMES: [Row<'static>; 13] = [
     ),
 ];
 
-const SITUATIONS: [(&str, &[Row<'static>]); 7] = [
-    ("a note is read whole and in parts", &PARTS),
-    ("a delete leaves that record out", &DELETES),
-    ("a wrong length comes first", &LENGTHS),
-    ("each kind of event has its number", &KINDS),
-    ("a clear under an old reservation is refused", &CLEARS),
-    ("what cancels a reservation", &CANCELS),
-    ("the time is set between additions", &TIMES),
-];
-
 /// Whether these are the replies of the cases.
 fn are_replies(rows: &[Row<'_>], replies: &[SelReply]) -> bool {
     for ((_, reply), got) in rows.iter().zip(replies) {
@@ -274,35 +264,22 @@ fn are_replies(rows: &[Row<'_>], replies: &[SelReply]) -> bool {
     replies.len() == rows.len()
 }
 
-/// Whether a new log gives these replies to the calls of the cases, made by `run`.
-fn run_holds(alloc: Global, rows: &[Row<'_>]) -> bool {
+/// The calls of the cases.
+fn calls_of<'a>(alloc: Global, rows: &[Row<'a>]) -> Result<Vec<SelCall<'a>>, AllocError> {
     let mut calls = Vec::new(alloc);
     for (call, _) in rows {
-        let Ok(()) = calls.push(*call) else {
-            return false;
-        };
+        calls.push(*call)?;
     }
-    let Ok(mut log) = Sel::new(alloc) else {
+    Ok(calls)
+}
+
+/// Returns whether a new log gives these replies to the calls of the cases, made by `run`.
+pub fn run_holds(alloc: Global, log: &mut Sel, rows: &[Row<'_>]) -> bool {
+    let Ok(calls) = calls_of(alloc, rows) else {
         return false;
     };
     match log.run(alloc, &calls) {
         Ok(replies) => are_replies(rows, &replies),
         Err(_) => false,
-    }
-}
-
-/// Whether it gives them to calls made one by one.
-fn calls_hold(alloc: Global, rows: &[Row<'_>]) -> bool {
-    match Sel::new(alloc) {
-        Ok(mut log) => holds(&mut log, rows),
-        Err(_) => false,
-    }
-}
-
-#[test]
-fn a_new_log_answers_as_the_rows_say(rt: HostRuntime) {
-    for (situation, rows) in &SITUATIONS {
-        assert!(rt; calls_hold(rt.alloc(), rows), "{situation}");
-        assert!(rt; run_holds(rt.alloc(), rows), "{situation}, by run");
     }
 }

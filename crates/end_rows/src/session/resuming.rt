@@ -1,7 +1,6 @@
 //! Sessions that are resumed from what earlier ones kept.
 
 use mctp_wire::Unit;
-use std::test::Fail;
 use ua_core::{Recorded, Session, SessionState};
 
 /// The records of an update with the package 2.
@@ -16,16 +15,25 @@ const RECORDS: [Recorded; 2] = [
     },
 ];
 
+/// Whether a session has these records, and is in this state with this package.
+fn is_at(session: &Session, state: SessionState, package: usize) -> bool {
+    session.unit() == Unit::U128
+        && session.state() == state
+        && session.package() == package
+        && session.records() == RECORDS.as_slice()
+}
+
+/// Whether a resumed session has its records, before it starts an update and after that.
+fn is_resumed(session: &mut Session) -> bool {
+    is_at(session, SessionState::Idle, 2)
+        && session.start(3).is_ok()
+        && is_at(session, SessionState::Query, 3)
+}
+
 #[test]
-fn a_resumed_session_has_its_records(rt: HostRuntime) -> Result<(), Fail> {
-    let mut session = Session::resumed(rt.alloc(), Unit::U128, 2, &RECORDS)?;
-    assert!(rt; session.unit() == Unit::U128);
-    assert!(rt; session.state() == SessionState::Idle);
-    assert!(rt; session.package() == 2);
-    assert!(rt; session.records() == RECORDS.as_slice());
-    session.start(3)?;
-    assert!(rt; session.state() == SessionState::Query);
-    assert!(rt; session.package() == 3);
-    assert!(rt; session.records() == RECORDS.as_slice());
-    Ok(())
+fn a_resumed_session_has_its_records(rt: HostRuntime) {
+    match Session::resumed(rt.alloc(), Unit::U128, 2, &RECORDS) {
+        Ok(mut session) => assert!(rt; is_resumed(&mut session)),
+        Err(_) => assert!(rt; false),
+    }
 }
