@@ -5,7 +5,7 @@ use fw_trace::{PacketReader, Sent, push_lines};
 use mctp_wire::{MAX_PACKET, Unit};
 
 /// A message in two packets of 64 bytes and one: `type 5A`, and its digits.
-const TWO_PARTS: [(u8, usize); 2] = [(0x88, 64), (0x58, 1)];
+static TWO_PARTS: [(u8, usize); 2] = [(0x88, 64), (0x58, 1)];
 
 /// A line for which memory is refused is lost, and the reader has read its packet. Whichever single
 /// allocation is refused, the test holds.
@@ -13,7 +13,7 @@ const TWO_PARTS: [(u8, usize); 2] = [(0x88, 64), (0x58, 1)];
 fn refused_memory_leaves_the_reader_going_on(rt: HostRuntime) {
     let mut reader = PacketReader::new(Unit::U64, 8, 9);
     let mut told = 0usize;
-    for (flags, size) in TWO_PARTS {
+    for &(flags, size) in &TWO_PARTS {
         let mut bytes = [0x5Au8; MAX_PACKET];
         bytes[..4].copy_from_slice(&[1, 9, 8, flags]);
         let mut text = Vec::new(rt.alloc());

@@ -5,12 +5,22 @@ use fw_trace::{PacketReader, Sent, push_lines, push_message};
 use mctp_wire::Unit;
 use std::alloc::Global;
 
-/// The tick of sending, the packet in digits, and its expected line, without its line feed.
-pub type Row<'a> = (u32, &'a str, &'a str);
+/// The parts of a row: the tick of sending, the packet in digits, and its expected line, without its
+/// line feed. A row is the digits, a bar and the line, which begins with the tick.
+pub fn parts(row: &str) -> Option<(u32, &str, &str)> {
+    let (digits, line) = row.split_once('|')?;
+    let (turn, _) = line.split_once(' ')?;
+    Some((turn.parse().ok()?, digits, line))
+}
 
-/// Whether the next packet gets its line.
-fn gets_line(alloc: Global, reader: &mut PacketReader, number: usize, row: &Row<'_>) -> bool {
-    let (turn, digits, wanted) = *row;
+/// Whether the next packet, sent at a tick, gets its line.
+fn gets_line(
+    alloc: Global,
+    reader: &mut PacketReader,
+    number: usize,
+    row: (u32, &str, &str),
+) -> bool {
+    let (turn, digits, wanted) = row;
     let Ok(bytes) = hex::decode(alloc, digits) else {
         return false;
     };
@@ -22,50 +32,47 @@ fn gets_line(alloc: Global, reader: &mut PacketReader, number: usize, row: &Row<
     }
 }
 
-/// The number of the first packet that doesn't get its line, or 0 if each does.
-fn first_wrong(alloc: Global, unit: Unit, rows: &[Row<'_>]) -> usize {
+/// The number of the first of `count` packets that doesn't get its line, or 0 if each does; their
+/// number and 1 if there aren't `count`.
+fn first_wrong(alloc: Global, unit: Unit, rows: &str, count: usize) -> usize {
     let mut reader = PacketReader::new(unit, 8, 9);
     let mut number = 0usize;
-    for row in rows {
+    for row in rows.lines() {
         number = number.saturating_add(1);
-        if !gets_line(alloc, &mut reader, number, row) {
+        let is_told = match parts(row) {
+            Some(row) => gets_line(alloc, &mut reader, number, row),
+            None => false,
+        };
+        if !is_told {
             return number;
         }
     }
-    0
+    if number == count {
+        0
+    } else {
+        number.saturating_add(1)
+    }
 }
 
 #[test]
-fn tells_an_update(rt: HostRuntime) {
-    assert_eq!(rt; first_wrong(rt.alloc(), Unit::U64, &update::UPDATE), 0);
+fn tells_requests_and_answers(rt: HostRuntime) {
+    assert!(rt; first_wrong(rt.alloc(), Unit::U64, update::UPDATE, 27) == 0);
+    assert!(rt; first_wrong(rt.alloc(), Unit::U64, commands::COMMANDS, 25) == 0);
+    assert!(rt; first_wrong(rt.alloc(), Unit::U64, answers::ANSWERS, 23) == 0);
+    assert!(rt; first_wrong(rt.alloc(), Unit::U64, answers::CODES, 18) == 0);
+    assert!(rt; first_wrong(rt.alloc(), Unit::U64, answers::PARAMETERS, 2) == 0);
 }
 
 #[test]
-fn tells_each_request(rt: HostRuntime) {
-    assert_eq!(rt; first_wrong(rt.alloc(), Unit::U64, &commands::COMMANDS), 0);
-}
-
-#[test]
-fn tells_each_answer_and_each_code(rt: HostRuntime) {
-    assert_eq!(rt; first_wrong(rt.alloc(), Unit::U64, &answers::ANSWERS), 0);
-    assert_eq!(rt; first_wrong(rt.alloc(), Unit::U64, &answers::CODES), 0);
-    assert_eq!(rt; first_wrong(rt.alloc(), Unit::U64, &answers::PARAMETERS), 0);
-}
-
-#[test]
-fn tells_base_commands_and_control_messages(rt: HostRuntime) {
-    assert_eq!(rt; first_wrong(rt.alloc(), Unit::U64, &bases::BASE), 0);
-    assert_eq!(rt; first_wrong(rt.alloc(), Unit::U64, &bases::CONTROL), 0);
-}
-
-#[test]
-fn tells_parts_drops_and_bytes(rt: HostRuntime) {
-    assert_eq!(rt; first_wrong(rt.alloc(), Unit::U64, &packets::PACKETS), 0);
-    assert_eq!(rt; first_wrong(rt.alloc(), Unit::U128, &packets::WIDE), 0);
+fn tells_base_commands_control_messages_and_parts(rt: HostRuntime) {
+    assert!(rt; first_wrong(rt.alloc(), Unit::U64, bases::BASE, 21) == 0);
+    assert!(rt; first_wrong(rt.alloc(), Unit::U64, bases::CONTROL, 33) == 0);
+    assert!(rt; first_wrong(rt.alloc(), Unit::U64, packets::PACKETS, 25) == 0);
+    assert!(rt; first_wrong(rt.alloc(), Unit::U128, packets::WIDE, 3) == 0);
 }
 
 /// Two packets, one in each direction.
-pub const BOTH_WAYS: [Sent<'static>; 2] = [
+pub static BOTH_WAYS: [Sent<'static>; 2] = [
     Sent {
         turn: 4,
         bytes: &[1, 9, 8, 0xC8, 0x7E],
@@ -79,18 +86,29 @@ pub const BOTH_WAYS: [Sent<'static>; 2] = [
 /// Their lines.
 pub const BOTH_LINES: &[u8] = b"4 9 1 8 > 9 tag 0 type 7E\n6 9 2 9 > 8 tag 0 type 7E 01\n";
 
+/// Whether the list gets its lines, and leaves the reader's unit and ends.
+fn tells_list(alloc: Global, reader: &mut PacketReader) -> bool {
+    let mut text = Vec::new(alloc);
+    let told = push_lines(alloc, &mut text, reader, &BOTH_WAYS);
+    told.is_ok()
+        && text.as_slice() == BOTH_LINES
+        && reader.unit() == Unit::U64
+        && (reader.agent(), reader.device()) == (8, 9)
+}
+
 #[test]
 fn tells_a_list_of_packets(rt: HostRuntime) {
-    let mut text = Vec::new(rt.alloc());
-    let mut reader = PacketReader::new(Unit::U64, 8, 9);
-    let told = push_lines(rt.alloc(), &mut text, &mut reader, &BOTH_WAYS);
-    assert!(rt; told.is_ok() && text.as_slice() == BOTH_LINES);
-    assert!(rt; reader.unit() == Unit::U64 && reader.agent() == 8 && reader.device() == 9);
+    assert!(rt; tells_list(rt.alloc(), &mut PacketReader::new(Unit::U64, 8, 9)));
+}
+
+/// Whether a message gets its text.
+fn tells_message(alloc: Global) -> bool {
+    let mut text = Vec::new(alloc);
+    push_message(alloc, &mut text, &[0, 0x83, 2]).is_ok()
+        && text.as_slice() == b"control rq 3 GetEndpointID".as_slice()
 }
 
 #[test]
 fn tells_a_message(rt: HostRuntime) {
-    let mut text = Vec::new(rt.alloc());
-    let told = push_message(rt.alloc(), &mut text, &[0, 0x83, 2]);
-    assert!(rt; told.is_ok() && text.as_slice() == b"control rq 3 GetEndpointID".as_slice());
+    assert!(rt; tells_message(rt.alloc()));
 }
