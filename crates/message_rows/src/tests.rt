@@ -1,5 +1,6 @@
 //! Tests of the world over whole messages.
 
+mod cases;
 mod endings;
 mod losses;
 mod packages;

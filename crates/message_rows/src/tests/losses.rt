@@ -7,14 +7,13 @@ use crate::tests::seeing::{
 };
 use crate::tests::setup::{KEY, Small, join, opening};
 use crate::tests::steps::{
-    ACTIVATING, APPLY, ASKED, COMPLETE_ASKED, DEVICE, DROP_DOWN, GIVE_UP_DOWN, START, TAKE_DOWN,
-    WHOLE, go_on, led, replay, takes, takes_worked, worked,
+    ACTIVATING, APPLY, ASKED, COMPLETE_ASKED, DEVICE, GIVE_UP_DOWN, START, WHOLE, go_on, led,
+    replay, takes, takes_worked, worked,
 };
 use fd_core::State;
 use fw_message::{MessageStep, MessageStepFault, Way};
 use fw_package::Package;
-use std::alloc::Global;
-use std::test::Fail;
+use std::alloc::{AllocError, Global};
 use ua_core::{Cause, SessionState};
 
 /// Whether the update is done.
@@ -22,37 +21,32 @@ fn is_done(world: &Small<'_>) -> bool {
     stands(world, State::Activate, SessionState::Done)
 }
 
-/// Whether the session fails if its asker gives up, these steps then empty the cell, and a next
-/// update is done.
-fn fails_and_goes_on(
-    alloc: Global,
-    packages: &[Package<'_>],
-    then: &[MessageStep],
-) -> Result<bool, Fail> {
-    let mut world = led(alloc, packages, ASKED, &[GIVE_UP_DOWN])?;
-    let silent = SessionState::Failed(Cause::Silent);
-    let failed = stands(&world, State::Idle, silent);
-    let emptied = takes(&mut world, then) && cell_of(&world, Way::Down).is_none();
-    let anew = takes(&mut world, &[START]);
-    go_on(&mut world);
-    Ok(failed && emptied && anew && is_done(&world))
+/// Whether the session has failed, these steps then empty the cell, and a next update is done.
+fn fails_and_goes_on(world: &mut Small<'_>, then: &[MessageStep]) -> bool {
+    stands(world, State::Idle, SessionState::Failed(Cause::Silent))
+        && takes(world, then)
+        && cell_of(world, Way::Down).is_none()
+        && takes(world, &[START])
+        && goes_on(world)
 }
 
-#[test]
-fn a_session_fails_when_its_asker_gives_up(rt: HostRuntime) -> Result<(), Fail> {
-    let one = file(rt.alloc())?;
-    let packages = [package(&one)?];
-    // the device never takes the command, or takes it later
-    let rows: [&[MessageStep]; 2] = [&[DROP_DOWN], &[TAKE_DOWN, DROP_DOWN]];
-    for then in rows {
-        assert!(rt; fails_and_goes_on(rt.alloc(), &packages, then)?);
+/// Whether an update is done if each step is taken that may be.
+fn goes_on(world: &mut Small<'_>) -> bool {
+    go_on(world);
+    is_done(world)
+}
+
+/// Returns whether this holds if the session's asker gives up.
+pub fn gives_up<'a>(alloc: Global, packages: &'a [Package<'a>], then: &[MessageStep]) -> bool {
+    match led(alloc, packages, ASKED, &[GIVE_UP_DOWN]) {
+        Ok(mut world) => fails_and_goes_on(&mut world, then),
+        Err(_) => false,
     }
-    Ok(())
 }
 
 /// The worked steps that allocate: Start, the verdict ApplyOk, and the Takes of ApplyComplete and
 /// of ActivateFirmware.
-const NEEDY: [usize; 4] = [0, APPLY, COMPLETE_ASKED, ACTIVATING + 1];
+static NEEDY: [usize; 4] = [0, APPLY, COMPLETE_ASKED, ACTIVATING + 1];
 
 /// Whether a worked step is taken, at once or, if memory is refused and nothing changes, at the
 /// second try.
@@ -109,18 +103,39 @@ fn is_updated(world: &Small<'_>) -> bool {
         && happened(world, b"ARV")
 }
 
+/// Whether the worked update is taken, and done, also if a failure of the bank came before.
+fn is_taken(world: &mut Small<'_>) -> bool {
+    WHOLE == 40
+        && runs_first(world)
+        && takes_until_failed(world)
+        && (failures(world) == 0 || is_failed_and_goes_on(world))
+        && is_updated(world)
+}
+
+/// The worked file, at the second try if memory is refused.
+fn file_twice(alloc: Global) -> Result<Vec<u8>, AllocError> {
+    match file(alloc) {
+        Ok(bytes) => Ok(bytes),
+        Err(_) => file(alloc),
+    }
+}
+
+/// Whether this holds for a world with the worked package.
+fn goes_despite_refusals(alloc: Global) -> bool {
+    let Ok(bytes) = file_twice(alloc) else {
+        return false;
+    };
+    let Ok(package) = package(&bytes) else {
+        return false;
+    };
+    match joined(alloc, std::slice::from_ref(&package)) {
+        Ok(mut world) => is_taken(&mut world),
+        Err(_) => false,
+    }
+}
+
 /// The worked update of forty steps. Whichever single allocation is refused, the test holds.
 #[test]
-fn refused_memory_leaves_the_world(rt: HostRuntime) -> Result<(), Fail> {
-    let bytes = match file(rt.alloc()) {
-        Ok(bytes) => bytes,
-        Err(_) => file(rt.alloc())?,
-    };
-    let packages = [package(&bytes)?];
-    let mut world = joined(rt.alloc(), &packages)?;
-    let began = WHOLE == 40 && runs_first(&world);
-    let taken = takes_until_failed(&mut world)
-        && (failures(&world) == 0 || is_failed_and_goes_on(&mut world));
-    assert!(rt; began && taken && is_updated(&world));
-    Ok(())
+fn refused_memory_leaves_the_world(rt: HostRuntime) {
+    assert!(rt; goes_despite_refusals(rt.alloc()));
 }

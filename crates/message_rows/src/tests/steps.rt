@@ -130,7 +130,7 @@ pub fn led<'a>(
 }
 
 /// All steps that the worked device and its session may take next, with good verdicts.
-const ROUND: [MessageStep; 12] = [
+static ROUND: [MessageStep; 12] = [
     ASK_DOWN, TAKE_DOWN, TAKE_BUSY, LEARN_DOWN, DROP_DOWN, ASK_UP, TAKE_UP, LEARN_UP, DROP_UP,
     VERIFY_OK, APPLY_OK, ACTIVATE,
 ];
