@@ -11,15 +11,16 @@ fn tells(role: Role, pldm_type: u8, first: [u8; 4]) -> bool {
     reply.as_slice() == wanted.as_slice()
 }
 
+static ROWS: [(Role, u8, [u8; 4]); 4] = [
+    (Role::Device, 0, [0x36, 0, 0, 0]),
+    (Role::Agent, 0, [0x36, 0, 0, 0]),
+    (Role::Device, 5, [0x06, 0x00, 0x19, 0x3C]),
+    (Role::Agent, 5, [0x00, 0x00, 0xE0, 0x01]),
+];
+
 #[test]
 fn tells_commands_by_role(rt: HostRuntime) {
-    let table = [
-        (Role::Device, 0u8, [0x36u8, 0, 0, 0]),
-        (Role::Agent, 0, [0x36, 0, 0, 0]),
-        (Role::Device, 5, [0x06, 0x00, 0x19, 0x3C]),
-        (Role::Agent, 5, [0x00, 0x00, 0xE0, 0x01]),
-    ];
-    for (role, pldm_type, first) in table {
-        assert!(rt; tells(role, pldm_type, first));
+    for (role, pldm_type, first) in &ROWS {
+        assert!(rt; tells(*role, *pldm_type, *first));
     }
 }

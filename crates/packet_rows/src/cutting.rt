@@ -42,7 +42,7 @@ fn is_cut(unit: Unit, size: usize, flags: &[u8], last: usize) -> bool {
 
 /// The unit, the size of a message, the fourth bytes of its packets, and the number of bytes in the
 /// last one.
-const ROWS: [(Unit, usize, &[u8], usize); 9] = [
+static ROWS: [(Unit, usize, &[u8], usize); 9] = [
     (Unit::U64, 1, &[0xCB], 1),
     (Unit::U64, 64, &[0xCB], 64),
     (Unit::U64, 65, &[0x8B, 0x5B], 1),

@@ -29,7 +29,7 @@ fn at_both(packet: &[u8], answer: &[u8]) -> bool {
 /// Sent to the null identifier. Get Endpoint ID: 9, a simple endpoint with a fixed identifier (01);
 /// the same for a source that has no identifier yet; with a byte too much. Set Endpoint ID: its own
 /// is accepted (00), another is rejected (10), and 0 is invalid data.
-const PHYSICAL: [(&[u8], &[u8]); 6] = [
+static PHYSICAL: [(&[u8], &[u8]); 6] = [
     (
         b"\x01\x00\x08\xCA\x00\x83\x02",
         b"\x01\x08\x09\xC2\x00\x03\x02\x00\x09\x01\x00",
@@ -58,7 +58,7 @@ const PHYSICAL: [(&[u8], &[u8]); 6] = [
 
 /// Get MCTP Version Support: one version, 1.3.1 of control messages and 1.0.0 of PLDM over MCTP. A
 /// version is major, minor, update and letter, each digit after an F.
-const VERSION_SUPPORT: [(&[u8], &[u8]); 2] = [
+static VERSION_SUPPORT: [(&[u8], &[u8]); 2] = [
     (
         b"\x01\x09\x08\xC9\x00\x81\x04\x00",
         b"\x01\x08\x09\xC1\x00\x01\x04\x00\x01\xF1\xF3\xF1\x00",
@@ -74,7 +74,7 @@ const VERSION_SUPPORT: [(&[u8], &[u8]); 2] = [
 /// `zlib.crc32(bytes([0, 0xF0, 0xF0, 0xF1]))`. The handle of a first part is ignored, as are the
 /// reserved bit of the second byte (20) and the packet's sequence number. Then type 2, the next
 /// part, an operation that there isn't, a byte too few and a byte too many.
-const VERSION: [(&[u8], &[u8]); 9] = [
+static VERSION: [(&[u8], &[u8]); 9] = [
     (
         b"\x01\x09\x08\xCD\x01\x85\x00\x03\x00\x00\x00\x00\x01\x00",
         b"\x01\x08\x09\xC5\x01\x05\x00\x03\x00\x00\x00\x00\x00\x05\x00\xF0\xF0\xF1\xFB\x8F\x86\x4A",
@@ -114,13 +114,13 @@ const VERSION: [(&[u8], &[u8]); 9] = [
 ];
 
 /// GetPLDMCommands of type 0: the bits 1 to 5 of 256, of which 3 is GetPLDMVersion.
-const COMMANDS: [(&[u8], &[u8]); 1] = [(
+static COMMANDS: [(&[u8], &[u8]); 1] = [(
     b"\x01\x09\x08\xC8\x01\x80\x00\x05\x00\x00\xF0\xF0\xF1",
     b"\x01\x08\x09\xC0\x01\x00\x00\x05\x00\x3E\0\0\0\0\0\0\0\0\0\0\0\0\0\0\0\0\0\0\0\0\0\0\0\0\0\0\0\0\0\0\0",
 )];
 
 /// Packets that pass, as the node knows them or drops them.
-const PASSING: [&[u8]; 27] = [
+static PASSING: [&[u8]; 27] = [
     // No packet: no bytes, another header version, and no body.
     b"",
     b"\x02\x09\x08\xC8\x00\x81\x04\x00",
@@ -159,20 +159,22 @@ const PASSING: [&[u8]; 27] = [
     b"\x01\x09\x08\xC8\x01\x80\x05\x01",
 ];
 
+/// Whether each packet is answered so.
+fn are_answered(rows: &[(&[u8], &[u8])]) -> bool {
+    for (packet, answer) in rows {
+        if !at_both(packet, answer) {
+            return false;
+        }
+    }
+    true
+}
+
 #[test]
 fn answers_the_rows(rt: HostRuntime) {
-    for (packet, answer) in &PHYSICAL {
-        assert!(rt; at_both(packet, answer));
-    }
-    for (packet, answer) in &VERSION_SUPPORT {
-        assert!(rt; at_both(packet, answer));
-    }
-    for (packet, answer) in &VERSION {
-        assert!(rt; at_both(packet, answer));
-    }
-    for (packet, answer) in &COMMANDS {
-        assert!(rt; at_both(packet, answer));
-    }
+    assert!(rt; are_answered(&PHYSICAL));
+    assert!(rt; are_answered(&VERSION_SUPPORT));
+    assert!(rt; are_answered(&VERSION));
+    assert!(rt; are_answered(&COMMANDS));
 }
 
 #[test]

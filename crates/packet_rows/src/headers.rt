@@ -29,23 +29,29 @@ fn reads_and_writes(head: &PldmHead, message: &[u8]) -> bool {
     message.get(4..) == Some(body) && encode(&read, body).as_slice() == message
 }
 
-#[test]
-fn reads_what_it_writes(rt: HostRuntime) {
+static MESSAGES: [(PldmHead, &[u8]); 2] = [
+    (GET_TID, &[0x01, 0x89, 0x00, 0x02]),
+    (LAST, &[0x01, 0x1F, 0x3F, 0xFF, 0x05]),
+];
+
+/// Whether this holds for the longest message.
+fn longest_is_read() -> bool {
     let mut longest = [0xA5; 512];
     longest[..4].copy_from_slice(&[0x01, 0x1F, 0x3F, 0xFF]);
-    let table: [(&PldmHead, &[u8]); 3] = [
-        (&GET_TID, &[0x01, 0x89, 0x00, 0x02]),
-        (&LAST, &[0x01, 0x1F, 0x3F, 0xFF, 0x05]),
-        (&LAST, &longest),
-    ];
-    for (head, message) in table {
+    reads_and_writes(&LAST, &longest)
+}
+
+#[test]
+fn reads_what_it_writes(rt: HostRuntime) {
+    for (head, message) in &MESSAGES {
         assert!(rt; reads_and_writes(head, message));
     }
+    assert!(rt; longest_is_read());
 }
 
 /// Messages with a fault: no bytes, and three that are all wrong; another message type, the
 /// integrity check bit, and all wrong but the length; a datagram, and one of version 1; version 1.
-const FAULTS: [(&[u8], PldmFault); 8] = [
+static FAULTS: [(&[u8], PldmFault); 8] = [
     (&[], PldmFault::Short),
     (&[0x00, 0xC0, 0x40], PldmFault::Short),
     (&[0x00, 0x80, 0x00, 0x02], PldmFault::NotPldm),

@@ -15,7 +15,7 @@ fn is_made(unit: Unit, size: usize) -> Result<bool, MessageFault> {
     Ok(route == [9, 8, 3] && message.to() && message.bytes() == bytes)
 }
 
-const ROWS: [(Unit, usize, Result<bool, MessageFault>); 8] = [
+static ROWS: [(Unit, usize, Result<bool, MessageFault>); 8] = [
     (Unit::U64, 0, Err(MessageFault::Empty)),
     (Unit::U64, 1, Ok(true)),
     (Unit::U64, 256, Ok(true)),

@@ -64,35 +64,47 @@ fn is_too_long(unit: Unit, size: usize) -> bool {
     }
 }
 
+/// A unit, a size, and whether it is too long.
+static SIZES: [(Unit, usize, bool); 5] = [
+    (Unit::U64, 68, false),
+    (Unit::U64, 69, true),
+    (Unit::U128, 69, false),
+    (Unit::U128, 132, false),
+    (Unit::U128, 133, true),
+];
+
 #[test]
 fn a_packet_carries_the_unit_at_most(rt: HostRuntime) {
-    let table = [
-        (Unit::U64, 68, false),
-        (Unit::U64, 69, true),
-        (Unit::U128, 69, false),
-        (Unit::U128, 132, false),
-        (Unit::U128, 133, true),
-    ];
-    for (unit, size, wanted) in table {
-        assert!(rt; is_too_long(unit, size) == wanted, "{size}");
+    for (unit, size, wanted) in &SIZES {
+        assert!(rt; is_too_long(*unit, *size) == *wanted, "{size}");
     }
 }
 
+/// Whether this head and the bytes after it are those of a packet, also if another one was encoded
+/// before.
+fn is_both_ways(unit: Unit, head: &Head, packet: &[u8]) -> bool {
+    let mut out = RawPacket::new();
+    let _ = out.try_extend_from_slice(&[0x5A; 9]);
+    reads(unit, head, packet) && writes(&mut out, head, packet)
+}
+
+static PACKETS: [(Unit, Head, &[u8]); 4] = [
+    (Unit::U64, REQUEST, &[0x01, 9, 8, 0xC8, 0x00, 0x80, 0x02]),
+    (Unit::U64, MIDDLE, &[0x01, 8, 9, 0x25, 0xAA]),
+    (Unit::U64, MIDDLE, &[0x01, 8, 9, 0x25, 0xBB]),
+    (Unit::U128, MIDDLE, &[0x01, 8, 9, 0x25, 0xBB]),
+];
+
+/// Units, and the sizes of long packets.
+static LONG: [(Unit, usize); 3] = [(Unit::U64, 68), (Unit::U128, 68), (Unit::U128, 132)];
+
 #[test]
 fn reads_and_writes_packets(rt: HostRuntime) {
-    let longest = longest();
-    let table: [(Unit, &Head, &[u8]); 7] = [
-        (Unit::U64, &REQUEST, &[0x01, 9, 8, 0xC8, 0x00, 0x80, 0x02]),
-        (Unit::U64, &MIDDLE, &[0x01, 8, 9, 0x25, 0xAA]),
-        (Unit::U64, &REQUEST, &longest[..68]),
-        (Unit::U64, &MIDDLE, &[0x01, 8, 9, 0x25, 0xBB]),
-        (Unit::U128, &REQUEST, &longest[..68]),
-        (Unit::U128, &REQUEST, &longest[..132]),
-        (Unit::U128, &MIDDLE, &[0x01, 8, 9, 0x25, 0xBB]),
-    ];
-    let mut out = RawPacket::new();
-    for (unit, head, packet) in table {
-        assert!(rt; reads(unit, head, packet) && writes(&mut out, head, packet));
+    for (unit, head, packet) in &PACKETS {
+        assert!(rt; is_both_ways(*unit, head, packet));
+    }
+    for (unit, size) in &LONG {
+        assert!(rt; is_both_ways(*unit, &REQUEST, longest().get(..*size).unwrap_or(&[])));
     }
     // the reserved bits of the first byte are ignored
     assert!(rt; reads(Unit::U64, &REQUEST, &[0xF1, 9, 8, 0xC8, 0x00]));

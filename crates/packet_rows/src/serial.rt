@@ -30,7 +30,7 @@ fn are_read(unit: Unit, stream: &[u8], packets: &[&[u8]]) -> bool {
 
 /// A packet and its frame: a request, "123456789", one byte, both bytes that are escaped beside
 /// their escape codes, and a check sequence of two flags, which isn't escaped.
-const FRAMES: [(&[u8], &[u8]); 5] = [
+static FRAMES: [(&[u8], &[u8]); 5] = [
     (
         b"\x01\x09\x08\xC8\x00\x80\x02",
         b"\x7E\x01\x07\x01\x09\x08\xC8\x00\x80\x02\x0E\xB2\x7E",
@@ -47,13 +47,18 @@ const FRAMES: [(&[u8], &[u8]); 5] = [
     ),
 ];
 
+/// Whether a packet encodes to this frame, which is read at both units.
+fn is_framed(frame: &mut SerialFrame, packet: &[u8], bytes: &[u8]) -> bool {
+    is_written(frame, packet, bytes)
+        && are_read(Unit::U64, bytes, &[packet])
+        && are_read(Unit::U128, bytes, &[packet])
+}
+
 #[test]
 fn a_packet_is_a_frame(rt: HostRuntime) {
     let mut frame = SerialFrame::new();
     for (packet, bytes) in &FRAMES {
-        assert!(rt; is_written(&mut frame, packet, bytes));
-        assert!(rt; are_read(Unit::U64, bytes, &[*packet]));
-        assert!(rt; are_read(Unit::U128, bytes, &[*packet]));
+        assert!(rt; is_framed(&mut frame, packet, bytes));
     }
 }
 
@@ -84,25 +89,21 @@ static LONG: [Long<'static>; 7] = [
     (132, 0x7E, b"\x7D\x5E", b"\xD2\x20", false, true),
 ];
 
+/// Whether a frame is read as its case says, and encoded if the packet isn't too long at 128.
+fn is_carried(row: &Long<'_>) -> bool {
+    let (count, byte, data, check, at_64, at_128) = *row;
+    let bytes = [byte; 133];
+    let packet = bytes.get(..usize::from(count)).unwrap_or(&[]);
+    let frame = repeated(count, data, check);
+    are_read(Unit::U64, frame.as_slice(), &[packet]) == at_64
+        && are_read(Unit::U128, frame.as_slice(), &[packet]) == at_128
+        && is_written(&mut SerialFrame::new(), packet, frame.as_slice()) == at_128
+}
+
 #[test]
 fn a_frame_carries_the_unit_and_a_head_at_most(rt: HostRuntime) {
-    let mut out = SerialFrame::new();
-    for (count, byte, data, check, at_64, at_128) in &LONG {
-        let bytes = [*byte; 133];
-        let packet = bytes.get(..usize::from(*count)).unwrap_or(&[]);
-        let frame = repeated(*count, data, check);
-        assert!(rt;
-            are_read(Unit::U64, frame.as_slice(), &[packet]) == *at_64,
-            "{count}"
-        );
-        assert!(rt;
-            are_read(Unit::U128, frame.as_slice(), &[packet]) == *at_128,
-            "{count}"
-        );
-        assert!(rt;
-            is_written(&mut out, packet, frame.as_slice()) == *at_128,
-            "{count}"
-        );
+    for row in &LONG {
+        assert!(rt; is_carried(row), "{}", row.0);
     }
 }
 
@@ -182,36 +183,42 @@ static NOISE: [Noise<'static>; 17] = [
     ),
 ];
 
-#[test]
-fn a_frame_is_read_after_noise(rt: HostRuntime) {
+/// Whether the packet of the first frame is returned `count` times after noise.
+fn is_read_after(noise: &[u8], count: usize) -> bool {
     let (packet, frame) = FRAMES[0];
     let packets = [packet, packet];
+    let wanted = packets.get(..count).unwrap_or(&[]);
+    let mut stream = SerialFrame::new();
+    let _ = stream.try_extend_from_slice(noise);
+    let _ = stream.try_extend_from_slice(frame);
+    are_read(Unit::U64, stream.as_slice(), wanted)
+        && are_read(Unit::U128, stream.as_slice(), wanted)
+}
+
+#[test]
+fn a_frame_is_read_after_noise(rt: HostRuntime) {
     for (situation, noise, count) in &NOISE {
-        let mut stream = SerialFrame::new();
-        let _ = stream.try_extend_from_slice(noise);
-        let _ = stream.try_extend_from_slice(frame);
-        let wanted = packets.get(..*count).unwrap_or(&[]);
-        assert!(rt;
-            are_read(Unit::U64, stream.as_slice(), wanted),
-            "{situation}"
-        );
-        assert!(rt;
-            are_read(Unit::U128, stream.as_slice(), wanted),
-            "{situation}"
-        );
+        assert!(rt; is_read_after(noise, *count), "{situation}");
     }
+}
+
+/// A flag and a revision, a frame of a packet of 122 bytes, and then the first frame twice.
+fn counted_flag() -> SerialFrame {
+    let (_, frame) = FRAMES[0];
+    let mut stream = SerialFrame::new();
+    let _ = stream.try_extend_from_slice(&[0x7E, 1]);
+    let _ = stream.try_extend_from_slice(repeated(122, b"\x5A", b"\x02\x52").as_slice());
+    let _ = stream.try_extend_from_slice(frame);
+    let _ = stream.try_extend_from_slice(frame);
+    stream
 }
 
 /// After a flag and a revision, the flag that begins a frame is a byte count of 126 at a unit of
 /// 128. A packet of 122 bytes and its framing fill that, and two frames are lost.
 #[test]
 fn a_flag_may_be_taken_for_a_byte_count(rt: HostRuntime) {
-    let (packet, frame) = FRAMES[0];
-    let mut stream = SerialFrame::new();
-    let _ = stream.try_extend_from_slice(&[0x7E, 1]);
-    let _ = stream.try_extend_from_slice(repeated(122, b"\x5A", b"\x02\x52").as_slice());
-    let _ = stream.try_extend_from_slice(frame);
-    let _ = stream.try_extend_from_slice(frame);
+    let (packet, _) = FRAMES[0];
+    let stream = counted_flag();
     assert!(rt; are_read(Unit::U64, stream.as_slice(), &[packet, packet]));
     assert!(rt; are_read(Unit::U128, stream.as_slice(), &[packet]));
 }
