@@ -1,81 +1,30 @@
 //! Runs in which one call of the device's bank fails.
 
 use crate::tests::setup::{
-    DEVICE, KEY, Small, driven, is_updated, runs_first, stands, start, step, tells, world,
+    DEVICE, KEY, Small, driven, is_updated, runs_first, stands, start, step, tells,
 };
-use crate::tests::trials::{Trial, holds};
 use fd_core::{Bank, State};
 use fw_edge::{Driven, MemLink};
-use fw_package::Package;
 use fw_world::{Missed, Step};
-use mctp_wire::Unit;
-use std::alloc::{AllocError, Global};
+use std::alloc::Global;
 use ua_core::{Cause, SessionState};
 
 /// The result of a failing call.
+#[derive(Clone, Copy)]
 pub struct Failure {
     /// The call that fails, counted from 1 among begin, put, put, seal and switch.
-    call: u64,
+    pub call: u64,
     /// The number of turns after which the session has failed, and the cause.
-    turns: u32,
-    cause: Cause,
+    pub turns: u32,
+    pub cause: Cause,
     /// The device's state then, and the number of packets sent.
-    state: State,
-    sent: usize,
+    pub state: State,
+    pub sent: usize,
     /// The number of records of the event log.
-    records: usize,
+    pub records: usize,
     /// Whether the device applied its image and the agent recorded that.
-    recorded: bool,
+    pub recorded: bool,
 }
-
-/// A case for each call.
-static FAILURES: [Failure; 5] = [
-    Failure {
-        call: 1,
-        turns: 6,
-        cause: Cause::Answer,
-        state: State::Ready,
-        sent: 12,
-        records: 2,
-        recorded: false,
-    },
-    Failure {
-        call: 2,
-        turns: 8,
-        cause: Cause::Transfer,
-        state: State::Download,
-        sent: 19,
-        records: 2,
-        recorded: false,
-    },
-    Failure {
-        call: 3,
-        turns: 9,
-        cause: Cause::Transfer,
-        state: State::Download,
-        sent: 21,
-        records: 2,
-        recorded: false,
-    },
-    Failure {
-        call: 4,
-        turns: 11,
-        cause: Cause::Apply,
-        state: State::Apply,
-        sent: 25,
-        records: 2,
-        recorded: false,
-    },
-    Failure {
-        call: 5,
-        turns: 12,
-        cause: Cause::Answer,
-        state: State::Ready,
-        sent: 27,
-        records: 3,
-        recorded: true,
-    },
-];
 
 /// Starts the update, and drives it over perfect links until the session is Done or Failed.
 fn update(alloc: Global, world: &mut Small<'_>, links: &mut [MemLink]) -> Option<Driven> {
@@ -134,27 +83,14 @@ fn is_done(world: &Small<'_>, driven: Option<Driven>) -> bool {
 
 /// Returns whether a world in which that call fails is as the case expects, then becomes idle, and
 /// is then updated.
-pub fn fails_and_goes_on<'a>(
-    alloc: Global,
-    packages: &'a [Package<'a>],
-    failure: &Failure,
-) -> Result<bool, AllocError> {
-    let mut world = world(alloc, Unit::U64, packages, 1, failure.call)?;
+pub fn fails_and_goes_on(alloc: Global, world: &mut Small<'_>, failure: &Failure) -> bool {
     let mut links = [MemLink::new(alloc)];
-    let failed = update(alloc, &mut world, &mut links);
-    let fails = fails_so(&world, failed, failure);
-    let rested = rests(&mut world);
-    let again = update(alloc, &mut world, &mut links);
-    Ok(fails && rested && is_done(&world, again))
+    let failed = update(alloc, world, &mut links);
+    fails_so(world, failed, failure) && rests(world) && is_done_again(alloc, world, &mut links)
 }
 
-#[test]
-fn an_update_ends_where_a_call_of_the_bank_fails_and_the_next_is_done(rt: HostRuntime) {
-    for failure in &FAILURES {
-        assert!(rt;
-            holds(rt.alloc(), Trial::BankFails(failure)),
-            "{}",
-            failure.call
-        );
-    }
+/// Whether the next update is done.
+fn is_done_again(alloc: Global, world: &mut Small<'_>, links: &mut [MemLink]) -> bool {
+    let again = update(alloc, world, links);
+    is_done(world, again)
 }

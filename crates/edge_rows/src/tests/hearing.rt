@@ -1,12 +1,9 @@
 //! Packets that are found while they are alive.
 
-use crate::tests::setup::{DEVICE, Small, start, step, world};
-use crate::tests::trials::{Trial, holds};
+use crate::tests::setup::{DEVICE, Small, start, step};
 use fw_edge::heard;
-use fw_package::Package;
 use fw_world::{Missed, Step};
-use mctp_wire::{RawPacket, Unit};
-use std::alloc::{AllocError, Global};
+use mctp_wire::RawPacket;
 
 /// QueryDeviceIdentifiers from 8 to 9: the first packet of an update, sent at tick 1, and, without
 /// an answer, again at 7 and 13.
@@ -31,10 +28,13 @@ static AGES: [(&str, u32, Option<usize>, usize); 7] = [
     ("the third is 9 ticks old", 1, None, 3),
 ];
 
-/// Whether each packet is found at each age, and only between its ends.
-fn is_heard(world: &mut Small<'_>) -> bool {
+/// Returns whether each packet of the worked update is found at each age, and only between its ends.
+pub fn is_heard(world: &mut Small<'_>) -> bool {
     let mut query = RawPacket::new();
     let _ = query.try_extend_from_slice(&QUERY);
+    if !start(world, DEVICE) {
+        return false;
+    }
     for (_, ticks, number, dead) in &AGES {
         wait(world, *ticks);
         if heard(world, DEVICE, &query) != *number
@@ -45,15 +45,4 @@ fn is_heard(world: &mut Small<'_>) -> bool {
         }
     }
     true
-}
-
-/// Returns whether this holds for the worked world.
-pub fn are_heard<'a>(alloc: Global, packages: &'a [Package<'a>]) -> Result<bool, AllocError> {
-    let mut world = world(alloc, Unit::U64, packages, 1, 0)?;
-    Ok(start(&mut world, DEVICE) && is_heard(&mut world))
-}
-
-#[test]
-fn the_last_of_three_alike_is_heard_until_all_are_dead(rt: HostRuntime) {
-    assert!(rt; holds(rt.alloc(), Trial::AreHeard));
 }

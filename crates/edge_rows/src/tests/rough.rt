@@ -1,10 +1,9 @@
 //! Links with random faults.
 
-use crate::tests::runs::{is_silent, started};
-use crate::tests::setup::{DEVICE, driven_over, is_updated, runs_first};
+use crate::tests::runs::is_silent;
+use crate::tests::setup::{DEVICE, Small, driven_over, is_updated, runs_first, start};
 use crate::tests::trials::{Trial, holds};
 use fw_edge::{Link, MemLink, Rough};
-use fw_package::Package;
 use fw_world::Side;
 use fwupd_base::Roughness;
 use mctp_wire::RawPacket;
@@ -138,20 +137,22 @@ fn a_seed_gives_the_same_again(rt: HostRuntime) -> Result<(), Fail> {
     Ok(())
 }
 
+/// Whether a device's active image is the worked one or the first one.
+fn has_either(world: &Small<'_>) -> bool {
+    is_updated(world, DEVICE) || runs_first(world, DEVICE)
+}
+
 /// Returns whether the worked update ends over such a link, and the device's active image is the
 /// worked one or the first one.
-pub fn ends<'a>(
-    alloc: Global,
-    packages: &'a [Package<'a>],
-    asked: Roughness,
-) -> Result<bool, AllocError> {
-    let mut world = started(alloc, packages)?;
+pub fn ends(alloc: Global, world: &mut Small<'_>, asked: Roughness) -> bool {
     let mut links = [rough(alloc, asked)];
-    let ended = match driven_over(alloc, &mut world, &mut links, 5000) {
-        Some(run) => run.turns < 5000,
+    if !start(world, DEVICE) {
+        return false;
+    }
+    match driven_over(alloc, world, &mut links, 5000) {
+        Some(run) => run.turns < 5000 && has_either(world),
         None => false,
-    };
-    Ok(ended && (is_updated(&world, DEVICE) || runs_first(&world, DEVICE)))
+    }
 }
 
 #[test]
@@ -162,14 +163,8 @@ fn an_update_over_rough_links_ends_with_one_image_or_the_other(rt: HostRuntime) 
 }
 
 /// Returns whether the device is silent in the worked update over a link that loses all packets.
-pub fn loses_all<'a>(alloc: Global, packages: &'a [Package<'a>]) -> Result<bool, AllocError> {
-    let mut links = [rough(alloc, roughness(100, 0, 0, 1))];
-    is_silent(alloc, packages, &mut links)
-}
-
-#[test]
-fn an_update_over_a_link_that_loses_all_is_silent(rt: HostRuntime) {
-    assert!(rt; holds(rt.alloc(), Trial::LosesAll));
+pub fn loses_all(alloc: Global, world: &mut Small<'_>) -> bool {
+    is_silent(alloc, world, &mut [rough(alloc, roughness(100, 0, 0, 1))])
 }
 
 #[test]

@@ -17,7 +17,7 @@ use std::test::Fail;
 use ua_core::{Cause, SessionState};
 
 /// Creates the worked world with its update started, at the second try if memory is refused.
-pub fn started<'a>(alloc: Global, packages: &'a [Package<'a>]) -> Result<Small<'a>, AllocError> {
+fn started<'a>(alloc: Global, packages: &'a [Package<'a>]) -> Result<Small<'a>, AllocError> {
     let mut world = world(alloc, Unit::U64, packages, 1, 0)?;
     if !start(&mut world, DEVICE) {
         let _ = start(&mut world, DEVICE);
@@ -27,29 +27,7 @@ pub fn started<'a>(alloc: Global, packages: &'a [Package<'a>]) -> Result<Small<'
 
 /// A link's fault, and the number of turns, of foreign frames and of packets after which the worked
 /// world is updated.
-pub type Row = (&'static str, Trouble, u32, u64, usize);
-
-/// If the answer to UpdateComponent, packet 12, is lost, the device requests data at 7 to 12, in
-/// vain, since the agent waits for that answer, which is sent again at 12. Its data requests are
-/// then at 13 and 14, and its completions wait for the tags of those at 7, 8 and 9, until 47 to 49.
-static ROWS: [Row; 4] = [
-    ("nothing is lost", Trouble::Loses(0), 12, 0, 27),
-    ("the first answer is lost", Trouble::Loses(2), 18, 0, 29),
-    (
-        "UpdateComponent's answer is lost",
-        Trouble::Loses(12),
-        50,
-        0,
-        41,
-    ),
-    (
-        "a forged frame comes first",
-        Trouble::ForgesFirst,
-        12,
-        1,
-        27,
-    ),
-];
+pub type Row = (Trouble, u32, u64, usize);
 
 /// The report of an update that is done at `now`, after `sent` packets.
 fn updated_text(alloc: Global, now: u32, sent: usize) -> Result<String, AllocError> {
@@ -75,23 +53,12 @@ fn is_updated_at(alloc: Global, world: &Small<'_>, now: u32, sent: usize) -> boo
 }
 
 /// Returns whether the worked world, driven over such a link, is updated as the case expects.
-pub fn updates<'a>(
-    alloc: Global,
-    packages: &'a [Package<'a>],
-    row: &Row,
-) -> Result<bool, AllocError> {
-    let (_, trouble, turns, foreign, sent) = *row;
-    let mut world = started(alloc, packages)?;
+pub fn updates(alloc: Global, world: &mut Small<'_>, row: &Row) -> bool {
+    let (trouble, turns, foreign, sent) = *row;
     let mut links = [BadLink::new(alloc, trouble)];
-    let driven = driven_over(alloc, &mut world, &mut links, 100);
-    Ok(driven == Some(Driven { turns, foreign }) && is_updated_at(alloc, &world, turns, sent))
-}
-
-#[test]
-fn an_update_takes_so_many_turns_over_each_link(rt: HostRuntime) {
-    for row in &ROWS {
-        assert!(rt; holds(rt.alloc(), Trial::Updates(row)), "{}", row.0);
-    }
+    start(world, DEVICE)
+        && driven_over(alloc, world, &mut links, 100) == Some(Driven { turns, foreign })
+        && is_updated_at(alloc, world, turns, sent)
 }
 
 /// The report after three ticks in which the agent's first request was sent and nothing arrived.
@@ -101,29 +68,26 @@ const THIRD_TICK: &[u8] = b"now 3\n\
     active 9 10 1 1 AA\n\
     log 1 last -\n";
 
-/// Returns whether a link that returns forged frames whenever it is asked lets three ticks pass and
-/// nothing else.
-pub fn passes_ticks<'a>(alloc: Global, packages: &'a [Package<'a>]) -> Result<bool, AllocError> {
-    let mut world = started(alloc, packages)?;
-    let mut steps = Vec::new(alloc);
-    let mut links = [BadLink::new(alloc, Trouble::ForgesAlways)];
-    let driven = driven(&mut world, &mut links, 3, &mut steps);
-    let (turns, foreign) = (3, 3_072);
+/// Whether these are the steps of three ticks.
+fn are_three_ticks(steps: &[Step]) -> bool {
     let ticks = [
         Step::Tick(Missed::new()),
         Step::Tick(Missed::new()),
         Step::Tick(Missed::new()),
     ];
-    Ok(
-        driven == Ok(Driven { turns, foreign })
-            && steps.as_slice() == ticks.as_slice()
-            && is_reported(alloc, &world, THIRD_TICK),
-    )
+    steps == ticks.as_slice()
 }
 
-#[test]
-fn a_link_that_gives_forged_frames_without_end_stops_no_turn(rt: HostRuntime) {
-    assert!(rt; holds(rt.alloc(), Trial::PassesTicks));
+/// Returns whether a link that returns forged frames whenever it is asked lets three ticks pass and
+/// nothing else.
+pub fn passes_ticks(alloc: Global, world: &mut Small<'_>) -> bool {
+    let (turns, foreign) = (3, 3_072);
+    let mut steps = Vec::new(alloc);
+    let mut links = [BadLink::new(alloc, Trouble::ForgesAlways)];
+    start(world, DEVICE)
+        && driven(world, &mut links, 3, &mut steps) == Ok(Driven { turns, foreign })
+        && are_three_ticks(&steps)
+        && is_reported(alloc, world, THIRD_TICK)
 }
 
 /// Whether another world takes the steps, and both worlds are then equal.
@@ -225,33 +189,19 @@ fn refused_memory_hands_back_the_steps_taken(rt: HostRuntime) -> Result<(), Fail
 
 /// Returns whether the worked world, driven over such a link, fails in turn 19, since the device
 /// answers nothing, and its active image is the first one.
-pub fn is_silent<'a, L: Link>(
-    alloc: Global,
-    packages: &'a [Package<'a>],
-    links: &mut [L],
-) -> Result<bool, AllocError> {
-    let mut world = started(alloc, packages)?;
-    let driven = driven_over(alloc, &mut world, links, 100);
+pub fn is_silent<L: Link>(alloc: Global, world: &mut Small<'_>, links: &mut [L]) -> bool {
     let (turns, foreign) = (19, 0);
     let silent = SessionState::Failed(Cause::Silent);
-    Ok(
-        driven == Some(Driven { turns, foreign })
-            && stands(&world, DEVICE, silent, State::Idle, 3)
-            && runs_first(&world, DEVICE),
-    )
+    start(world, DEVICE)
+        && driven_over(alloc, world, links, 100) == Some(Driven { turns, foreign })
+        && stands(world, DEVICE, silent, State::Idle, 3)
+        && runs_first(world, DEVICE)
 }
 
-/// Returns whether a link that returns each packet at its sender's end has the same result.
-pub fn echoes<'a>(alloc: Global, packages: &'a [Package<'a>]) -> Result<bool, AllocError> {
-    let mut links = [BadLink::new(alloc, Trouble::Echoes)];
-    is_silent(alloc, packages, &mut links)
-}
-
-/// A link that returns each packet at its sender's end gives the same result as one that loses all:
-/// a returned packet is one of the pair, but its sender isn't its destination.
-#[test]
-fn a_packet_at_its_senders_end_is_for_nobody(rt: HostRuntime) {
-    assert!(rt; holds(rt.alloc(), Trial::Echoes));
+/// Returns whether a link that returns each packet at its sender's end gives the same result as one
+/// that loses all: a returned packet is one of the pair, but its sender isn't its destination.
+pub fn echoes(alloc: Global, world: &mut Small<'_>) -> bool {
+    is_silent(alloc, world, &mut [BadLink::new(alloc, Trouble::Echoes)])
 }
 
 /// The world of devices 9 to 11 with their updates started, driven over links of which the second
@@ -315,9 +265,4 @@ pub fn one_fails_alone<'a>(alloc: Global, packages: &'a [Package<'a>]) -> Result
     let done = turns == Some(12) && all_done(&well);
     let (world, turns) = three(alloc, packages, Trouble::LosesAll)?;
     Ok(done && turns == Some(19) && one_is_silent(&world, &well))
-}
-
-#[test]
-fn one_silent_device_of_three_fails_alone(rt: HostRuntime) {
-    assert!(rt; holds(rt.alloc(), Trial::OneFailsAlone));
 }

@@ -1,14 +1,11 @@
 //! A run between whose turns the operator acts, over a link that delivers a packet late.
 
 use crate::tests::links::{BadLink, Trouble};
-use crate::tests::runs::started;
 use crate::tests::setup::{DEVICE, Small, driven, runs_first, stands, start, step, tells};
-use crate::tests::trials::{Trial, holds};
 use fd_core::State;
 use fw_edge::Driven;
-use fw_package::Package;
 use fw_world::{Missed, Step};
-use std::alloc::{AllocError, Global};
+use std::alloc::Global;
 use ua_core::SessionState;
 
 /// Drives the worked device's world over its link for `turns` turns. Returns whether it took them
@@ -52,13 +49,13 @@ fn is_cancelled(alloc: Global, world: &mut Small<'_>, links: &mut [BadLink]) -> 
 
 /// ApplyComplete, packet 24, arrives at 13, after packet 27, when the operator has started the
 /// update again. Returns whether the answers are those.
-pub fn cancels<'a>(alloc: Global, packages: &'a [Package<'a>]) -> Result<bool, AllocError> {
-    let mut world = started(alloc, packages)?;
+pub fn cancels(alloc: Global, world: &mut Small<'_>) -> bool {
     let mut links = [BadLink::new(alloc, Trouble::Delays(24, 27))];
-    let again = is_cancelled(alloc, &mut world, &mut links)
-        && start(&mut world, DEVICE)
-        && goes(alloc, &mut world, &mut links, 40);
-    Ok(again && is_answered(&world))
+    start(world, DEVICE)
+        && is_cancelled(alloc, world, &mut links)
+        && start(world, DEVICE)
+        && goes(alloc, world, &mut links, 40)
+        && is_answered(world)
 }
 
 /// Whether the device has given these answers, has applied an image, and its active image is the
@@ -123,24 +120,11 @@ fn is_cancelled_undelivered(alloc: Global, world: &mut Small<'_>, links: &mut [B
 
 /// Returns whether the next update makes those requests after a cancel, if ApplyComplete is never
 /// delivered.
-pub fn cancels_undelivered<'a>(
-    alloc: Global,
-    packages: &'a [Package<'a>],
-) -> Result<bool, AllocError> {
-    let mut world = started(alloc, packages)?;
+pub fn cancels_undelivered(alloc: Global, world: &mut Small<'_>) -> bool {
     let mut links = [BadLink::new(alloc, Trouble::Loses(0))];
-    let again = is_cancelled_undelivered(alloc, &mut world, &mut links)
-        && start(&mut world, DEVICE)
-        && goes(alloc, &mut world, &mut links, 40);
-    Ok(again && is_requested(&world))
-}
-
-#[test]
-fn after_a_cancel_a_completion_is_never_delivered(rt: HostRuntime) {
-    assert!(rt; holds(rt.alloc(), Trial::CancelsUndelivered));
-}
-
-#[test]
-fn after_a_cancel_a_stale_completion_changes_nothing(rt: HostRuntime) {
-    assert!(rt; holds(rt.alloc(), Trial::Cancels));
+    start(world, DEVICE)
+        && is_cancelled_undelivered(alloc, world, &mut links)
+        && start(world, DEVICE)
+        && goes(alloc, world, &mut links, 40)
+        && is_requested(world)
 }

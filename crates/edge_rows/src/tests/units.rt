@@ -1,22 +1,20 @@
 //! Runs at each transmission unit.
 
 use crate::tests::setup::{
-    DEVICE, Small, driven_over, is_updated, runs_first, stands, start, tells, world,
+    DEVICE, Small, driven_over, is_updated, runs_first, stands, start, tells,
 };
-use crate::tests::trials::{Trial, holds};
 use fd_core::State;
 use fw_edge::{Driven, MemLink};
-use fw_package::Package;
 use fw_world::SentPackets;
 use mctp_wire::Unit;
-use std::alloc::{AllocError, Global};
+use std::alloc::Global;
 use ua_core::SessionState;
 
 /// The worked update over a perfect link: the numbers of turns and packets after which it is done,
 /// and the offsets and lengths of the pieces that the device requests.
 #[derive(Clone, Copy)]
 pub struct Row {
-    unit: Unit,
+    pub unit: Unit,
     turns: u32,
     sent: usize,
     pieces: &'static [(u32, u32)],
@@ -24,20 +22,19 @@ pub struct Row {
 
 /// A piece of the image of 241 bytes has at most 16 bytes less than four packets carry, and at
 /// least 32.
-static ROWS: [Row; 2] = [
-    Row {
-        unit: Unit::U64,
-        turns: 12,
-        sent: 27,
-        pieces: &[(0, 240), (240, 32)],
-    },
-    Row {
-        unit: Unit::U128,
-        turns: 11,
-        sent: 23,
-        pieces: &[(0, 241)],
-    },
-];
+pub const AT_64: Row = Row {
+    unit: Unit::U64,
+    turns: 12,
+    sent: 27,
+    pieces: &[(0, 240), (240, 32)],
+};
+
+pub const AT_128: Row = Row {
+    unit: Unit::U128,
+    turns: 11,
+    sent: 23,
+    pieces: &[(0, 241)],
+};
 
 /// The offset and the length in a packet with RequestFirmwareData from the worked device.
 fn piece_in(packet: &[u8]) -> Option<(u32, u32)> {
@@ -89,22 +86,11 @@ fn is_updated_so(world: &Small<'_>, row: &Row) -> bool {
 }
 
 /// Returns whether the worked update is as the case expects.
-pub fn goes_so<'a>(
-    alloc: Global,
-    packages: &'a [Package<'a>],
-    row: &Row,
-) -> Result<bool, AllocError> {
-    let mut world = world(alloc, row.unit, packages, 1, 0)?;
-    let fresh = runs_first(&world, DEVICE) && start(&mut world, DEVICE);
-    let mut links = [MemLink::new(alloc)];
-    let driven = driven_over(alloc, &mut world, &mut links, 100);
+pub fn goes_so(alloc: Global, world: &mut Small<'_>, row: &Row) -> bool {
     let (turns, foreign) = (row.turns, 0);
-    Ok(fresh && driven == Some(Driven { turns, foreign }) && is_updated_so(&world, row))
-}
-
-#[test]
-fn an_image_of_241_bytes_is_one_piece_at_128(rt: HostRuntime) {
-    for row in &ROWS {
-        assert!(rt; holds(rt.alloc(), Trial::GoesAtUnit(row)), "{}", row.turns);
-    }
+    runs_first(world, DEVICE)
+        && start(world, DEVICE)
+        && driven_over(alloc, world, &mut [MemLink::new(alloc)], 100)
+            == Some(Driven { turns, foreign })
+        && is_updated_so(world, row)
 }
