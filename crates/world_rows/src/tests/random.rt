@@ -14,7 +14,6 @@ use fw_package::{Package, PackageFault};
 use fw_world::{Refusal, Step, StepFault};
 use mctp_wire::Unit;
 use std::alloc::{AllocError, Global};
-use std::test::Fail;
 
 /// The number of ticks of each schedule.
 const TICKS: u32 = 90;
@@ -32,7 +31,7 @@ struct Kind {
     stretch: u8,
 }
 
-const TWO: Kind = Kind {
+static TWO: Kind = Kind {
     schedules: 10_000,
     unit: Unit::U64,
     headers: [TWO_FIRST, TWO_SECOND],
@@ -41,7 +40,7 @@ const TWO: Kind = Kind {
 };
 
 /// Images of one or two pieces, each of up to 496 bytes, which four packets of 128 bytes carry.
-const LONG: Kind = Kind {
+static LONG: Kind = Kind {
     schedules: 2_000,
     unit: Unit::U128,
     headers: [LONG_FIRST, LONG_SECOND],
@@ -49,7 +48,7 @@ const LONG: Kind = Kind {
     stretch: 12,
 };
 
-const THREE: Kind = Kind {
+static THREE: Kind = Kind {
     schedules: 10_000,
     unit: Unit::U64,
     headers: [THREE_FIRST, THREE_SECOND],
@@ -201,6 +200,15 @@ impl<'a> Trial<'a> {
         self.watch.look(self.world.history());
     }
 
+    /// The activations; None if the history isn't safe, or a node doesn't keep time.
+    fn activations(&self) -> Option<u32> {
+        if self.watch.is_safe && self.clocks.keep_time {
+            Some(self.watch.activations)
+        } else {
+            None
+        }
+    }
+
     /// Runs the schedule.
     fn run(&mut self) {
         for _ in 0..TICKS {
@@ -213,29 +221,31 @@ impl<'a> Trial<'a> {
     }
 }
 
+/// The activations in a schedule of a new world; None if its history isn't safe, or a node doesn't
+/// keep time.
+fn activations_of(world: Small<'_>, seed: u32, stretch: u8) -> Option<u32> {
+    let mut trial = Trial {
+        world,
+        dice: Dice::new(u64::from(seed).wrapping_mul(0x9E37_79B9_7F4A_7C15)),
+        watch: Watch::new(stretch),
+        clocks: Clocks::new(),
+        handed: [0, 0],
+    };
+    trial.run();
+    trial.activations()
+}
+
 /// The number of activations in the schedules; None if a history isn't safe, or a node doesn't keep
-/// time.
-fn activations<'p>(
-    alloc: Global,
-    packages: &'p [Package<'p>],
-    kind: &Kind,
-) -> Result<Option<u32>, Fail> {
+/// time, or memory is refused.
+fn activations<'p>(alloc: Global, packages: &'p [Package<'p>], kind: &Kind) -> Option<u32> {
     let mut all = 0u32;
     for seed in 0..kind.schedules {
-        let mut trial = Trial {
-            world: world(alloc, kind.unit, packages, 2, kind.components)?,
-            dice: Dice::new(u64::from(seed).wrapping_mul(0x9E37_79B9_7F4A_7C15)),
-            watch: Watch::new(kind.stretch),
-            clocks: Clocks::new(),
-            handed: [0, 0],
+        let Ok(world) = world(alloc, kind.unit, packages, 2, kind.components) else {
+            return None;
         };
-        trial.run();
-        if !trial.watch.is_safe || !trial.clocks.keep_time {
-            return Ok(None);
-        }
-        all = all.saturating_add(trial.watch.activations);
+        all = all.saturating_add(activations_of(world, seed, kind.stretch)?);
     }
-    Ok(Some(all))
+    Some(all)
 }
 
 /// The packages of two files.
@@ -243,15 +253,16 @@ fn packages_of<'a>(first: &'a [u8], second: &'a [u8]) -> Result<[Package<'a>; 2]
     Ok([package(first)?, package(second)?])
 }
 
-/// Prints the number of activations in the schedules over two packages. Returns whether the
-/// histories are safe, and that number exceeds a fifth of the number of schedules.
-fn many_are_safe(rt: &HostRuntime, kind: &Kind) -> Result<bool, Fail> {
-    let first = kind.file(rt.alloc(), 0)?;
-    let second = kind.file(rt.alloc(), 1)?;
-    let packages = packages_of(&first, &second)?;
-    let Some(count) = activations(rt.alloc(), &packages, kind)? else {
-        return Ok(false);
-    };
+/// The number of activations in the schedules over both packages.
+fn all_activations(alloc: Global, kind: &Kind) -> Option<u32> {
+    let first = kind.file(alloc, 0).ok()?;
+    let second = kind.file(alloc, 1).ok()?;
+    let packages = packages_of(&first, &second).ok()?;
+    activations(alloc, &packages, kind)
+}
+
+/// Prints the number of activations in the schedules, and returns whether that worked.
+fn prints(rt: &HostRuntime, kind: &Kind, count: u32) -> bool {
     let Kind {
         schedules,
         unit,
@@ -259,26 +270,32 @@ fn many_are_safe(rt: &HostRuntime, kind: &Kind) -> Result<bool, Fail> {
         ..
     } = *kind;
     let bytes = unit.bytes();
-    println!(rt;
+    let printed = println!(rt;
         "{schedules} schedules of {components} components at {bytes} bytes: {count} activations"
-    )?;
-    Ok(count > schedules / 5)
+    );
+    printed.is_ok()
+}
+
+/// Prints the number of activations in the schedules over two packages. Returns whether the
+/// histories are safe, and that number exceeds a fifth of the number of schedules.
+fn many_are_safe(rt: &HostRuntime, kind: &Kind) -> bool {
+    match all_activations(rt.alloc(), kind) {
+        Some(count) => prints(rt, kind, count) && count > kind.schedules / 5,
+        None => false,
+    }
 }
 
 #[test]
-fn random_schedules_of_two_components_are_safe(rt: HostRuntime) -> Result<(), Fail> {
-    assert!(rt; many_are_safe(&rt, &TWO)?);
-    Ok(())
+fn random_schedules_of_two_components_are_safe(rt: HostRuntime) {
+    assert!(rt; many_are_safe(&rt, &TWO));
 }
 
 #[test]
-fn random_schedules_at_128_bytes_are_safe(rt: HostRuntime) -> Result<(), Fail> {
-    assert!(rt; many_are_safe(&rt, &LONG)?);
-    Ok(())
+fn random_schedules_at_128_bytes_are_safe(rt: HostRuntime) {
+    assert!(rt; many_are_safe(&rt, &LONG));
 }
 
 #[test]
-fn random_schedules_of_three_components_are_safe(rt: HostRuntime) -> Result<(), Fail> {
-    assert!(rt; many_are_safe(&rt, &THREE)?);
-    Ok(())
+fn random_schedules_of_three_components_are_safe(rt: HostRuntime) {
+    assert!(rt; many_are_safe(&rt, &THREE));
 }

@@ -1,15 +1,14 @@
 //! The worked update by `replay`, without refused memory or with one refused allocation.
 
-use crate::tests::memory::{asked_twice, is_done};
-use crate::tests::packages::{file, package};
+use crate::tests::memory::{asked_twice, file_twice, is_done, perfect_twice};
+use crate::tests::packages::package;
 use crate::tests::seeing::{are_alike, runs_first, stands};
 use crate::tests::setup::{DEVICE, Small, world};
-use crate::tests::steps::perfect;
 use fd_core::{Bank, State};
 use fw_package::Package;
 use fw_world::{Step, StepFault, replay};
 use mctp_wire::Unit;
-use std::alloc::{AllocError, Global};
+use std::alloc::Global;
 use std::test::Fail;
 use ua_core::{Cause, SessionState};
 
@@ -21,20 +20,22 @@ fn replayed(world: &mut Small<'_>, steps: &[Step]) -> End {
     replay(world, steps)
 }
 
-/// Whether a fresh world after the first `count` steps is the same.
+/// Whether a fresh world takes these steps and is then the same.
+fn becomes(fresh: &mut Small<'_>, steps: &[Step], made: &Small<'_>) -> bool {
+    replayed(fresh, steps).is_ok() && are_alike(fresh, made)
+}
+
+/// Whether a fresh world after these steps is the same.
 fn is_replay<'a>(
     alloc: Global,
     packages: &'a [Package<'a>],
     steps: &[Step],
-    count: usize,
     made: &Small<'_>,
-) -> Result<bool, AllocError> {
-    let Some(before) = steps.get(..count) else {
-        return Ok(false);
-    };
-    let mut fresh = world(alloc, Unit::U64, packages, 1, 1)?;
-    let taken = replayed(&mut fresh, before).is_ok();
-    Ok(taken && are_alike(&fresh, made))
+) -> bool {
+    match world(alloc, Unit::U64, packages, 1, 1) {
+        Ok(mut fresh) => becomes(&mut fresh, steps, made),
+        Err(_) => false,
+    }
 }
 
 /// The answer to UpdateComponent, packet 12, if the bank can't begin: the command's byte, and
@@ -77,29 +78,39 @@ fn ends_rightly<'a>(
     steps: &[Step],
     made: &Small<'_>,
     end: End,
-) -> Result<bool, AllocError> {
+) -> bool {
     match end {
-        Ok(()) => Ok(is_done(made)),
-        Err((count, StepFault::Memory)) => is_replay(alloc, packages, steps, count, made),
-        Err(end) => Ok(end == (DATA_REQUEST, StepFault::NoSuchPacket) && is_without_stage(made)),
+        Ok(()) => is_done(made),
+        Err((count, StepFault::Memory)) => match steps.get(..count) {
+            Some(before) => is_replay(alloc, packages, before, made),
+            None => false,
+        },
+        Err(end) => end == (DATA_REQUEST, StepFault::NoSuchPacket) && is_without_stage(made),
+    }
+}
+
+/// Whether this holds for the worked world and schedule.
+fn ends_despite_refusals(alloc: Global, steps: &[Step]) -> bool {
+    let Ok(bytes) = file_twice(alloc) else {
+        return false;
+    };
+    let Ok(package) = package(&bytes) else {
+        return false;
+    };
+    let packages = std::slice::from_ref(&package);
+    match asked_twice(alloc, packages) {
+        Ok(mut made) => {
+            let end = replayed(&mut made, steps);
+            ends_rightly(alloc, packages, steps, &made, end)
+        }
+        Err(_) => false,
     }
 }
 
 /// Whichever single allocation is refused, the test holds.
 #[test]
 fn refused_memory_ends_a_replay(rt: HostRuntime) -> Result<(), Fail> {
-    let bytes = match file(rt.alloc()) {
-        Ok(bytes) => bytes,
-        Err(_) => file(rt.alloc())?,
-    };
-    let packages = [package(&bytes)?];
-    let steps = match perfect(rt.alloc()) {
-        Ok(steps) => steps,
-        Err(_) => perfect(rt.alloc())?,
-    };
-    let mut made = asked_twice(rt.alloc(), &packages)?;
-    let end = replayed(&mut made, &steps);
-    let right = ends_rightly(rt.alloc(), &packages, &steps, &made, end)?;
-    assert!(rt; right);
+    let steps = perfect_twice(rt.alloc())?;
+    assert!(rt; ends_despite_refusals(rt.alloc(), &steps));
     Ok(())
 }
