@@ -25,8 +25,8 @@ keeping_unit s = s.agent.now
 abbrev pub IsKept : {K : Type 0} → (keeps : K → List KeptLine → Type 0) → KeepingAgentOf K → Type 0
 IsKept keeps s = keeps s.keeper (kept_lines s.agent.agent)
 
--- After a deed that calls the agent it is kept. A process that misses units calls no keeper, since a
--- restart changes nothing of what the agent keeps.
+-- After a deed that calls the agent it is kept. A process that misses units calls no keeper, since
+-- a restart changes nothing of what the agent keeps.
 abbrev pub IsKeptAfter : {K : Type 0} → (keeps : K → List KeptLine → Type 0) → Deed → KeepingAgentOf K → KeepingAgentOf K → Type 0
 IsKeptAfter keeps (Deed.Misses units) s t = IsKept keeps s → IsKept keeps t
 IsKeptAfter keeps deed s t = IsKept keeps t

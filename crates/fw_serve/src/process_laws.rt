@@ -39,8 +39,9 @@ pub fn served_processes_are_safe()
     traces_are_safe();
 }
 
-/// An agent whose process was stopped or killed after a deed, and that is started anew from what was
-/// kept then, is the agent that was absent. So the lives of an agent are one process of a trace.
+/// An agent whose process was stopped or killed after a deed, and that is started anew from what
+/// was kept then, is the agent that was absent. So the lives of an agent are one process of a
+/// trace.
 pub fn started_anew_is_absence()
     ensures law { StartedAnewIsAbsence }
 {

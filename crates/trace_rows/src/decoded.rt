@@ -217,7 +217,7 @@ fn lines_of_pairs(alloc: Global) -> Result<String, AllocError> {
     Ok(lines)
 }
 
-/// Whether a text ends with the lines of the last pairs that are told apart.
+/// Whether a text ends with the lines of the last pairs that are distinguished.
 fn ends_at_pairs(text: &[u8]) -> bool {
     text.ends_with(b"- 203 1 244 > 203 tag 0 type 7E\ndrop Pairs\n- 0 2 240 > 0 tag 0 type 7E\n")
 }

@@ -5,8 +5,8 @@ use fw_trace::{PacketReader, Sent, push_lines, push_message};
 use mctp_wire::Unit;
 use std::alloc::Global;
 
-/// The parts of a row: the tick of sending, the packet in digits, and its expected line, without its
-/// line feed. A row is the digits, a bar and the line, which begins with the tick.
+/// The parts of a row: the tick of sending, the packet in digits, and its expected line, without
+/// its line feed. A row is the digits, a bar and the line, which begins with the tick.
 pub fn parts(row: &str) -> Option<(u32, &str, &str)> {
     let (digits, line) = row.split_once('|')?;
     let (turn, _) = line.split_once(' ')?;

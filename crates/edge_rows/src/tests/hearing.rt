@@ -28,7 +28,8 @@ static AGES: [(&str, u32, Option<usize>, usize); 7] = [
     ("the third is 9 ticks old", 1, None, 3),
 ];
 
-/// Returns whether each packet of the worked update is found at each age, and only between its ends.
+/// Returns whether each packet of the worked update is found at each age, and only between its
+/// ends.
 pub fn is_heard(world: &mut Small<'_>) -> bool {
     let mut query = RawPacket::new();
     let _ = query.try_extend_from_slice(&QUERY);

@@ -38,7 +38,8 @@ pub enum Trial<'a> {
 static TRIALS: [(&str, Trial<'static>); 18] = [
     // If the answer to UpdateComponent, packet 12, is lost, the device requests data at 7 to 12, in
     // vain, since the agent waits for that answer, which is sent again at 12. Its data requests are
-    // then at 13 and 14, and its completions wait for the tags of those at 7, 8 and 9, until 47 to 49.
+    // then at 13 and 14, and its completions wait for the tags of those at 7, 8 and 9, until 47 to
+    // 49.
     (
         "nothing is lost",
         Trial::Updates(&(Trouble::Loses(0), 12, 0, 27)),

@@ -31,8 +31,8 @@ enum Trial {
     TimesOut(usize, SessionState),
     /// In this state, the codes for the commands.
     Answers(SessionState, [u8; 7]),
-    /// At this unit, a request for data: the offset and the length, the code, and the number of image
-    /// bytes before the zeros.
+    /// At this unit, a request for data: the offset and the length, the code, and the number of
+    /// image bytes before the zeros.
     Serves(Unit, (u32, u32), u8, usize),
     /// A whole update of this number of components.
     Records(usize),

@@ -18,8 +18,8 @@ use std::alloc::Global;
 /// A trial of a world.
 #[derive(Clone, Copy)]
 enum Trial<'a> {
-    /// The number of worked steps and the other steps that lead to the world, a step that is refused
-    /// there, and the fault.
+    /// The number of worked steps and the other steps that lead to the world, a step that is
+    /// refused there, and the fault.
     Refused(usize, &'a [MessageStep], MessageStep, MessageStepFault),
     /// After this number of worked steps, the identifier of no device.
     NoDevice(usize, u8),
@@ -316,7 +316,8 @@ static ROWS: [(&str, Trial<'static>); 79] = [
         Trial::Late(&[ASK_DOWN, TAKE_BUSY, LEARN_DOWN, DROP_UP]),
     ),
     ("an update at the greater unit asks once", Trial::Long),
-    // A session fails when its asker gives up: the device never takes the command, or takes it later.
+    // A session fails when its asker gives up: the device never takes the command, or takes it
+    // later.
     ("never taken", Trial::GivesUp(&[DROP_DOWN])),
     ("taken later", Trial::GivesUp(&[TAKE_DOWN, DROP_DOWN])),
 ];

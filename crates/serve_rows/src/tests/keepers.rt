@@ -60,8 +60,8 @@ impl Clock for EachUnit {
     }
 }
 
-/// The agent 8 of the devices 9 and 10. The update of 9 is started at time 0, and that of 10 at time
-/// 6, when the request to 9 was sent once.
+/// The agent 8 of the devices 9 and 10. The update of 9 is started at time 0, and that of 10 at
+/// time 6, when the request to 9 was sent once.
 fn started<'p>(alloc: Global, packages: &'p [Package<'p>]) -> Result<ServedAgent<'p>, Fail> {
     let mut agent = ServedAgent::new(alloc, Unit::U64, endpoint(8), &[9, 10], packages)?;
     let _ = agent.start(9, 1);
@@ -95,8 +95,8 @@ fn ended<'p>(alloc: Global, agent: ServedAgent<'p>, calls: u32) -> Result<Ended,
     })
 }
 
-/// The number of calls that succeed, the end, the number of packets that were sent after time 6, and
-/// the unit of the last. The devices don't answer. A request is sent again after 6 and after 12
+/// The number of calls that succeed, the end, the number of packets that were sent after time 6,
+/// and the unit of the last. The devices don't answer. A request is sent again after 6 and after 12
 /// units, and given up after 18. So in unit 19 the update of 9 fails, which the log notes, and the
 /// last request to 10 is sent; in unit 25 the update of 10 fails.
 const ROWS: &[(u32, Result<(), KeepFault>, u32, u32)] = &[
