@@ -84,7 +84,11 @@ struct Ended {
 }
 
 /// Serves the agent with a keeper that fails after a number of calls, up to the unit 30.
-fn ended<'p>(alloc: Global, agent: ServedAgent<'p>, calls: u32) -> Result<Ended, KeepFault> {
+fn serve_failing<'p>(
+    alloc: Global,
+    agent: ServedAgent<'p>,
+    calls: u32,
+) -> Result<Ended, KeepFault> {
     let mut process = AgentProcess::new(alloc, agent, FailingKeeper { left: calls })?;
     let mut line = SentLine { count: 0, unit: 0 };
     let result = serve_agent_process(&mut process, &mut line, &mut EachUnit, 30);
@@ -112,7 +116,7 @@ fn sends_nothing_that_was_not_kept(rt: HostRuntime) -> Result<(), Fail> {
     let packages = [package(&bytes)?];
     for (calls, result, count, unit) in ROWS {
         let agent = started(alloc, &packages)?;
-        let end = ended(alloc, agent, *calls)?;
+        let end = serve_failing(alloc, agent, *calls)?;
         assert!(rt; end.result == *result);
         assert!(rt; end.count == *count);
         assert!(rt; end.unit == *unit);
