@@ -47,13 +47,13 @@ fn is_no_package(bytes: &[u8]) -> bool
     }
 }
 
-/// Prints the later version of the standard whose packages begin as a file does, if there is one.
+/// Prints the later version of the standard that a file seems to be a package of, if there is one.
 fn explain_other(rt: &HostRuntime, path: &str) {
     if let Some(bytes) = read_again(rt, path)
         && let Some(version) = later_version(&bytes)
     {
         let _ = eprintln!(rt;
-            "{path}: it begins as a package of DSP0267 {version} does, and only those of 1.0 are read"
+            "{path}: it seems to be a package of DSP0267 {version}, and only those of 1.0 are read"
         );
     }
 }
