@@ -7,7 +7,7 @@ use fw_package::Package;
 use fw_process::{Clock, Line};
 use fw_serve::{AgentProcess, ServedAgent, serve_agent_process};
 use mctp_wire::{RawPacket, Unit};
-use std::alloc::Global;
+use std::alloc::{AllocError, Global};
 use std::test::Fail;
 
 /// A keeper that keeps nothing, and fails after a number of calls.
@@ -121,5 +121,18 @@ fn sends_nothing_that_was_not_kept(rt: HostRuntime) -> Result<(), Fail> {
         assert!(rt; end.count == *count);
         assert!(rt; end.unit == *unit);
     }
+    Ok(())
+}
+
+/// Whether the agent of this node is at time 0, and has applied, recorded and activated nothing.
+fn is_new(alloc: Global, node: AgentNode) -> Result<bool, AllocError> {
+    let agent = ServedAgent::of_node(alloc, node, &[])?;
+    Ok(agent.now() == 0 && agent.history().is_empty())
+}
+
+#[test]
+fn an_agent_is_made_of_a_node(rt: HostRuntime) -> Result<(), Fail> {
+    let node = AgentNode::new(rt.alloc(), Unit::U64, endpoint(8), &[9, 10])?;
+    assert!(rt; is_new(rt.alloc(), node)?);
     Ok(())
 }
