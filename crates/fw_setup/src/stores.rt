@@ -3,7 +3,7 @@
 ghost use Rattle.std.specs.Prelude.{◌≡◌, ◌⊎◌, Bool, Err, IfErr, IfOk, List, None, Ok, OnOk, false, map, string_bytes, true, ℕ};
 ghost use Rattle.fw_script.specs.Seen.{component_of, device_of};
 ghost use Rattle.fw_script.specs.Whole.{AreWhole, eids_of};
-ghost use Rattle.fw_setup.specs.Paths.{store_path};
+ghost use Rattle.fw_setup.specs.Paths.{agent_path, store_path};
 ghost use Rattle.fw_setup.specs.Stocks.{HaveStoredImages, IsFaulty, HasStoredImages, IsUnmade, IsUnopened, images_configured, stores_in};
 ghost use Rattle.fw_store.specs.Opening.{found_in};
 
@@ -22,14 +22,16 @@ pub struct Unopened {
     pub why: OpenFault,
 }
 
-/// The folders of devices' stores, below a root folder. If the files of one folder are known, those
-/// of each are.
+/// The folders of devices' stores, and that of what the agent keeps, below a root folder. If the
+/// files of one folder are known, those of each are.
 pub trait Stores<F: Folder + Drop> {
     ghost use Rattle.fw_store.specs.Folders.{Files};
 
     ghost is_known: { Self → Bool };
 
     ghost files: { Self → List ℕ → ℕ → Files };
+
+    ghost agent_files: { Self → List ℕ → Files };
 
     /// Returns the folder of a device's store, below `root`. It is made if it isn't there.
     ///
@@ -47,6 +49,15 @@ pub trait Stores<F: Folder + Drop> {
     fn at(&self, alloc: Global, root: &str, device: u8) -> Result<F, AllocError>
         ensures known { IfOk result (λ f. is_known self.now ≡ true → F.is_known f ≡ true) }
         ensures files { IfOk result (λ f. is_known self.now ≡ true → F.files f ≡ files self.now root.now device) };
+
+    /// Returns the folder of what the agent keeps, below `root`. It is made if it isn't there.
+    ///
+    /// # Errors
+    /// `Unreadable` if it can't be made, or `Memory`.
+    fn make_agent(&self, alloc: Global, root: &str) -> Result<F, OpenFault>
+        ensures known { IfOk result (λ f. is_known self.now ≡ true → F.is_known f ≡ true) }
+        ensures files { IfOk result (λ f. is_known self.now ≡ true → F.files f ≡ agent_files self.now root.now) }
+        ensures fault { IfErr result (λ e. (e ≡ OpenFault.Unreadable) ⊎ (e ≡ OpenFault.Memory)) };
 }
 
 /// Folders of the system, whose files aren't known. That of a device is named by its endpoint
@@ -66,6 +77,16 @@ fn device_path(alloc: Global, root: &str, device: u8) -> Result<String, AllocErr
     }
 }
 
+/// Returns the path of the folder of what the agent keeps.
+fn agent_path(alloc: Global, root: &str) -> Result<String, AllocError>
+    ensures { IfOk result (λ path. string_bytes path ≡ agent_path root.now) }
+{
+    match format!(in alloc; "{root}/agent") {
+        Ok(path) => Ok(path),
+        Err(_) => Err(AllocError),
+    }
+}
+
 impl<'a> SystemStores<'a> {
     /// Creates the stores over the folders that a runtime reaches.
     pub fn new(rt: &'a HostRuntime) -> SystemStores<'a> {
@@ -77,6 +98,8 @@ impl<'a> Stores<SystemFolder<'a>> for SystemStores<'a> {
     ghost is_known = { λ s. false };
 
     ghost files = { λ s root device name. None };
+
+    ghost agent_files = { λ s root name. None };
 
     fn make(&self, alloc: Global, root: &str, device: u8) -> Result<SystemFolder<'a>, OpenFault> {
         let Ok(path) = device_path(alloc, root, device) else {
@@ -92,6 +115,16 @@ impl<'a> Stores<SystemFolder<'a>> for SystemStores<'a> {
         match device_path(alloc, root, device) {
             Ok(path) => Ok(SystemFolder::new(self.rt, path)),
             Err(_) => Err(AllocError),
+        }
+    }
+
+    fn make_agent(&self, alloc: Global, root: &str) -> Result<SystemFolder<'a>, OpenFault> {
+        let Ok(path) = agent_path(alloc, root) else {
+            return Err(OpenFault::Memory);
+        };
+        match SystemFolder::make(self.rt, path) {
+            Ok(folder) => Ok(folder),
+            Err(_) => Err(OpenFault::Unreadable),
         }
     }
 }

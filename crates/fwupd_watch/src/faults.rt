@@ -35,6 +35,9 @@ pub enum JobFault {
     /// The store of the device with this endpoint identifier can't be opened.
     #[error("store: {0}: {1}")]
     Store(u8, OpenFault),
+    /// What the agent with this endpoint identifier keeps can't be written to its store.
+    #[error("store: {0}: unwritable")]
+    Unkept(u8),
     /// The socket of the device with this endpoint identifier can't be made.
     #[error("socket: {0}")]
     Socket(u8),
