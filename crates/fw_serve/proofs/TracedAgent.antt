@@ -211,7 +211,7 @@ unit_later unit (Deed.Drops p) = omega arith
 unit_later unit Deed.Turns = omega arith
 unit_later unit (Deed.Misses units) = omega arith
 
-all_later : (s t : ServedAgentOf) (ds : List Deed) (sent : List Sent) → DoesAll AgentDoes s ds t sent → s.now ≤ t.now
+pub all_later : (s t : ServedAgentOf) (ds : List Deed) (sent : List Sent) → DoesAll AgentDoes s ds t sent → s.now ≤ t.now
 all_later s t [] sent h = let same = ap (λ (x : ServedAgentOf). x.now) h.0 in omega (arith, same)
 all_later s t (d ∷ ds) sent (mid, a, b, first, rest, is) =
     let more = all_later mid t ds b rest in

@@ -21,7 +21,7 @@ use Rattle.fw_serve.specs.Traced.{AreDeviceActs, AreTimely, DeviceKnows, DeviceM
 abbrev is_mine : DeviceProcessOf → Sent → Bool
 is_mine s p = is_for s.device.node.endpoint.eid p.bytes
 
-same_process : (u v : ℕ) (m n : DeviceNodeOf) (ps qs : List Sent) → u ≡ v → m ≡ n → ps ≡ qs
+pub same_process : (u v : ℕ) (m n : DeviceNodeOf) (ps qs : List Sent) → u ≡ v → m ≡ n → ps ≡ qs
     → ◌≡◌ {A = DeviceProcess} (record { unit = u; node = m; sent = ps }) (record { unit = v; node = n; sent = qs })
 same_process u v m n ps qs e f g = λ i. record { unit = e i; node = f i; sent = g i }
 
@@ -80,12 +80,12 @@ no_acts before s t came is none = record {
 }
 
 -- what one call leaves
-record Taken (s : ServedDeviceOf) (call : DeviceCall) (t : ServedDeviceOf) (packets : List (List ℕ)) : Type 0 where
-  may : MayCall s.node call
-  node : t.node ≡ device_after_call s.node call
-  sent : packets ≡ device_call_packets s.node call
+pub record Taken (s : ServedDeviceOf) (call : DeviceCall) (t : ServedDeviceOf) (packets : List (List ℕ)) : Type 0 where
+  pub may : MayCall s.node call
+  pub node : t.node ≡ device_after_call s.node call
+  pub sent : packets ≡ device_call_packets s.node call
 
-taken_one : (s t : ServedDeviceOf) (call : DeviceCall) (packets : List (List ℕ)) → TakesCalls s (call ∷ []) t packets → Taken s call t packets
+pub taken_one : (s t : ServedDeviceOf) (call : DeviceCall) (packets : List (List ℕ)) → TakesCalls s (call ∷ []) t packets → Taken s call t packets
 taken_one s t call packets (rest, may, last, is) = record {
   may = may;
   node = ap (λ (x : ServedDeviceOf). x.node) last.0;
@@ -196,7 +196,7 @@ dropped_twice (r ∷ rs) = ap (λ (xs : List RowOf). row_without_applied r ∷ x
 restarted_again : (n : DeviceNodeOf) → device_restarts (device_after_call (device_restarts n) DeviceCall.Ticks) ≡ device_restarts n
 restarted_again n = rw (dropped_twice n.half.core.device.rows) refl
 
-absence_after : (units : ℕ) (q : DeviceProcess) → device_process_after_acts q (device_absence units) ≡ record { unit = q.unit + units; node = device_restarts q.node; sent = q.sent }
+pub absence_after : (units : ℕ) (q : DeviceProcess) → device_process_after_acts q (device_absence units) ≡ record { unit = q.unit + units; node = device_restarts q.node; sent = q.sent }
 absence_after zero q = same_process q.unit (q.unit + 0) (device_restarts q.node) (device_restarts q.node) (q.sent ++ []) q.sent (omega arith) refl (append-nil q.sent)
 absence_after (suc units) q =
     let on = device_process_after_act DeviceAct.Ticks (device_process_after_act DeviceAct.Restarts q) in
@@ -204,7 +204,7 @@ absence_after (suc units) q =
     ∙ same_process (on.unit + units) (q.unit + suc units) (device_restarts on.node) (device_restarts q.node) on.sent q.sent (omega arith) (restarted_again q.node)
     (append-nil (q.sent ++ []) ∙ append-nil q.sent)
 
-absence_may : (device units : ℕ) (q : DeviceProcess) → DeviceMayDo device q (device_absence units)
+pub absence_may : (device units : ℕ) (q : DeviceProcess) → DeviceMayDo device q (device_absence units)
 absence_may device zero q = ((tt, tt), tt)
 absence_may device (suc units) q = ((tt, tt), ((tt, tt), absence_may device units (device_process_after_act DeviceAct.Ticks (device_process_after_act DeviceAct.Restarts q))))
 

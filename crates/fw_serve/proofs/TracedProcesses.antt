@@ -61,7 +61,7 @@ agent_end packages ps [] = refl
 agent_end packages ps (Act.OfAgent d ∷ trace) = agent_end packages (processes_after_act packages ps (Act.OfAgent d)) trace
 agent_end packages ps (Act.OfDevice device d ∷ trace) = agent_end packages (processes_after_act packages ps (Act.OfDevice device d)) trace
 
-abbrev after_acts : List DeviceAct → Option DeviceProcess → Option DeviceProcess
+abbrev pub after_acts : List DeviceAct → Option DeviceProcess → Option DeviceProcess
 after_acts acts o = option_map (λ q. device_process_after_acts q acts) o
 
 none_done : (o : Option DeviceProcess) → o ≡ after_acts [] o
@@ -74,7 +74,7 @@ one_done true None d acts = refl
 one_done true (Some q) d acts = refl
 one_done false o d acts = refl
 
-device_end : (packages : List PackageText) (ps : ProcessesOf) (trace : List Act) (eid : ℕ) → (processes_after packages ps trace).device eid ≡ after_acts (acts_of_device eid trace) (ps.device eid)
+pub device_end : (packages : List PackageText) (ps : ProcessesOf) (trace : List Act) (eid : ℕ) → (processes_after packages ps trace).device eid ≡ after_acts (acts_of_device eid trace) (ps.device eid)
 device_end packages ps [] eid = none_done (ps.device eid)
 device_end packages ps (Act.OfAgent d ∷ trace) eid = device_end packages (processes_after_act packages ps (Act.OfAgent d)) trace eid
 device_end packages ps (Act.OfDevice device d ∷ trace) eid =
@@ -92,7 +92,7 @@ served_processes_end packages ps trace h = record {
 
 -- A TRACE
 
-abbrev DeviceMayIf : (eid : ℕ) → Option DeviceProcess → List DeviceAct → Type 0
+abbrev pub DeviceMayIf : (eid : ℕ) → Option DeviceProcess → List DeviceAct → Type 0
 DeviceMayIf eid None acts = acts ≡ []
 DeviceMayIf eid (Some q) acts = DeviceMayDo eid q acts
 
@@ -122,7 +122,7 @@ rest_may eid true None d acts h = absurd (cc)
 rest_may eid true (Some q) d acts h = h.1
 rest_may eid false o d acts h = h
 
-each_may : (packages : List PackageText) (ps : ProcessesOf) (trace : List Act) → AgentMayDo packages ps.agent (acts_of_agent trace) → ((eid : ℕ) → DeviceMayIf eid (ps.device eid) (acts_of_device eid trace))
+pub each_may : (packages : List PackageText) (ps : ProcessesOf) (trace : List Act) → AgentMayDo packages ps.agent (acts_of_agent trace) → ((eid : ℕ) → DeviceMayIf eid (ps.device eid) (acts_of_device eid trace))
     → EachIsAfterSending packages ps trace → EachMayAct packages ps trace
 each_may packages ps [] agent devices sent = tt
 each_may packages ps (Act.OfAgent d ∷ trace) agent devices sent =

@@ -3,6 +3,7 @@ pub mod Anew
 pub mod Fronts
 pub mod Keeping
 pub mod Lines
+pub mod Lives
 pub mod Noting
 pub mod Parts
 pub mod Processes

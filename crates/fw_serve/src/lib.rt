@@ -26,7 +26,7 @@ pub use fronts::{FilterOptions, Front};
 pub use lines::{AgentLine, DeviceLine, read_agent_line, read_device_line};
 pub use printing_laws::parts_are_printed;
 pub use process_laws::{
-    agents_act, devices_act, rounds_are_timely, served_processes_are_safe, services_act,
-    started_anew_is_absence,
+    agents_act, devices_act, lives_act, lives_are_safe, rounds_are_timely,
+    served_processes_are_safe, services_act, started_anew_is_absence,
 };
 pub use texts::LineRefusal;

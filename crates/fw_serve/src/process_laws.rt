@@ -1,6 +1,7 @@
 //! The deeds of served processes as acts of a trace, so that the headline holds for them.
 
 ghost use Rattle.fw_serve.specs.Anew.{StartedAnewIsAbsence};
+ghost use Rattle.fw_serve.specs.Lives.{LivesAct, LivesAreSafe, LivesEnd};
 ghost use Rattle.fw_serve.specs.Traced.{AgentsAct, DevicesAct, RoundsAreTimely, ServedProcessesAreSafe, ServedProcessesEnd, ServicesAct};
 
 use agent_store::what_is_kept_is_resumed;
@@ -47,4 +48,23 @@ pub fn started_anew_is_absence()
 {
     what_is_kept_is_resumed();
     restarts_keep_no_more();
+}
+
+/// The lives of processes are acts of a trace, kills and starts anew included. A trace of the acts
+/// of lives leaves each process as its last life did.
+pub fn lives_act()
+    ensures law { LivesAct }
+    ensures end { LivesEnd }
+{
+    started_anew_is_absence();
+}
+
+/// The headline of processes that are killed and started anew: if each packet is received after its
+/// peer sent it, the agent's session for each device and the device are safe at the end of each
+/// unit that all processes have reached, those that are gone for good as absent.
+pub fn lives_are_safe()
+    ensures law { LivesAreSafe }
+{
+    started_anew_is_absence();
+    traces_are_safe();
 }
