@@ -1,4 +1,5 @@
 mod GivenBack
 mod Keeping
+mod Packages
 mod Places
 mod Same

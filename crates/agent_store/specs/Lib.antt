@@ -1,2 +1,3 @@
 pub mod Keepers
 pub mod Kept
+pub mod Packages

@@ -1,3 +1,4 @@
+mod AgentStores
 mod Barred
 mod Builds
 mod Checks

@@ -36,7 +36,7 @@ IsDone (jobs.Soak s) h l = SoaksClean h.files s.config.now s.order (option_map (
 IsDone (jobs.Device d) h l = ServesDevice d h l
 IsDone (jobs.Agent a) h l = ServesAgent a h l
 IsDone (jobs.DeviceProcess d) h l = RunsDevice d h.files h.stores h.output l.output
-IsDone (jobs.AgentProcess a) h l = RunsAgent a h.files h.output l.output
+IsDone (jobs.AgentProcess a) h l = RunsAgent a h.files h.agent_store h.output l.output
 IsDone (jobs.Decode file unit form) h l = Decodes h.files (option_map (λ p. p.now) file) unit form h.input l.input h.output l.output
 IsDone (jobs.Plan config number form) h l = Plans h.files config.now number form h.output l.output
 

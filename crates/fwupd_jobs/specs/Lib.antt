@@ -1,3 +1,4 @@
+pub mod AgentStores
 pub mod Alone
 pub mod Answered
 pub mod Built

@@ -1,20 +1,25 @@
 //! The agent of a configuration as a process of its own.
 
-ghost use Rattle.std.specs.Prelude.{◌≡◌, IfOk, IsOk, OnOk, map};
+ghost use Rattle.std.specs.Prelude.{◌≡◌, ◌≤◌, IfOk, IsOk, OnOk, length, map};
 ghost use Rattle.std.specs.List.{AllByRecursion};
 ghost use Rattle.fw_package.specs.Reading.{package_of};
 ghost use Rattle.fw_script.specs.Seen.{config_seen, device_of};
 ghost use Rattle.fw_script.specs.Whole.{AreWhole};
 ghost use Rattle.fwupd_watch.specs.Outputs.{WritesOutput};
-ghost use Rattle.fwupd_jobs.specs.Processes.{RunsAgent, RunsPackages, RunsServed, ServesStarted, agent_report_in, agent_started};
+ghost use Rattle.fw_serve.specs.Agents.{new_served_agent};
+ghost use Rattle.fwupd_jobs.specs.Hosts.{agent_store_in};
+ghost use Rattle.fwupd_jobs.specs.AgentStores.{agent_setup_seen, keeps_nothing};
+ghost use Rattle.fwupd_jobs.specs.Processes.{RunsAgent, RunsKept, RunsPackages, RunsServed, RunsAgentSetup, ServesStarted, agent_report_in, agent_started};
 
+use crate::agent_stores::{AgentSetup, is_in_store, open_agent};
 use crate::alone::eids_of;
 use crate::host::{Host, Parts};
 use crate::sessions::{Undone, is_done, undone_fault};
 use crate::setups::{configuration, package_files, packages_in};
 use crate::wiring::{Joined, Network, Wiring, end_of};
-use agent_store::NoKeeper;
+use agent_store::{AgentKeeper, KeepFault, NoKeeper};
 use fw_json::agent_json;
+use fw_package::Package;
 use fw_process::{Clock, Line};
 use fw_script::{Config, session_of};
 use fw_serve::{AgentProcess, CallFault, ServedAgent, serve_agent_process};
@@ -38,31 +43,62 @@ fn start_all(agent: &mut ServedAgent<'_>, number: usize, eids: &[u8]) -> Result<
     Ok(())
 }
 
+/// The agent of a process that is to begin: its network, its devices, and what keeps what it
+/// keeps over a restart.
+#[derive(Drop)]
+struct Beginner<'p, 'e, K: AgentKeeper + Drop> {
+    /// The network, with the agent's endpoint.
+    network: Network,
+    /// The agent, at time 0.
+    agent: ServedAgent<'p>,
+    /// The endpoint identifiers of its devices.
+    eids: &'e [u8],
+    /// The keeper.
+    keeper: K,
+}
+
+/// The fault of an agent's process whose keeper failed.
+fn unkept(eid: u8, fault: KeepFault) -> JobFault
+    ensures unwritable { fault ≡ KeepFault.Unwritable → result ≡ JobFault.Unkept eid }
+    ensures memory { fault ≡ KeepFault.Memory → result ≡ JobFault.Memory }
+{
+    match fault {
+        KeepFault::Unwritable => JobFault::Unkept(eid),
+        KeepFault::Memory => JobFault::Memory,
+    }
+}
+
 /// Serves an agent as a process, from the unit that a clock shows, with an update of each device.
-fn serve_started<'p, L: Line + Drop, C: Clock + Drop>(
+fn serve_started<'p, 'e, K: AgentKeeper + Drop, L: Line + Drop, C: Clock + Drop>(
     alloc: Global,
     job: &fwupd_words::AgentProcess<'_>,
-    agent: ServedAgent<'p>,
-    eids: &[u8],
+    beginner: Beginner<'p, 'e, K>,
     joined: &mut Joined<L, C>,
-) -> Result<AgentProcess<'p, NoKeeper>, JobFault>
-    requires { agent.now ≡ 0 }
-    ensures { IfOk result (λ last. ServesStarted job.now.number eids.now agent.entry last.agent) }
+) -> Result<AgentProcess<'p, K>, JobFault>
+    requires { beginner.agent.now ≡ 0 }
+    ensures { IfOk result (λ last. ServesStarted K.keeps job.now.number beginner.eids.now beginner.agent last) }
 {
-    let mut agent = agent;
+    let Beginner {
+        network,
+        mut agent,
+        eids,
+        keeper,
+    } = beginner;
+    let eid = network.endpoint.eid;
     let shown = joined.clock.wait_past(0);
     agent.miss(shown);
     match start_all(&mut agent, job.number, eids) {
         Ok(()) => {}
         Err(fault) => return Err(fault),
     }
-    let Ok(mut process) = AgentProcess::new(alloc, agent, NoKeeper) else {
-        return Err(JobFault::Memory);
+    let mut process = match AgentProcess::new(alloc, agent, keeper) {
+        Ok(process) => process,
+        Err(fault) => return Err(unkept(eid, fault)),
     };
     let end = end_of(shown, job.serving.ticks);
     match serve_agent_process(&mut process, &mut joined.line, &mut joined.clock, end) {
         Ok(()) => Ok(process),
-        Err(_) => Err(JobFault::Memory),
+        Err(fault) => Err(unkept(eid, fault)),
     }
 }
 
@@ -146,27 +182,105 @@ fn end_agent<H: Parts>(
 }
 
 /// Serves an agent as a process.
-fn serve_agent<H: Parts>(
+fn serve_agent<'p, 'e, K: AgentKeeper + Drop, H: Parts>(
     alloc: Global,
     job: &fwupd_words::AgentProcess<'_>,
-    network: Network,
-    agent: (ServedAgent<'_>, &[u8]),
+    beginner: Beginner<'p, 'e, K>,
     host: &mut Host<H>,
 ) -> Result<(), JobFault>
-    requires { agent.0.now ≡ 0 }
-    ensures runs { OnOk result (RunsServed job.now agent.entry.0 agent.entry.1.now host.old.output host.new.output) }
+    requires { beginner.agent.now ≡ 0 }
+    ensures runs { OnOk result (RunsServed K.keeps job.now beginner.agent beginner.eids.now
+        host.old.output host.new.output) }
     ensures untouched { host.new.watch ≡ host.old.watch }
 {
-    let (agent, eids) = agent;
+    let (network, eids) = (beginner.network, beginner.eids);
     let mut joined = match host.wiring.agent(alloc, network, eids, job.serving) {
         Ok(joined) => joined,
         Err(fault) => return Err(fault),
     };
-    let process = match serve_started(alloc, job, agent, eids, &mut joined) {
+    let process = match serve_started(alloc, job, beginner, &mut joined) {
         Ok(process) => process,
         Err(fault) => return Err(fault),
     };
     end_agent(alloc, job, process.agent(), host)
+}
+
+/// Serves a new agent, of which nothing is kept.
+fn serve_new<H: Parts>(
+    alloc: Global,
+    job: &fwupd_words::AgentProcess<'_>,
+    setup: AgentSetup<'_>,
+    packages: &[Package<'_>],
+    host: &mut Host<H>,
+) -> Result<(), JobFault>
+    requires devices { length setup.entry.eids.now ≤ 16 }
+    ensures runs { OnOk result (RunsServed keeps_nothing job.now (new_served_agent setup.entry.network.unit
+        setup.entry.network.endpoint setup.entry.eids.now packages.now) setup.entry.eids.now
+        host.old.output host.new.output) }
+    ensures untouched { host.new.watch ≡ host.old.watch }
+{
+    let AgentSetup { network, eids, .. } = setup;
+    let Ok(agent) = ServedAgent::new(alloc, network.unit, network.endpoint, eids, packages) else {
+        return Err(JobFault::Memory);
+    };
+    let beginner = Beginner {
+        network,
+        agent,
+        eids,
+        keeper: NoKeeper,
+    };
+    serve_agent(alloc, job, beginner, host)
+}
+
+/// Serves the agent that goes on with what a folder of stores keeps, and keeps it there.
+fn serve_kept<H: Parts>(
+    alloc: Global,
+    job: &fwupd_words::AgentProcess<'_>,
+    root: &str,
+    setup: (AgentSetup<'_>, &[Package<'_>]),
+    host: &mut Host<H>,
+) -> Result<(), JobFault>
+    requires devices { length setup.entry.0.eids.now ≤ 16 }
+    ensures runs { OnOk result (RunsKept job.now (agent_store_in (H.Stores.is_known host.old.stores)
+        (H.Stores.agent_files host.old.stores) root.now) (agent_setup_seen setup.entry.0)
+        setup.entry.1.now host.old.output host.new.output) }
+    ensures untouched { host.new.watch ≡ host.old.watch }
+{
+    let (setup, packages) = setup;
+    let (node, keeper) = match open_agent(alloc, &host.stores, root, setup) {
+        Ok(opened) => opened,
+        Err(fault) => return Err(fault),
+    };
+    let Ok(agent) = ServedAgent::of_node(alloc, node, packages) else {
+        return Err(JobFault::Memory);
+    };
+    let beginner = Beginner {
+        network: setup.network,
+        agent,
+        eids: setup.eids,
+        keeper,
+    };
+    serve_agent(alloc, job, beginner, host)
+}
+
+/// Serves an agent, which goes on with what a folder of stores keeps, if one is given.
+fn serve_setup<H: Parts>(
+    alloc: Global,
+    job: &fwupd_words::AgentProcess<'_>,
+    setup: AgentSetup<'_>,
+    packages: &[Package<'_>],
+    host: &mut Host<H>,
+) -> Result<(), JobFault>
+    requires devices { length setup.entry.eids.now ≤ 16 }
+    ensures runs { OnOk result (RunsAgentSetup job.now (agent_store_in (H.Stores.is_known host.old.stores)
+        (H.Stores.agent_files host.old.stores)) (agent_setup_seen setup.entry) packages.now
+        host.old.output host.new.output) }
+    ensures untouched { host.new.watch ≡ host.old.watch }
+{
+    match job.store {
+        None => serve_new(alloc, job, setup, packages, host),
+        Some(root) => serve_kept(alloc, job, root, (setup, packages), host),
+    }
 }
 
 /// Serves the agent of a configuration with the packages in these bytes.
@@ -179,8 +293,9 @@ fn serve_packages<H: Parts>(
 ) -> Result<(), JobFault>
     requires packed { AllByRecursion (λ f. IsOk (package_of f.items)) contents.now }
     requires whole { AreWhole config.now.agent.eid (map device_of config.now.devices.items) }
-    ensures runs { OnOk result (RunsPackages job.now (config_seen config.now) (map (λ f. f.items) contents.now)
-        host.old.output host.new.output) }
+    ensures runs { OnOk result (RunsPackages job.now (agent_store_in (H.Stores.is_known host.old.stores)
+        (H.Stores.agent_files host.old.stores)) (config_seen config.now)
+        (map (λ f. f.items) contents.now) host.old.output host.new.output) }
     ensures untouched { host.new.watch ≡ host.old.watch }
 {
     let packages = match packages_in(alloc, contents) {
@@ -195,35 +310,34 @@ fn serve_packages<H: Parts>(
         unit: config.unit,
         endpoint: config.agent,
     };
-    let Ok(agent) = ServedAgent::new(
-        alloc,
-        config.unit,
-        config.agent,
-        eids.as_slice(),
-        packages.as_slice(),
-    ) else {
-        return Err(JobFault::Memory);
+    let setup = AgentSetup {
+        network,
+        eids: eids.as_slice(),
+        contents,
     };
-    serve_agent(alloc, job, network, (agent, eids.as_slice()), host)
+    serve_setup(alloc, job, setup, packages.as_slice(), host)
 }
 
 /// Serves the agent of the configuration in a file as a process of its own: it starts the update of
 /// each device, and handles what comes over sockets or a serial line. It ends when each session is
 /// done or failed. Then the records of its event log, if they are requested, and its report are
-/// written.
+/// written. If a folder of stores is given, the agent goes on with what its folder there keeps, and
+/// what it records and its event log are kept there before a packet is sent that follows from them.
 ///
 /// # Errors
 /// The first fault, in this order: of the configuration; `Log` if the records would overwrite it or
-/// a package; of each of its packages; `Tty` if the serial line can't be opened; `NoPackage` if it
-/// has no package of the number; `Log` and `Output` if the records or the report can't be written;
-/// and `Session`, if that check is requested, with the first session that isn't Done. `Memory` if
-/// memory is refused.
+/// a package, or be in a store; of each of its packages; `Store` if the agent's store can't be
+/// opened; `Tty` if the serial line can't be opened; `NoPackage` if it has no package of the
+/// number; `Unkept` if its store can't be written; `Log` and `Output` if the records or the report
+/// can't be written; and `Session`, if that check is requested, with the first session that isn't
+/// Done. `Memory` if memory is refused.
 pub fn run_agent<H: Parts>(
     alloc: Global,
     job: &fwupd_words::AgentProcess<'_>,
     host: &mut Host<H>,
 ) -> Result<(), JobFault>
     ensures runs { OnOk result (RunsAgent job.now (H.Files.holds host.old.files)
+        (agent_store_in (H.Stores.is_known host.old.stores) (H.Stores.agent_files host.old.stores))
         host.old.output host.new.output) }
     ensures untouched { host.new.watch ≡ host.old.watch }
 {
@@ -234,6 +348,11 @@ pub fn run_agent<H: Parts>(
     let packages = config.packages.as_slice();
     if is_over_read(&host.files, job.log, job.config, packages) {
         return Err(JobFault::Log);
+    }
+    match is_in_store(alloc, &host.files, job.log, job.store) {
+        Ok(false) => {}
+        Ok(true) => return Err(JobFault::Log),
+        Err(fault) => return Err(fault),
     }
     let contents = match package_files(alloc, &host.files, packages) {
         Ok(contents) => contents,

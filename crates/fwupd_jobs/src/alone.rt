@@ -11,7 +11,7 @@ ghost use Rattle.fw_serve.specs.Serving.{device_report};
 ghost use Rattle.fw_setup.specs.Stocks.{stores_in};
 ghost use Rattle.fw_trace.specs.Records.{records_bytes};
 ghost use Rattle.fwupd_jobs.specs.Alone.{AgentEnds, AreOutputsApart, DeviceEnds, DeviceSetupFails, FilterEnds, IsDeviceSetup, IsOnly, IsOutputOver, LacksDevice, NodeEnds, PackagesEnd, ServesAgent, ServesDevice, ServesFilter, ServesNode, ServesPackages, ServesSetup, SetupEnds, device_setup_seen, front_if, place_named};
-ghost use Rattle.fwupd_jobs.specs.Hosts.{FoundOf, LeftOf};
+ghost use Rattle.fwupd_jobs.specs.Hosts.{FoundOf, LeftOf, agent_store_in};
 
 use crate::host::{Host, Parts};
 use crate::setups::{configuration, open_kept, package_files, packages_in};
@@ -122,6 +122,7 @@ fn serve_node<B: Bank + Drop, H: Parts>(
     ensures ok { OnOk result (ServesNode job.entry node (record {
       files = H.Files.holds host.old.files;
       stores = stores_in (H.Stores.is_known host.old.stores) (H.Stores.files host.old.stores);
+      agent_store = agent_store_in (H.Stores.is_known host.old.stores) (H.Stores.agent_files host.old.stores);
       lacks = H.Wires.lacks host.old.wires;
       refuses = H.Watch.refuses host.old.watch;
       input = H.Input.remaining host.old.input;
@@ -137,6 +138,7 @@ fn serve_node<B: Bank + Drop, H: Parts>(
     ensures fault { IfErr result (λ e. NodeEnds job.entry node e (record {
       files = H.Files.holds host.old.files;
       stores = stores_in (H.Stores.is_known host.old.stores) (H.Stores.files host.old.stores);
+      agent_store = agent_store_in (H.Stores.is_known host.old.stores) (H.Stores.agent_files host.old.stores);
       lacks = H.Wires.lacks host.old.wires;
       refuses = H.Watch.refuses host.old.watch;
       input = H.Input.remaining host.old.input;
@@ -226,6 +228,7 @@ fn serve_configured<H: Parts>(
     ensures ok { OnOk result (ServesSetup job.entry (device_setup_seen setup.now) (record {
       files = H.Files.holds host.old.files;
       stores = stores_in (H.Stores.is_known host.old.stores) (H.Stores.files host.old.stores);
+      agent_store = agent_store_in (H.Stores.is_known host.old.stores) (H.Stores.agent_files host.old.stores);
       lacks = H.Wires.lacks host.old.wires;
       refuses = H.Watch.refuses host.old.watch;
       input = H.Input.remaining host.old.input;
@@ -241,6 +244,7 @@ fn serve_configured<H: Parts>(
     ensures fault { IfErr result (λ e. SetupEnds job.entry (device_setup_seen setup.now) e (record {
       files = H.Files.holds host.old.files;
       stores = stores_in (H.Stores.is_known host.old.stores) (H.Stores.files host.old.stores);
+      agent_store = agent_store_in (H.Stores.is_known host.old.stores) (H.Stores.agent_files host.old.stores);
       lacks = H.Wires.lacks host.old.wires;
       refuses = H.Watch.refuses host.old.watch;
       input = H.Input.remaining host.old.input;
@@ -277,6 +281,7 @@ fn serve_stored<H: Parts>(
     ensures ok { OnOk result (ServesSetup job.entry (device_setup_seen setup) (record {
       files = H.Files.holds host.old.files;
       stores = stores_in (H.Stores.is_known host.old.stores) (H.Stores.files host.old.stores);
+      agent_store = agent_store_in (H.Stores.is_known host.old.stores) (H.Stores.agent_files host.old.stores);
       lacks = H.Wires.lacks host.old.wires;
       refuses = H.Watch.refuses host.old.watch;
       input = H.Input.remaining host.old.input;
@@ -292,6 +297,7 @@ fn serve_stored<H: Parts>(
     ensures fault { IfErr result (λ e. SetupEnds job.entry (device_setup_seen setup) e (record {
       files = H.Files.holds host.old.files;
       stores = stores_in (H.Stores.is_known host.old.stores) (H.Stores.files host.old.stores);
+      agent_store = agent_store_in (H.Stores.is_known host.old.stores) (H.Stores.agent_files host.old.stores);
       lacks = H.Wires.lacks host.old.wires;
       refuses = H.Watch.refuses host.old.watch;
       input = H.Input.remaining host.old.input;
@@ -342,6 +348,7 @@ pub fn device_file<H: Parts>(
     ensures ok { OnOk result (ServesDevice job.entry (record {
       files = H.Files.holds host.old.files;
       stores = stores_in (H.Stores.is_known host.old.stores) (H.Stores.files host.old.stores);
+      agent_store = agent_store_in (H.Stores.is_known host.old.stores) (H.Stores.agent_files host.old.stores);
       lacks = H.Wires.lacks host.old.wires;
       refuses = H.Watch.refuses host.old.watch;
       input = H.Input.remaining host.old.input;
@@ -357,6 +364,7 @@ pub fn device_file<H: Parts>(
     ensures fault { IfErr result (λ e. DeviceEnds job.entry e (record {
       files = H.Files.holds host.old.files;
       stores = stores_in (H.Stores.is_known host.old.stores) (H.Stores.files host.old.stores);
+      agent_store = agent_store_in (H.Stores.is_known host.old.stores) (H.Stores.agent_files host.old.stores);
       lacks = H.Wires.lacks host.old.wires;
       refuses = H.Watch.refuses host.old.watch;
       input = H.Input.remaining host.old.input;
@@ -449,6 +457,7 @@ fn serve_agent<H: Parts>(
     ensures ok { OnOk result (ServesFilter job.entry filter.entry (record {
       files = H.Files.holds host.old.files;
       stores = stores_in (H.Stores.is_known host.old.stores) (H.Stores.files host.old.stores);
+      agent_store = agent_store_in (H.Stores.is_known host.old.stores) (H.Stores.agent_files host.old.stores);
       lacks = H.Wires.lacks host.old.wires;
       refuses = H.Watch.refuses host.old.watch;
       input = H.Input.remaining host.old.input;
@@ -464,6 +473,7 @@ fn serve_agent<H: Parts>(
     ensures fault { IfErr result (λ e. FilterEnds job.entry filter.entry e (record {
       files = H.Files.holds host.old.files;
       stores = stores_in (H.Stores.is_known host.old.stores) (H.Stores.files host.old.stores);
+      agent_store = agent_store_in (H.Stores.is_known host.old.stores) (H.Stores.agent_files host.old.stores);
       lacks = H.Wires.lacks host.old.wires;
       refuses = H.Watch.refuses host.old.watch;
       input = H.Input.remaining host.old.input;
@@ -500,6 +510,7 @@ fn serve_packages<H: Parts>(
     ensures ok { OnOk result (ServesPackages job.entry (config_seen config.now) (map (λ f. f.items) contents.now) (record {
       files = H.Files.holds host.old.files;
       stores = stores_in (H.Stores.is_known host.old.stores) (H.Stores.files host.old.stores);
+      agent_store = agent_store_in (H.Stores.is_known host.old.stores) (H.Stores.agent_files host.old.stores);
       lacks = H.Wires.lacks host.old.wires;
       refuses = H.Watch.refuses host.old.watch;
       input = H.Input.remaining host.old.input;
@@ -515,6 +526,7 @@ fn serve_packages<H: Parts>(
     ensures fault { IfErr result (λ e. PackagesEnd job.entry (config_seen config.now) (map (λ f. f.items) contents.now) e (record {
       files = H.Files.holds host.old.files;
       stores = stores_in (H.Stores.is_known host.old.stores) (H.Stores.files host.old.stores);
+      agent_store = agent_store_in (H.Stores.is_known host.old.stores) (H.Stores.agent_files host.old.stores);
       lacks = H.Wires.lacks host.old.wires;
       refuses = H.Watch.refuses host.old.watch;
       input = H.Input.remaining host.old.input;
@@ -588,6 +600,7 @@ pub fn agent_file<H: Parts>(
     ensures ok { OnOk result (ServesAgent job.entry (record {
       files = H.Files.holds host.old.files;
       stores = stores_in (H.Stores.is_known host.old.stores) (H.Stores.files host.old.stores);
+      agent_store = agent_store_in (H.Stores.is_known host.old.stores) (H.Stores.agent_files host.old.stores);
       lacks = H.Wires.lacks host.old.wires;
       refuses = H.Watch.refuses host.old.watch;
       input = H.Input.remaining host.old.input;
@@ -603,6 +616,7 @@ pub fn agent_file<H: Parts>(
     ensures fault { IfErr result (λ e. AgentEnds job.entry e (record {
       files = H.Files.holds host.old.files;
       stores = stores_in (H.Stores.is_known host.old.stores) (H.Stores.files host.old.stores);
+      agent_store = agent_store_in (H.Stores.is_known host.old.stores) (H.Stores.agent_files host.old.stores);
       lacks = H.Wires.lacks host.old.wires;
       refuses = H.Watch.refuses host.old.watch;
       input = H.Input.remaining host.old.input;

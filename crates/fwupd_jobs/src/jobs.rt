@@ -2,7 +2,7 @@
 
 ghost use Rattle.std.specs.Prelude.{◌≡◌, ◌⊎◌, IfErr, OnOk};
 ghost use Rattle.fw_setup.specs.Stocks.{stores_in};
-ghost use Rattle.fwupd_jobs.specs.Hosts.{FoundOf, LeftOf};
+ghost use Rattle.fwupd_jobs.specs.Hosts.{FoundOf, LeftOf, agent_store_in};
 ghost use Rattle.fwupd_jobs.specs.Jobs.{IsDone, JobEnds};
 ghost use Rattle.fwupd_watch.specs.Running.{HasObserverFault};
 
@@ -37,6 +37,7 @@ pub fn perform_job<H: Parts>(
     ensures ok { OnOk result (IsDone job.now (record {
       files = H.Files.holds host.old.files;
       stores = stores_in (H.Stores.is_known host.old.stores) (H.Stores.files host.old.stores);
+      agent_store = agent_store_in (H.Stores.is_known host.old.stores) (H.Stores.agent_files host.old.stores);
       lacks = H.Wires.lacks host.old.wires;
       refuses = H.Watch.refuses host.old.watch;
       input = H.Input.remaining host.old.input;
@@ -52,6 +53,7 @@ pub fn perform_job<H: Parts>(
     ensures fault { IfErr result (λ e. JobEnds job.now e (record {
       files = H.Files.holds host.old.files;
       stores = stores_in (H.Stores.is_known host.old.stores) (H.Stores.files host.old.stores);
+      agent_store = agent_store_in (H.Stores.is_known host.old.stores) (H.Stores.agent_files host.old.stores);
       lacks = H.Wires.lacks host.old.wires;
       refuses = H.Watch.refuses host.old.watch;
       input = H.Input.remaining host.old.input;

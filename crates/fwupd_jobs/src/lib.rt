@@ -3,6 +3,7 @@
 #![tactic(auto)]
 
 mod agent_serving;
+mod agent_stores;
 mod alone;
 mod answering;
 mod building;
@@ -50,7 +51,7 @@ pub use fwupd_watch::{
 };
 pub use fwupd_words::{
     AgentAlone, AgentProcess, DeviceAlone, DeviceProcess, Job, Order, Replay, Serving, Show, Soak,
-    SoakOrder, TraceForm, Update, Wire, parse,
+    SoakOrder, TraceForm, Update, Watching, Wire, parse,
 };
 pub use host::{Host, Parts};
 pub use inspecting::{inspect_file, inspection_fault};

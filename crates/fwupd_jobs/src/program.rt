@@ -6,7 +6,7 @@ ghost use Rattle.std.specs.Process.{exit_status};
 ghost use Rattle.clap.specs.Values.{kind_of};
 ghost use Rattle.clap.specs.declared.error.kind.ErrorKind.TheVariants.{DisplayHelp, DisplayVersion, OutOfMemory};
 ghost use Rattle.fw_setup.specs.Stocks.{stores_in};
-ghost use Rattle.fwupd_jobs.specs.Hosts.{FoundOf, LeftOf};
+ghost use Rattle.fwupd_jobs.specs.Hosts.{FoundOf, LeftOf, agent_store_in};
 ghost use Rattle.fwupd_jobs.specs.Jobs.{StatusSays, SystemSays};
 ghost use Rattle.fwupd_jobs.specs.Progress.{runs_of_job};
 
@@ -64,6 +64,7 @@ fn status<H: Parts>(rt: &HostRuntime, job: &Job<'_>, host: &mut Host<H>) -> Exit
     ensures { StatusSays (exit_status result) job.now (record {
       files = H.Files.holds host.old.files;
       stores = stores_in (H.Stores.is_known host.old.stores) (H.Stores.files host.old.stores);
+      agent_store = agent_store_in (H.Stores.is_known host.old.stores) (H.Stores.agent_files host.old.stores);
       lacks = H.Wires.lacks host.old.wires;
       refuses = H.Watch.refuses host.old.watch;
       input = H.Input.remaining host.old.input;

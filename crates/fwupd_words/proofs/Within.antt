@@ -41,14 +41,17 @@ answering_usual =
     also help_usual _ _ refl refl refl refl
     also tt
 
-device_usual : AllUsual (building device).rules (building device).rules
-device_usual =
+device_usual : (forms : Forms) → AllUsual (building (device forms)).rules (building (device forms)).rules
+device_usual forms =
     flag_usual _ _ _ refl refl refl refl (inr (_, refl))
     also flag_usual _ _ _ refl refl refl refl (inr (_, refl))
     also set_usual _ _ refl refl refl (inl refl)
     also set_usual _ _ refl refl refl (inl refl)
     also set_usual _ _ refl refl refl (inl refl)
     also flag_usual _ _ _ refl refl refl refl (inr (_, refl))
+    also set_usual _ _ refl refl refl (inl refl)
+    also set_usual _ _ refl refl refl (inl refl)
+    also set_usual _ _ refl refl refl (inl refl)
     also set_usual _ _ refl refl refl (inl refl)
     also set_usual _ _ refl refl refl (inl refl)
     also set_usual _ _ refl refl refl (inl refl)
@@ -57,16 +60,20 @@ device_usual =
     also help_usual _ _ refl refl refl refl
     also tt
 
-agent_usual : AllUsual (building agent).rules (building agent).rules
-agent_usual =
+agent_usual : (forms : Forms) → AllUsual (building (agent forms)).rules (building (agent forms)).rules
+agent_usual forms =
     flag_usual _ _ _ refl refl refl refl (inr (_, refl))
     also flag_usual _ _ _ refl refl refl refl (inr (_, refl))
     also set_usual _ _ refl refl refl (inl refl)
     also set_usual _ _ refl refl refl (inl refl)
     also set_usual _ _ refl refl refl (inl refl)
     also set_usual _ _ refl refl refl (inl refl)
+    also set_usual _ _ refl refl refl (inl refl)
     also flag_usual _ _ _ refl refl refl refl (inr (_, refl))
     also flag_usual _ _ _ refl refl refl refl (inr (_, refl))
+    also set_usual _ _ refl refl refl (inl refl)
+    also set_usual _ _ refl refl refl (inl refl)
+    also set_usual _ _ refl refl refl (inl refl)
     also set_usual _ _ refl refl refl (inl refl)
     also set_usual _ _ refl refl refl (inl refl)
     also set_usual _ _ refl refl refl (inl refl)
@@ -210,8 +217,8 @@ endpoint_within forms words name rows endpoint passed is named asks =
     number_under (building answer).rules rows (codes "EID") eid_rule 8 255 8 254 endpoint.eid read.each refl has refl refl (omega arith) refl (omega arith)
     (λ text one _ _. asks.eid text one)
 
-device_given : (rows : List Row) → check_fault (building device) rows false ≡ [] → is_given (codes "EID") rows ≡ true
-device_given rows passed = go (is_given (codes "CONFIG") rows) (is_given (codes "EID") rows) refl refl
+device_given : (forms : Forms) (rows : List Row) → check_fault (building (device forms)) rows false ≡ [] → is_given (codes "EID") rows ≡ true
+device_given forms rows passed = go (is_given (codes "CONFIG") rows) (is_given (codes "EID") rows) refl refl
   where
     go : (config eid : Bool) → is_given (codes "CONFIG") rows ≡ config → is_given (codes "EID") rows ≡ eid → is_given (codes "EID") rows ≡ true
     go config true first is = is
@@ -223,26 +230,26 @@ abbrev device_eid_rule : Rule
 device_eid_rule = with_index 2 (filled (record (word_rule (codes "EID")) { parser = Some (number_between 8 254) }))
 
 -- the identifier of a device is 8 to 254
-device_within : (rows : List Row) (eid : ℕ) → AreRead (building device) rows → AsksSmall (given_by rows) (codes "EID") eid → (8 ≤ eid) × (eid ≤ 254)
-device_within rows eid read asks =
-    let has = given_has (codes "EID") rows (device_given rows read.checked) in
-    number_under (building device).rules rows (codes "EID") device_eid_rule 8 255 8 254 eid read.each refl has refl refl (omega arith) refl (omega arith) asks
+device_within : (forms : Forms) (rows : List Row) (eid : ℕ) → AreRead (building (device forms)) rows → AsksSmall (given_by rows) (codes "EID") eid → (8 ≤ eid) × (eid ≤ 254)
+device_within forms rows eid read asks =
+    let has = given_has (codes "EID") rows (device_given forms rows read.checked) in
+    number_under (building (device forms)).rules rows (codes "EID") device_eid_rule 8 255 8 254 eid read.each refl has refl refl (omega arith) refl (omega arith) asks
 
 device_read : (forms : Forms) (words : List Text) (name : Text) (rows : List Row) → fault_of (command_line forms) words ≡ []
-    → subcommand_of (command_line forms) words ≡ Some (name, rows) → name ≡ codes "device" → AreRead (building device) rows
+    → subcommand_of (command_line forms) words ≡ Some (name, rows) → name ≡ codes "device" → AreRead (building (device forms)) rows
 device_read forms words name rows passed is named =
     let here = subst (λ n. subcommand_of (command_line forms) words ≡ Some (n, rows)) named is in
-    let only : OnlyNamed (codes "device") (building device) (built (command_line forms)).subs =
+    let only : OnlyNamed (codes "device") (building (device forms)) (built (command_line forms)).subs =
     inr refl also inr refl also inr refl also inr refl also inr refl also inr refl also inr refl also inr refl also inl refl also inr refl also inr refl also inr refl also tt in
-    rows_read forms words (codes "device") rows (building device) passed here only refl device_usual
+    rows_read forms words (codes "device") rows (building (device forms)) passed here only refl (device_usual forms)
 
 agent_read : (forms : Forms) (words : List Text) (name : Text) (rows : List Row) → fault_of (command_line forms) words ≡ []
-    → subcommand_of (command_line forms) words ≡ Some (name, rows) → name ≡ codes "agent" → AreRead (building agent) rows
+    → subcommand_of (command_line forms) words ≡ Some (name, rows) → name ≡ codes "agent" → AreRead (building (agent forms)) rows
 agent_read forms words name rows passed is named =
     let here = subst (λ n. subcommand_of (command_line forms) words ≡ Some (n, rows)) named is in
-    let only : OnlyNamed (codes "agent") (building agent) (built (command_line forms)).subs =
+    let only : OnlyNamed (codes "agent") (building (agent forms)) (built (command_line forms)).subs =
     inr refl also inr refl also inr refl also inr refl also inr refl also inr refl also inr refl also inr refl also inr refl also inl refl also inr refl also inr refl also tt in
-    rows_read forms words (codes "agent") rows (building agent) passed here only refl agent_usual
+    rows_read forms words (codes "agent") rows (building (agent forms)) passed here only refl (agent_usual forms)
 
 -- ---- the ticks of a process
 
@@ -293,16 +300,16 @@ is_within forms words name rows (jobs.Soak s) passed is asks =
     inr refl also inr refl also inr refl also inr refl also inr refl also inl refl also inr refl also inr refl also inr refl also inr refl also inr refl also inr refl also tt in
     soak_within rows s.order (rows_read forms words (codes "soak") rows (building soak) passed here only refl soaking_usual) asks.2
 is_within forms words name rows (jobs.Device d) passed is asks =
-    device_within rows d.eid (device_read forms words name rows passed is asks.0) asks.3.eid
+    device_within forms rows d.eid (device_read forms words name rows passed is asks.0) asks.3.eid
 is_within forms words name rows (jobs.DeviceProcess d) passed is asks =
     let read = device_read forms words name rows passed is asks.0 in
-    let eid = device_within rows d.eid read asks.2.eid in
-    (eid.0, eid.1, ticks_within (building device) rows d.serving read refl refl asks.2.serving)
+    let eid = device_within forms rows d.eid read asks.2.eid in
+    (eid.0, eid.1, ticks_within (building (device forms)) rows d.serving read refl refl asks.2.serving)
 is_within forms words name rows (jobs.AgentProcess a) passed is asks =
     let read = agent_read forms words name rows passed is asks.0 in (
-      (number_or (building agent).rules rows (codes "package") own_package 32 4294967295 1 4294967295 1 a.number read.each refl refl refl (omega arith) refl (omega arith)
+      (number_or (building (agent forms)).rules rows (codes "package") own_package 32 4294967295 1 4294967295 1 a.number read.each refl refl refl (omega arith) refl (omega arith)
           (omega arith) (omega arith) asks.2.number.none asks.2.number.given).0,
-      ticks_within (building agent) rows a.serving read refl refl asks.2.serving,
+      ticks_within (building (agent forms)) rows a.serving read refl refl asks.2.serving,
     )
 is_within forms words name rows (jobs.Agent a) passed is asks = tt
 is_within forms words name rows (jobs.Inspect path form) passed is asks = tt

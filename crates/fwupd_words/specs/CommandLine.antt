@@ -140,12 +140,19 @@ abbrev pub build_rules : List Rule
 build_rules = word_rule (codes "SPEC") ∷ word_rule (codes "FILE") ∷ []
 
 -- The options of a node's process that a device and the agent share: its serial line, the
--- milliseconds of a unit, and the units until it ends.
-abbrev pub process_rules : List Rule
-process_rules =
+-- milliseconds of a unit, the units until it ends, and what is written of it. A filter of lines has
+-- no trace, so the format has no default.
+abbrev pub own_trace_form_rule : Forms → Rule
+own_trace_form_rule forms = record (text_option (codes "trace-format")) { parser = Some (vp.Names forms.traces) }
+
+abbrev pub process_rules : Forms → List Rule
+process_rules forms =
     given_option (codes "tty")
     ∷ record (text_option (codes "tick")) { parser = Some (number_between 1 1000) }
     ∷ record (text_option (codes "ticks")) { parser = Some (number_between 1 4294967295) }
+    ∷ text_option (codes "trace")
+    ∷ own_trace_form_rule forms
+    ∷ text_option (codes "record")
     ∷ []
 
 -- The option of the agent's package, without a default: a filter of lines has no package.
@@ -166,16 +173,17 @@ device_options =
     ∷ record (word_rule (codes "EID")) { parser = Some (number_between 8 254) }
     ∷ []
 
-abbrev pub device_rules : List Rule
-device_rules = device_options ++ process_rules
+abbrev pub device_rules : Forms → List Rule
+device_rules forms = device_options ++ process_rules forms
 
--- `fwupd agent [--auto] [--open] [--sel FILE] [--report FILE] [--connect FOLDER] [--package N]
--- [--check] [--json] CONFIG`, with the options of a process last
+-- `fwupd agent [--auto] [--open] [--sel FILE] [--store STORE] [--report FILE] [--connect FOLDER]
+-- [--package N] [--check] [--json] CONFIG`, with the options of a process last
 abbrev pub agent_options : List Rule
 agent_options =
     flag_rule (codes "auto")
     ∷ flag_rule (codes "open")
     ∷ text_option (codes "sel")
+    ∷ given_option (codes "store")
     ∷ text_option (codes "report")
     ∷ given_option (codes "connect")
     ∷ own_package_rule
@@ -184,8 +192,8 @@ agent_options =
     ∷ word_rule (codes "CONFIG")
     ∷ []
 
-abbrev pub agent_rules : List Rule
-agent_rules = agent_options ++ process_rules
+abbrev pub agent_rules : Forms → List Rule
+agent_rules forms = agent_options ++ process_rules forms
 
 -- `fwupd decode [--unit BYTES] [--json] [FILE]`
 abbrev pub decode_rules : Forms → List Rule
@@ -219,18 +227,18 @@ sel = taking (codes "sel") sel_rules
 abbrev pub build : App
 build = taking (codes "build") build_rules
 
-abbrev pub device : App
-device = taking (codes "device") device_rules
+abbrev pub device : Forms → App
+device forms = taking (codes "device") (device_rules forms)
 
-abbrev pub agent : App
-agent = taking (codes "agent") agent_rules
+abbrev pub agent : Forms → App
+agent forms = taking (codes "agent") (agent_rules forms)
 
 abbrev pub decode : Forms → App
 decode forms = taking (codes "decode") (decode_rules forms)
 
 -- The subcommands, in the order in which help lists them.
 abbrev pub subcommands : Forms → List App
-subcommands forms = answer ∷ inspect ∷ replay forms ∷ plan ∷ run forms ∷ soak ∷ sel ∷ build ∷ device ∷ agent ∷ decode forms ∷ []
+subcommands forms = answer ∷ inspect ∷ replay forms ∷ plan ∷ run forms ∷ soak ∷ sel ∷ build ∷ device forms ∷ agent forms ∷ decode forms ∷ []
 
 -- The program without its subcommands: one is required, and there is a version option.
 abbrev pub program : App

@@ -4,23 +4,29 @@ use Rattle.std.specs.Str.Parse.{IsNumeral, without_leading_plus}
 use Rattle.clap.specs.Words.{Text}
 use Rattle.clap.specs.declared.error.kind.ErrorKind.{ErrorKind}
 use Rattle.clap.specs.declared.error.kind.ErrorKind.TheVariants as kinds
-use Rattle.fwupd_words.specs.Words.{AsksFlag, AsksForm, AsksSmall, Given, has_value, is_set, number_of, text_under}
+use Rattle.fwupd_words.specs.Words.{AsksFlag, AsksForm, AsksSmall, AsksTraceForm, Given, has_value, is_set, number_of, text_under}
 use Rattle.fwupd_words.specs.declared.processes.AgentProcess.{AgentProcess}
 use Rattle.fwupd_words.specs.declared.processes.DeviceProcess.{DeviceProcess}
 use Rattle.fwupd_words.specs.declared.processes.Serving.{Serving}
+use Rattle.fwupd_words.specs.declared.processes.Watching.{Watching}
 use Rattle.fwupd_words.specs.declared.processes.Wire.{Wire}
 use Rattle.fwupd_words.specs.declared.processes.Wire.TheVariants as wires
 
 -- ---- which options go together
 
--- An option that only the process of a device has, or the process of the agent.
+-- An option that only a process has; one of a device's process, and one of the agent's.
+abbrev pub has_process : Given → Bool
+has_process words =
+    has_value words (codes "tick") || (has_value words (codes "ticks")
+    || (has_value words (codes "trace") || (has_value words (codes "trace-format") || has_value words (codes "record"))))
+
 abbrev pub has_device_process : Given → Bool
-has_device_process words = has_value words (codes "tick") || (has_value words (codes "ticks") || is_set words (codes "take-over"))
+has_device_process words = has_process words || is_set words (codes "take-over")
 
 abbrev pub has_agent_process : Given → Bool
 has_agent_process words =
-    has_value words (codes "tick") || (has_value words (codes "ticks")
-    || (has_value words (codes "package") || (is_set words (codes "check") || is_set words (codes "json"))))
+    has_process words || (has_value words (codes "package")
+    || (has_value words (codes "store") || (is_set words (codes "check") || is_set words (codes "json"))))
 
 -- An option that only a filter of lines has.
 abbrev pub has_filter : Given → Bool
@@ -72,6 +78,12 @@ pub record AsksServing (words : Given) (serving : Serving) : Type 0 where
   pub tick : AsksNumberOr words (codes "tick") (usual_tick serving.wire) serving.tick
   pub ticks : AsksOptional words (codes "ticks") serving.ticks
 
+-- What is written of the process of a node.
+pub record AsksWatching (words : Given) (watching : Watching) : Type 0 where
+  pub trace : option_map (λ path. path.now) watching.trace ≡ words.first (codes "trace")
+  pub trace_form : AsksTraceForm words watching.trace_form
+  pub record_path : option_map (λ path. path.now) watching.record ≡ words.first (codes "record")
+
 -- A device as a process.
 pub record AsksDeviceProcess (words : Given) (device : DeviceProcess) : Type 0 where
   pub config : device.config.now ≡ text_under words (codes "CONFIG")
@@ -80,6 +92,7 @@ pub record AsksDeviceProcess (words : Given) (device : DeviceProcess) : Type 0 w
   pub wire : AsksWire words (codes "listen") (Some device.serving.wire)
   pub serving : AsksServing words device.serving
   pub takes_over : AsksFlag words (codes "take-over") device.takes_over
+  pub watching : AsksWatching words device.watching
 
 -- The agent as a process.
 pub record AsksAgentProcess (words : Given) (agent : AgentProcess) : Type 0 where
@@ -88,5 +101,7 @@ pub record AsksAgentProcess (words : Given) (agent : AgentProcess) : Type 0 wher
   pub log : option_map (λ path. path.now) agent.log ≡ words.first (codes "sel")
   pub form : AsksForm words agent.form
   pub checked : AsksFlag words (codes "check") agent.is_checked
+  pub store : option_map (λ path. path.now) agent.store ≡ words.first (codes "store")
   pub wire : AsksWire words (codes "connect") (Some agent.serving.wire)
   pub serving : AsksServing words agent.serving
+  pub watching : AsksWatching words agent.watching

@@ -283,8 +283,8 @@ fn device_options<'a>(alloc: Global) -> Result<Vec<Arg<'a>>, AllocError>
 }
 
 /// The subcommand `device`.
-fn device_command<'a>(alloc: Global) -> Result<Command<'a>, AllocError>
-    ensures { IfOk result (λ c. app_of c ≡ device) }
+fn device_command<'a>(alloc: Global, names: OptionNames<'a>) -> Result<Command<'a>, AllocError>
+    ensures { IfOk result (λ c. app_of c ≡ device names.entry) }
 {
     let command = Command::new(alloc, "device")
         .about("Serves a device by itself: a filter of lines, or a process")
@@ -297,7 +297,7 @@ fn device_command<'a>(alloc: Global) -> Result<Command<'a>, AllocError>
         )
         .after_long_help(DEVICE_HELP);
     let command = with_args(command, device_options(alloc)?)?;
-    with_args(command, process_options(alloc)?)
+    with_args(command, process_options(alloc, names)?)
 }
 
 /// The options and arguments of `agent`, without those that its process shares with a device's.
@@ -318,6 +318,7 @@ fn agent_options<'a>(alloc: Global) -> Result<Vec<Arg<'a>>, AllocError>
         auto,
         open_option(alloc),
         log_option(alloc),
+        store_option(alloc, "Keeps records and the event log in a folder"),
         report_option(alloc),
         connect,
         own_package_option(alloc),
@@ -328,8 +329,8 @@ fn agent_options<'a>(alloc: Global) -> Result<Vec<Arg<'a>>, AllocError>
 }
 
 /// The subcommand `agent`.
-fn agent_command<'a>(alloc: Global) -> Result<Command<'a>, AllocError>
-    ensures { IfOk result (λ c. app_of c ≡ agent) }
+fn agent_command<'a>(alloc: Global, names: OptionNames<'a>) -> Result<Command<'a>, AllocError>
+    ensures { IfOk result (λ c. app_of c ≡ agent names.entry) }
 {
     let command = Command::new(alloc, "agent")
         .about("Serves the agent by itself: a filter of lines, or a process")
@@ -342,7 +343,7 @@ fn agent_command<'a>(alloc: Global) -> Result<Command<'a>, AllocError>
         )
         .after_long_help(AGENT_HELP);
     let command = with_args(command, agent_options(alloc)?)?;
-    with_args(command, process_options(alloc)?)
+    with_args(command, process_options(alloc, names)?)
 }
 
 /// The subcommand `decode`.
@@ -399,8 +400,8 @@ fn command_with<'a>(alloc: Global, names: OptionNames<'a>) -> Result<Command<'a>
     let command = with_one(command, soak_command(alloc)?)?;
     let command = with_one(command, sel_command(alloc)?)?;
     let command = with_one(command, build_command(alloc)?)?;
-    let command = with_one(command, device_command(alloc)?)?;
-    let command = with_one(command, agent_command(alloc)?)?;
+    let command = with_one(command, device_command(alloc, names)?)?;
+    let command = with_one(command, agent_command(alloc, names)?)?;
     with_one(command, decode_command(alloc, names)?)
 }
 

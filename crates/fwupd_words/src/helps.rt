@@ -363,14 +363,18 @@ It counts a tick every MS milliseconds, which are a unit. It begins with a
 restart: for 40 units it is deaf and silent. Verdicts are those of --auto. With
 --ticks it ends after N units; without, it serves until it is killed.
 --take-over removes FOLDER/EID.sock first if nobody listens on it, as after a
-kill; with --tty it does nothing.
+kill; with --tty it does nothing. --trace and --trace-format are those of
+'fwupd run --help', of the packets that the process sends and receives.
+--record writes its calls as lines, which this filter reads.
 
 --listen and --tty exclude each other, and each of them excludes --auto and
---report. --tick, --ticks and --take-over need one of them.
+--report. --tick, --ticks, --take-over, --trace, --trace-format and --record
+need one of them.
 
-Faults: 'device EID: none' if CONFIG has no such device; 'report' if FILE can't
-be written, or is CONFIG; 'socket: EID' if FOLDER/EID.sock can't be made, or is
-there already; 'tty' if PATH can't be opened; and those of 'fwupd run --store'.
+Faults: 'device EID: none' if CONFIG has no such device; 'report', 'trace' or
+'record' if that file can't be written, or is one that is read; 'socket: EID' if
+FOLDER/EID.sock can't be made, or is there already; 'tty' if PATH can't be
+opened; and those of 'fwupd run --store'.
 
 Status: 0; 1 if standard error says 'fwupd: ' and a fault, one of these, of
 'answer' or of 'replay'; 2 for wrong usage.";
@@ -421,13 +425,22 @@ ends when each session is Done or Failed, with --ticks after N units at the
 latest, and prints the agent's lines of a report, with --json as one line of
 JSON. With --check it fails after the report if a session isn't Done.
 
---connect and --tty exclude each other, and each of them excludes --auto and
---report. --tick, --ticks, --package, --check and --json need one of them.
+--store makes what it records and its event log last, in STORE/agent, which is
+made: the text 'active' has both as they are at the end of each call that
+changed them, and the next process goes on with them. The text 'packages' says
+which packages records are of: CONFIG may name more packages later, after these.
+--trace, --trace-format and --record are those of 'fwupd device --help'.
 
-Faults: 'sel' or 'report' if that file can't be written, or is one that is read;
-'package: none' if CONFIG names fewer packages; 'tty' if PATH can't be opened;
-with --check, 'session EID: WORD' of the first session in configured order that
-isn't Done.
+--connect and --tty exclude each other, and each of them excludes --auto and
+--report. --tick, --ticks, --package, --store, --check, --json, --trace,
+--trace-format and --record need one of them.
+
+Faults: 'sel', 'report', 'trace' or 'record' if that file can't be written, or
+is one that is read; 'package: none' if CONFIG names fewer packages; 'tty' if
+PATH can't be opened; 'store: EID: FAULT', with the agent's EID, for STORE/agent
+as in 'fwupd run --help', with 'foreign' if its packages aren't the first ones
+of CONFIG, or 'unwritable' if it can't be written; with --check,
+'session EID: WORD' of the first session in configured order that isn't Done.
 
 Status: 0; 1 if standard error says 'fwupd: ' and a fault, one of these, of
 'answer' or of 'replay'; 2 for wrong usage.";

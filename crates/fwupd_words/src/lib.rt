@@ -14,5 +14,5 @@ mod values;
 pub use asked::{
     AgentAlone, DeviceAlone, Job, Order, Replay, Show, Soak, SoakOrder, TraceForm, Update,
 };
-pub use processes::{AgentProcess, DeviceProcess, Serving, Wire};
+pub use processes::{AgentProcess, DeviceProcess, Serving, Watching, Wire};
 pub use reading::parse;

@@ -5,11 +5,13 @@ ghost use Rattle.clap.specs.Words.{kind_of};
 ghost use Rattle.clap.specs.declared.error.kind.ErrorKind.TheVariants.{OutOfMemory};
 ghost use Rattle.fwupd_words.specs.Words.{AsksAgent, AsksDevice, given_in};
 ghost use Rattle.fwupd_words.specs.Jobs.{AsksForJob};
-ghost use Rattle.fwupd_words.specs.Processes.{AsksNumberOr, AsksServing, AsksWire, agent_clash, device_clash, has_agent_process, has_device_process, node_clash, usual_tick};
+ghost use Rattle.fwupd_words.specs.Processes.{AsksNumberOr, AsksServing, AsksWatching, AsksWire, agent_clash, device_clash, has_agent_process, has_device_process, has_process, node_clash, usual_tick};
 
 use crate::asked::{AgentAlone, DeviceAlone, Job};
-use crate::processes::{AgentProcess, DeviceProcess, Serving, Wire};
-use crate::values::{form_in, has_value, is_set, number_under, refusal, small_under, text_under};
+use crate::processes::{AgentProcess, DeviceProcess, Serving, Watching, Wire};
+use crate::values::{
+    form_in, has_value, is_set, number_under, refusal, small_under, text_under, trace_form_in,
+};
 use clap::ArgMatches;
 use clap::error::ErrorKind;
 use std::alloc::{AllocError, Global};
@@ -92,6 +94,28 @@ fn serving_in<'a>(matches: &ArgMatches<'a>, wire: Wire<'a>) -> Serving<'a>
     }
 }
 
+/// What is written of the process of a node.
+fn watching_in<'a>(matches: &ArgMatches<'a>) -> Watching<'a>
+    ensures { AsksWatching (given_in matches.now) result }
+{
+    Watching {
+        trace: matches.get_str("trace"),
+        trace_form: trace_form_in(matches),
+        record: matches.get_str("record"),
+    }
+}
+
+/// Whether an option is there that only a process has, of a device or of the agent.
+fn is_process(matches: &ArgMatches<'_>) -> bool
+    ensures { result ≡ has_process (given_in matches.now) }
+{
+    has_value(matches, "tick")
+        || has_value(matches, "ticks")
+        || has_value(matches, "trace")
+        || has_value(matches, "trace-format")
+        || has_value(matches, "record")
+}
+
 /// The device by itself, which serves lines.
 fn device_alone<'a>(matches: &ArgMatches<'a>) -> DeviceAlone<'a>
     ensures { AsksDevice (given_in matches.now) result }
@@ -111,7 +135,7 @@ fn device_alone<'a>(matches: &ArgMatches<'a>) -> DeviceAlone<'a>
 fn is_device_process(matches: &ArgMatches<'_>) -> bool
     ensures { result ≡ has_device_process (given_in matches.now) }
 {
-    has_value(matches, "tick") || has_value(matches, "ticks") || is_set(matches, "take-over")
+    is_process(matches) || is_set(matches, "take-over")
 }
 
 /// The job that the arguments of `device` request.
@@ -134,6 +158,7 @@ pub(crate) fn device_in<'a>(alloc: Global, matches: &ArgMatches<'a>) -> Result<J
         store: matches.get_str("store"),
         serving: serving_in(matches, wire),
         takes_over: matches.get_flag("take-over"),
+        watching: watching_in(matches),
     }))
 }
 
@@ -155,9 +180,9 @@ fn agent_alone<'a>(matches: &ArgMatches<'a>) -> AgentAlone<'a>
 fn is_agent_process(matches: &ArgMatches<'_>) -> bool
     ensures { result ≡ has_agent_process (given_in matches.now) }
 {
-    has_value(matches, "tick")
-        || has_value(matches, "ticks")
+    is_process(matches)
         || has_value(matches, "package")
+        || has_value(matches, "store")
         || is_set(matches, "check")
         || is_set(matches, "json")
 }
@@ -189,8 +214,10 @@ pub(crate) fn agent_in<'a>(alloc: Global, matches: &ArgMatches<'a>) -> Result<Jo
         config: text_under(matches, "CONFIG"),
         number: package_in(matches),
         log: matches.get_str("sel"),
+        store: matches.get_str("store"),
         form: form_in(matches),
         is_checked: matches.get_flag("check"),
         serving: serving_in(matches, wire),
+        watching: watching_in(matches),
     }))
 }

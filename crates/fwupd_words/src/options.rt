@@ -2,7 +2,7 @@
 
 ghost use Rattle.std.specs.Prelude.{◌≡◌, ◌∷◌, [], IfOk, Some, codes, map};
 ghost use Rattle.clap.specs.Words.{rule_of};
-ghost use Rattle.fwupd_words.specs.CommandLine.{flag_rule, given_option, given_word, optional_word, own_package_rule, package_rule, process_rules, roughness_rules, text_option, trace_form_rule, unit_rule, word_rule};
+ghost use Rattle.fwupd_words.specs.CommandLine.{flag_rule, given_option, given_word, optional_word, own_package_rule, own_trace_form_rule, package_rule, process_rules, roughness_rules, text_option, trace_form_rule, unit_rule, word_rule};
 
 use clap::builder::ValueParser;
 use clap::{Arg, ArgAction, value_parser};
@@ -228,9 +228,25 @@ pub(crate) fn own_package_option<'a>(alloc: Global) -> Arg<'a>
     package.value_parser(value_parser!(u32).range(1..))
 }
 
+/// The option for the format of a process's trace, without a default.
+fn own_trace_form_option<'a>(alloc: Global, names: OptionNames<'a>) -> Arg<'a>
+    ensures { rule_of result ≡ own_trace_form_rule names.entry }
+{
+    text_option(
+        alloc,
+        "trace-format",
+        "FORM",
+        "The form of the trace, as in 'fwupd run': hex unless given",
+    )
+    .value_parser(names.traces)
+}
+
 /// The options of a node's process that the device and the agent share.
-pub(crate) fn process_options<'a>(alloc: Global) -> Result<Vec<Arg<'a>>, AllocError>
-    ensures { IfOk result (λ options. map rule_of options.items ≡ process_rules) }
+pub(crate) fn process_options<'a>(
+    alloc: Global,
+    names: OptionNames<'a>,
+) -> Result<Vec<Arg<'a>>, AllocError>
+    ensures { IfOk result (λ options. map rule_of options.items ≡ process_rules names.entry) }
 {
     let tty = text_option(alloc, "tty", "PATH", "Serves a serial line as a process");
     let tick = text_option(
@@ -240,9 +256,21 @@ pub(crate) fn process_options<'a>(alloc: Global) -> Result<Vec<Arg<'a>>, AllocEr
         "The milliseconds of a unit, 1 to 1000: 10 with sockets, 50 with --tty",
     );
     let ticks = text_option(alloc, "ticks", "N", "Ends the process after N units");
+    let trace = text_option(
+        alloc,
+        "trace",
+        "FILE",
+        "Writes each packet that is sent or received to a file",
+    );
     Ok(vec![in alloc;
         tty.value_parser(ValueParser::NonEmptyString),
         tick.value_parser(value_parser!(u32).range(1..1001)),
         ticks.value_parser(value_parser!(u32).range(1..)),
+        trace,
+        own_trace_form_option(alloc, names),
+        record_option(
+            alloc,
+            "Writes each call of the node to a file, as lines of a filter",
+        ),
     ]?)
 }

@@ -1,5 +1,6 @@
 //! Nodes as processes: a device or the agent, joined to its peers by sockets or a serial line.
 
+use crate::asked::TraceForm;
 use fwupd_base::Form;
 
 /// What joins the process of a node to its peers.
@@ -24,6 +25,17 @@ pub struct Serving<'a> {
     pub ticks: Option<u32>,
 }
 
+/// What is written of a node's process while it runs.
+#[derive(Clone, Copy)]
+pub struct Watching<'a> {
+    /// The file that each packet is written to when it is sent or received, if any.
+    pub trace: Option<&'a str>,
+    /// The format of that file.
+    pub trace_form: TraceForm,
+    /// The file that each call of the node is written to, as a line of a filter, if any.
+    pub record: Option<&'a str>,
+}
+
 /// A device as a process.
 #[derive(Clone, Copy)]
 pub struct DeviceProcess<'a> {
@@ -37,6 +49,8 @@ pub struct DeviceProcess<'a> {
     pub serving: Serving<'a>,
     /// Whether a socket on which nobody listens is replaced.
     pub takes_over: bool,
+    /// What is written of it while it runs.
+    pub watching: Watching<'a>,
 }
 
 /// The agent as a process.
@@ -48,10 +62,14 @@ pub struct AgentProcess<'a> {
     pub number: usize,
     /// The file that the event log's records are written to at the end, if any.
     pub log: Option<&'a str>,
+    /// The folder of stores, if what the agent records and its event log persist.
+    pub store: Option<&'a str>,
     /// The format of the report.
     pub form: Form,
     /// Whether the process fails unless each session ends Done.
     pub is_checked: bool,
     /// How it is served.
     pub serving: Serving<'a>,
+    /// What is written of it while it runs.
+    pub watching: Watching<'a>,
 }

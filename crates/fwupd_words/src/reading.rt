@@ -6,12 +6,12 @@ ghost use Rattle.clap.specs.Words.{App, kind_of};
 ghost use Rattle.fwupd_words.specs.CommandLine.{IsCommandLine};
 ghost use Rattle.fwupd_words.specs.Reading.{FindsSubcommand, ReadsWords, RefusesWords, RefusesEndpoint};
 ghost use Rattle.fwupd_words.specs.Jobs.{AsksForJob};
-ghost use Rattle.fwupd_words.specs.Words.{AsksEndpoint, AsksKept, AsksNumber, AsksOrder, AsksRoughness, AsksRuns, AsksSeed, AsksSoak, AsksTraceForm, AsksUnit, given_in};
+ghost use Rattle.fwupd_words.specs.Words.{AsksEndpoint, AsksKept, AsksNumber, AsksOrder, AsksRoughness, AsksRuns, AsksSeed, AsksSoak, AsksUnit, given_in};
 
-use crate::asked::{Job, Order, Replay, Show, Soak, SoakOrder, TraceForm, Update};
+use crate::asked::{Job, Order, Replay, Show, Soak, SoakOrder, Update};
 use crate::commands::command;
 use crate::nodes::{agent_in, device_in};
-use crate::values::{form_in, refusal, small_under, text_under};
+use crate::values::{form_in, refusal, small_under, text_under, trace_form_in};
 use clap::ArgMatches;
 use clap::error::ErrorKind;
 use fwupd_base::Roughness;
@@ -63,17 +63,6 @@ fn package_number(matches: &ArgMatches<'_>) -> usize
     match matches.get_one::<u32>("package") {
         Some(number) => number as usize,
         None => 1,
-    }
-}
-
-/// The trace format that the arguments request.
-fn trace_form_in(matches: &ArgMatches<'_>) -> TraceForm
-    ensures { AsksTraceForm (given_in matches.now) result }
-{
-    match matches.get_str("trace-format") {
-        Some("text") => TraceForm::Text,
-        Some("pcap") => TraceForm::Capture,
-        _ => TraceForm::Hex,
     }
 }
 

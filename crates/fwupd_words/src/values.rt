@@ -2,9 +2,10 @@
 
 ghost use Rattle.std.specs.Prelude.{◌≡◌, IfOk};
 ghost use Rattle.clap.specs.Words.{kind_of};
-ghost use Rattle.fwupd_words.specs.Words.{AsksForm, AsksSmall, given_in, has_value, is_set, text_under};
+ghost use Rattle.fwupd_words.specs.Words.{AsksForm, AsksSmall, AsksTraceForm, given_in, has_value, is_set, text_under};
 ghost use Rattle.fwupd_words.specs.Processes.{AsksOptional};
 
+use crate::asked::TraceForm;
 use crate::commands::command;
 use clap::ArgMatches;
 use clap::error::ErrorKind;
@@ -57,6 +58,17 @@ pub(crate) fn form_in(matches: &ArgMatches<'_>) -> Form
         Form::Json
     } else {
         Form::Text
+    }
+}
+
+/// The trace format that the arguments request.
+pub(crate) fn trace_form_in(matches: &ArgMatches<'_>) -> TraceForm
+    ensures { AsksTraceForm (given_in matches.now) result }
+{
+    match matches.get_str("trace-format") {
+        Some("text") => TraceForm::Text,
+        Some("pcap") => TraceForm::Capture,
+        _ => TraceForm::Hex,
     }
 }
 

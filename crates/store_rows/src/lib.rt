@@ -11,3 +11,5 @@ mod failing;
 mod keepers;
 #[cfg(test)]
 mod lasting;
+#[cfg(test)]
+mod packages;

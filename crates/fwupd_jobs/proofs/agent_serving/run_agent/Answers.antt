@@ -15,4 +15,4 @@ pub returns-clause-runs : goal.returns-clause-runs
 returns-clause-runs g c =
     let packed : ArePacked (g.H.Files.Files.holds c.args.host.now.files) (map (λ p. string_bytes p) c.in-Ok.config.packages.items) (map (λ f. f.items) c.as_slice.result.now) =
     rw (c.as_slice.ensures.value, sym c.as_slice-packages.ensures.value) c.in-Ok-package_files.ensures.packed in
-    runs_agent c.serve_packages.result c.args.job.now (config_seen c.in-Ok.config) _ (map (λ f. f.items) c.as_slice.result.now) _ _ c.in-Ok.ensures.says packed c.serve_packages.ensures.runs
+    runs_agent c.serve_packages.result c.args.job.now (config_seen c.in-Ok.config) _ _ (map (λ f. f.items) c.as_slice.result.now) _ _ c.in-Ok.ensures.says packed c.serve_packages.ensures.runs

@@ -12,4 +12,8 @@ returns-in-Ok-serve_agent_process g c = record {
   serves =
       subst (λ (s : ServedAgentOf). ServesRounds AgentDoes (λ x. x.now) s (g.L.Line.known c.args.joined.now.line) c.serve_agent_process.new.process.agent (g.L.Line.known c.serve_agent_process.new.line))
       (search rules) c.in-Ok-serve_agent_process.ensures.agent;
+  first = c.in-Ok-new.process;
+  begins = (search rules);
+  is_kept = c.in-Ok-new.ensures.kept;
+  keeping = c.in-Ok-serve_agent_process.ensures.served;
 }

@@ -14,7 +14,7 @@ returns c =
     let to_soak = then_one c.in_ok-command-5.command c.in_ok-soak_command.field-0 c.in_ok-command-6.command _ soak c.in_ok-command-6.ensures to_run c.in_ok-soak_command.ensures refl in
     let to_sel = then_one c.in_ok-command-6.command c.in_ok-sel_command.field-0 c.in_ok-command-7.command _ sel c.in_ok-command-7.ensures to_soak c.in_ok-sel_command.ensures refl in
     let to_build = then_one c.in_ok-command-7.command c.in_ok-build_command.field-0 c.in_ok-command-8.command _ build c.in_ok-command-8.ensures to_sel c.in_ok-build_command.ensures refl in
-    let to_device = then_one c.in_ok-command-8.command c.in_ok-device_command.field-0 c.in_ok-command-9.command _ device c.in_ok-command-9.ensures to_build c.in_ok-device_command.ensures refl in
-    let to_agent = then_one c.in_ok-command-9.command c.in_ok-agent_command.field-0 c.in_ok-command-10.command _ agent c.in_ok-command-10.ensures to_device c.in_ok-agent_command.ensures refl in
+    let to_device = then_one c.in_ok-command-8.command c.in_ok-device_command.field-0 c.in_ok-command-9.command _ (device c.args.names) c.in_ok-command-9.ensures to_build c.in_ok-device_command.ensures refl in
+    let to_agent = then_one c.in_ok-command-9.command c.in_ok-agent_command.field-0 c.in_ok-command-10.command _ (agent c.args.names) c.in_ok-command-10.ensures to_device c.in_ok-agent_command.ensures refl in
     let plain = ap is_plain c.in_ok-decode_command.ensures in
     IfOk-weaker c.with_one-11.result _ _ (λ whole is. is ∙ ap₂ with_one to_agent c.in_ok-decode_command.ensures) (c.with_one-11.ensures plain)
