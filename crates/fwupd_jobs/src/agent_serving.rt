@@ -10,9 +10,10 @@ ghost use Rattle.fwupd_jobs.specs.Processes.{RunsAgent, RunsPackages, RunsServed
 
 use crate::alone::eids_of;
 use crate::host::{Host, Parts};
+use crate::process_files::{ProcessOutputs, check_outputs};
 use crate::sessions::{Undone, is_done, undone_fault};
 use crate::setups::{configuration, package_files, packages_in};
-use crate::wiring::{Joined, Network, Wiring, end_of};
+use crate::wiring::{Joined, Network, Observed, Wiring, end_of, observe};
 use agent_store::NoKeeper;
 use fw_json::agent_json;
 use fw_process::{Clock, Line};
@@ -20,7 +21,8 @@ use fw_script::{Config, session_of};
 use fw_serve::{AgentProcess, CallFault, ServedAgent, serve_agent_process};
 use fw_trace::log_bytes;
 use fwupd_base::Form;
-use fwupd_watch::{JobFault, OutputPlaces, is_over_read, write_file};
+use fwupd_traces::{ObservedLine, PacketObserver, Starts, TracedNode};
+use fwupd_watch::{JobFault, OutputPlaces, process_fault, write_file};
 use std::alloc::{AllocError, Global};
 use std::io::Write;
 
@@ -39,12 +41,12 @@ fn start_all(agent: &mut ServedAgent<'_>, number: usize, eids: &[u8]) -> Result<
 }
 
 /// Serves an agent as a process, from the unit that a clock shows, with an update of each device.
-fn serve_started<'p, L: Line + Drop, C: Clock + Drop>(
+fn serve_started<'p, L: Line + Drop, O: PacketObserver + Drop, C: Clock + Drop>(
     alloc: Global,
     job: &fwupd_words::AgentProcess<'_>,
     agent: ServedAgent<'p>,
     eids: &[u8],
-    joined: &mut Joined<L, C>,
+    joined: &mut Joined<ObservedLine<L, O>, C>,
 ) -> Result<AgentProcess<'p, NoKeeper>, JobFault>
     requires { agent.now ≡ 0 }
     ensures { IfOk result (λ last. ServesStarted job.now.number eids.now agent.entry last.agent) }
@@ -52,6 +54,7 @@ fn serve_started<'p, L: Line + Drop, C: Clock + Drop>(
     let mut agent = agent;
     let shown = joined.clock.wait_past(0);
     agent.miss(shown);
+    joined.line.begin(shown);
     match start_all(&mut agent, job.number, eids) {
         Ok(()) => {}
         Err(fault) => return Err(fault),
@@ -145,6 +148,15 @@ fn end_agent<H: Parts>(
     all_done(agent)
 }
 
+/// An agent as a process that is observed.
+fn observed(network: Network, number: usize, eids: &[u8]) -> Observed<'_> {
+    Observed {
+        unit: network.unit,
+        node: TracedNode::Agent(network.endpoint.eid),
+        starts: Starts { number, eids },
+    }
+}
+
 /// Serves an agent as a process.
 fn serve_agent<H: Parts>(
     alloc: Global,
@@ -158,15 +170,30 @@ fn serve_agent<H: Parts>(
     ensures untouched { host.new.watch ≡ host.old.watch }
 {
     let (agent, eids) = agent;
-    let mut joined = match host.wiring.agent(alloc, network, eids, job.serving) {
+    let observed = observed(network, job.number, eids);
+    let watch = match host.wiring.watch(alloc, observed, job.watching) {
+        Ok(watch) => watch,
+        Err(fault) => return Err(fault),
+    };
+    let joined = match host.wiring.agent(alloc, network, eids, job.serving) {
         Ok(joined) => joined,
         Err(fault) => return Err(fault),
     };
-    let process = match serve_started(alloc, job, agent, eids, &mut joined) {
+    let mut joined = observe(joined, watch);
+    let served = serve_started(alloc, job, agent, eids, &mut joined);
+    let watched = joined.line.end();
+    let process = match served {
         Ok(process) => process,
         Err(fault) => return Err(fault),
     };
-    end_agent(alloc, job, process.agent(), host)
+    match end_agent(alloc, job, process.agent(), host) {
+        Ok(()) => {}
+        Err(fault) => return Err(fault),
+    }
+    match watched {
+        Ok(()) => Ok(()),
+        Err(fault) => Err(process_fault(fault)),
+    }
 }
 
 /// Serves the agent of a configuration with the packages in these bytes.
@@ -213,11 +240,12 @@ fn serve_packages<H: Parts>(
 /// written.
 ///
 /// # Errors
-/// The first fault, in this order: of the configuration; `Log` if the records would overwrite it or
-/// a package; of each of its packages; `Tty` if the serial line can't be opened; `NoPackage` if it
-/// has no package of the number; `Log` and `Output` if the records or the report can't be written;
-/// and `Session`, if that check is requested, with the first session that isn't Done. `Memory` if
-/// memory is refused.
+/// The first fault, in this order: of the configuration; `Trace`, `Log` and `Record` if these files
+/// would overwrite it, a package or each other; of each of its packages; `Trace` and `Record` if
+/// these files can't be made; `Tty` if the serial line can't be opened; `NoPackage` if it has no
+/// package of the number; `Log` and `Output` if the records or the report can't be written;
+/// `Session`, if that check is requested, with the first session that isn't Done; and `Trace` and
+/// `Record` if something of these couldn't be written. `Memory` if memory is refused.
 pub fn run_agent<H: Parts>(
     alloc: Global,
     job: &fwupd_words::AgentProcess<'_>,
@@ -232,8 +260,14 @@ pub fn run_agent<H: Parts>(
         Err(fault) => return Err(fault),
     };
     let packages = config.packages.as_slice();
-    if is_over_read(&host.files, job.log, job.config, packages) {
-        return Err(JobFault::Log);
+    let outputs = ProcessOutputs {
+        watching: job.watching,
+        log: job.log,
+        store: job.store,
+    };
+    match check_outputs(alloc, &host.files, job.config, packages, outputs) {
+        Ok(()) => {}
+        Err(fault) => return Err(fault),
     }
     let contents = match package_files(alloc, &host.files, packages) {
         Ok(contents) => contents,
