@@ -12,7 +12,7 @@ use Rattle.fw_script.specs.declared.package_spec.SpecComponent.{SpecComponent}
 use Rattle.fwupd_jobs.specs.Built.{AreImages, Builds, ImageFails, ImagesFail, IsBuilt, IsImage, asked_by, components_by}
 use Rattle.fwupd_watch.specs.Files.{FileOf}
 use Rattle.fwupd_watch.specs.Places.{IsOnDisk}
-use Rattle.fwupd_jobs.specs.Setups.{Says}
+use Rattle.fwupd_nodes.specs.Setups.{Says}
 use Rattle.fwupd_watch.specs.declared.faults.JobFault.{JobFault}
 use Rattle.fwupd_watch.specs.declared.faults.JobFault.TheVariants as faults
 

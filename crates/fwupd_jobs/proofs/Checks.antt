@@ -6,10 +6,10 @@ use Rattle.fwupd_watch.specs.Outputs.{OutputOf}
 use Rattle.fwupd_jobs.specs.Updated.{ReportsUpdate}
 use Rattle.fwupd_watch.specs.Running.{ShowOf, ObserverOf}
 use Rattle.fwupd_watch.specs.Files.{FileOf}
-use Rattle.fwupd_jobs.specs.Setups.{SourceOf}
+use Rattle.fwupd_nodes.specs.Setups.{SourceOf}
 use Rattle.fwupd_words.specs.declared.asked.Order.{Order}
-use Rattle.fwupd_jobs.specs.declared.sessions.Undone.{Undone}
-use Rattle.fwupd_jobs.proofs.Ended.{all_done}
+use Rattle.fwupd_nodes.specs.declared.sessions.Undone.{Undone}
+use Rattle.fwupd_nodes.proofs.Ended.{all_done}
 
 -- each session is Done
 pub checked_all : (files : List ℕ → FileOf) (config : SourceOf) (order : Order) (show : ShowOf) (watched : ObserverOf) (before now : OutputOf) (undone : Option Undone)

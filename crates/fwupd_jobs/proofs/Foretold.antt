@@ -12,12 +12,12 @@ use Rattle.fw_json.specs.Forms.{plan_in}
 use Rattle.fwupd_base.specs.declared.forms.Form.{Form}
 use Rattle.fwupd_watch.specs.Outputs.{FailsToWriteOutput, OutputOf}
 use Rattle.fwupd_jobs.specs.Planned.{Forecasts, PlanEnds}
-use Rattle.fwupd_jobs.specs.Setups.{ArePacked, Says}
+use Rattle.fwupd_nodes.specs.Setups.{ArePacked, Says}
 use Rattle.fwupd_watch.specs.Files.{FileOf}
 use Rattle.fwupd_watch.specs.declared.faults.JobFault.{JobFault}
 use Rattle.fwupd_watch.specs.declared.faults.JobFault.TheVariants as faults
 use Rattle.fw_edge.proofs.Rising.{map_length}
-use Rattle.fwupd_jobs.proofs.Packed.{as_many, packages_so, through}
+use Rattle.fwupd_nodes.proofs.Packed.{as_many, packages_so, through}
 
 -- The text of a package among those of a configuration.
 pub foretold : (files : List ℕ → FileOf) (path : List ℕ) (number : ℕ) (form : Form) (config : Config) (names : List (String Global)) (contents slice : List (Vec ℕ Global)) (ps lent : List PackageText)

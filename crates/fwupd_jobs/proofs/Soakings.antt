@@ -14,12 +14,12 @@ use Rattle.fw_soak.specs.declared.summary.Summary.{Summary}
 use Rattle.fw_steps.specs.declared.step.Step.{Step}
 use Rattle.fwupd_words.specs.declared.asked.SoakOrder.{SoakOrder}
 use Rattle.fwupd_watch.specs.Outputs.{FailsToWriteOutput, OutputOf, WritesOutput}
-use Rattle.fwupd_jobs.specs.Setups.{ArePacked, Says}
+use Rattle.fwupd_nodes.specs.Setups.{ArePacked, Says}
 use Rattle.fwupd_watch.specs.Files.{FileOf, IsApartFrom}
 use Rattle.fwupd_jobs.specs.Soaked.{ReportsViolation, SoakEnds, Soaks, SoaksClean, setup_of_config}
 use Rattle.fwupd_watch.specs.declared.faults.JobFault.{JobFault}
 use Rattle.fwupd_watch.specs.declared.faults.JobFault.TheVariants as faults
-use Rattle.fwupd_jobs.proofs.Packed.{packages_so, through}
+use Rattle.fwupd_nodes.proofs.Packed.{packages_so, through}
 
 -- the runs of a configuration in a file
 pub soaks_so : (files : List ℕ → FileOf) (path : List ℕ) (config : Config) (names : List (String Global)) (contents slice : List (Vec ℕ Global)) (ps packs : List PackageText)

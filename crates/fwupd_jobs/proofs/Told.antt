@@ -23,7 +23,7 @@ use Rattle.fwupd_jobs.specs.Updated.{DrivingEnds, IsPromisedUpdate, IsUnlinked, 
 use Rattle.fwupd_watch.specs.Apart.{IsApart, IsBarred}
 use Rattle.fwupd_watch.specs.Running.{IsBrokenRun, ShowOf, RunsSteps, RunsStepsSeen, ObserverOf, shown_of, starts_of, job_fault_of_observer}
 use Rattle.fwupd_watch.specs.Files.{FileOf}
-use Rattle.fwupd_jobs.specs.Setups.{IsSetup, LacksPackage, NumberedSetupFails, PackagesFail, Says, SourceOf, StoresFail, TellsStore, TextFails}
+use Rattle.fwupd_nodes.specs.Setups.{IsSetup, LacksPackage, NumberedSetupFails, PackagesFail, Says, SourceOf, StoresFail, TellsStore, TextFails}
 use Rattle.fw_edge.specs.declared.driving.EdgeFault.TheVariants as edges
 use Rattle.fwupd_watch.specs.declared.faults.JobFault.{JobFault}
 use Rattle.fwupd_watch.specs.declared.faults.JobFault.TheVariants as faults

@@ -12,7 +12,7 @@ use Rattle.fw_script.specs.declared.faults.ScriptCause.{ScriptCause}
 use Rattle.fw_script.specs.declared.faults.ScriptCause.TheVariants as causes
 use Rattle.fw_script.specs.declared.faults.ScriptFault.{ScriptFault}
 use Rattle.fwupd_watch.specs.Files.{FileOf, IsApartFrom, IsOver, MayHold}
-use Rattle.fwupd_jobs.specs.Setups.{IsUnread, Says, TextFails}
+use Rattle.fwupd_nodes.specs.Setups.{IsUnread, Says, TextFails}
 use Rattle.fwupd_watch.specs.declared.faults.JobFault.{JobFault}
 use Rattle.fwupd_watch.specs.declared.faults.JobFault.TheVariants as faults
 

@@ -3,12 +3,12 @@ use Rattle.std.specs.Prelude.{ℕ, ◌≡◌, ◌⊎◌, Bool, true, List, Optio
 use Rattle.fwupd_watch.specs.Outputs.{OutputOf}
 use Rattle.fwupd_jobs.specs.Updated.{ReportsUpdate, UpdateEnds}
 use Rattle.fwupd_watch.specs.Running.{ShowOf, ObserverOf}
-use Rattle.fwupd_jobs.specs.Sessions.{AllDone, TellsUndone}
+use Rattle.fwupd_nodes.specs.Sessions.{AllDone, TellsUndone}
 use Rattle.fwupd_watch.specs.Files.{FileOf}
-use Rattle.fwupd_jobs.specs.Setups.{SourceOf}
+use Rattle.fwupd_nodes.specs.Setups.{SourceOf}
 use Rattle.fwupd_words.specs.declared.asked.Order.{Order}
 use Rattle.fwupd_watch.specs.declared.faults.JobFault.{JobFault}
-use Rattle.fwupd_jobs.specs.declared.sessions.Undone.{Undone}
+use Rattle.fwupd_nodes.specs.declared.sessions.Undone.{Undone}
 
 -- The report is written. If that is requested, each session of its world is Done.
 pub record ReportsChecked (files : List ℕ → FileOf) (config : SourceOf) (order : Order) (show : ShowOf) (watched : ObserverOf) (before now : OutputOf) : Type 0 where

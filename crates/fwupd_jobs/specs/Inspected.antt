@@ -5,7 +5,7 @@ use Rattle.fw_json.specs.Forms.{inspection_in}
 use Rattle.fwupd_base.specs.declared.forms.Form.{Form}
 use Rattle.fwupd_watch.specs.Outputs.{FailsToWriteOutput, OutputOf, WritesOutput}
 use Rattle.fwupd_watch.specs.Files.{FileOf}
-use Rattle.fwupd_jobs.specs.Setups.{IsPackageFile, PackageFails}
+use Rattle.fwupd_nodes.specs.Setups.{IsPackageFile, PackageFails}
 use Rattle.fwupd_watch.specs.declared.faults.JobFault.{JobFault}
 use Rattle.fwupd_watch.specs.declared.faults.JobFault.TheVariants as faults
 use Rattle.fwupd_base.specs.declared.inspection.InspectFault.{InspectFault}

@@ -1,21 +1,21 @@
 -- The result of each job that arguments request.
 use Rattle.std.specs.Prelude.{ℕ, ◌≡◌, ◌⊎◌, true, false, List, None, Option, option_map}
 use Rattle.fwupd_watch.specs.Answering.{AnswerEnds, AnswersAll}
-use Rattle.fwupd_jobs.specs.Alone.{AgentEnds, DeviceEnds, ServesAgent, ServesDevice, streams_found, streams_left}
-use Rattle.fwupd_jobs.specs.Answered.{AnswersSerial, SerialEnds}
+use Rattle.fwupd_nodes.specs.Alone.{AgentEnds, DeviceEnds, ServesAgent, ServesDevice, streams_found, streams_left}
+use Rattle.fwupd_nodes.specs.Answered.{AnswersSerial, SerialEnds}
 use Rattle.fwupd_jobs.specs.Built.{BuildEnds, Builds}
 use Rattle.fwupd_jobs.specs.Checked.{CheckedEnds, ReportsChecked}
-use Rattle.fwupd_jobs.specs.Decoded.{DecodeEnds, Decodes}
+use Rattle.fwupd_nodes.specs.Decoded.{DecodeEnds, Decodes}
 use Rattle.fwupd_jobs.specs.Inspected.{InspectEnds, Inspects}
 use Rattle.fwupd_jobs.specs.Logs.{LogEnds, ReportsLog}
 use Rattle.fwupd_watch.specs.Outputs.{OutputOf}
 use Rattle.fwupd_jobs.specs.Planned.{PlanEnds, Plans}
-use Rattle.fwupd_jobs.specs.Processes.{RunsAgent, RunsDevice}
+use Rattle.fwupd_nodes.specs.Processes.{RunsAgent, RunsDevice}
 use Rattle.fwupd_jobs.specs.Replayed.{ReplayEnds, ReportsReplay}
 use Rattle.fwupd_watch.specs.Running.{ObserverOf, show_of}
 use Rattle.fwupd_watch.specs.Files.{any_file}
-use Rattle.fwupd_jobs.specs.Hosts.{FoundOf, LeftOf}
-use Rattle.fwupd_jobs.specs.Setups.{any_stores, source_of}
+use Rattle.fwupd_nodes.specs.Hosts.{FoundOf, LeftOf}
+use Rattle.fwupd_nodes.specs.Setups.{any_stores, source_of}
 use Rattle.fwupd_jobs.specs.Soaked.{SoakEnds, SoaksClean}
 use Rattle.fwupd_words.specs.declared.asked.Job.{Job}
 use Rattle.fwupd_words.specs.declared.asked.Job.TheVariants as jobs

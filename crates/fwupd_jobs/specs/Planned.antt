@@ -6,7 +6,7 @@ use Rattle.ua_core.specs.Lent.{package_at}
 use Rattle.fw_json.specs.Forms.{plan_in}
 use Rattle.fwupd_base.specs.declared.forms.Form.{Form}
 use Rattle.fwupd_watch.specs.Outputs.{FailsToWriteOutput, OutputOf, WritesOutput}
-use Rattle.fwupd_jobs.specs.Setups.{ArePackages, LacksPackage, NumberedSetupFails, Says}
+use Rattle.fwupd_nodes.specs.Setups.{ArePackages, LacksPackage, NumberedSetupFails, Says}
 use Rattle.fwupd_watch.specs.Files.{FileOf}
 use Rattle.fwupd_watch.specs.declared.faults.JobFault.{JobFault}
 use Rattle.fwupd_watch.specs.declared.faults.JobFault.TheVariants as faults

@@ -17,7 +17,7 @@ use Rattle.fwupd_jobs.specs.Promises.{IsPromisedRun}
 use Rattle.fwupd_watch.specs.Apart.{IsApart, IsBarred}
 use Rattle.fwupd_watch.specs.Running.{ShowOf, ObserverOf, shown_of, job_fault_of_observer}
 use Rattle.fwupd_watch.specs.Files.{FileOf}
-use Rattle.fwupd_jobs.specs.Setups.{IsSetup, Says, SetupFails, SourceOf, StoresFail, TextFails}
+use Rattle.fwupd_nodes.specs.Setups.{IsSetup, Says, SetupFails, SourceOf, StoresFail, TextFails}
 use Rattle.fwupd_watch.specs.declared.running.ObserverFault.{ObserverFault}
 use Rattle.fwupd_watch.specs.declared.faults.JobFault.{JobFault}
 use Rattle.fwupd_watch.specs.declared.faults.JobFault.TheVariants as faults

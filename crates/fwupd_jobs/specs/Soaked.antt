@@ -11,7 +11,7 @@ use Rattle.fw_soak.specs.SummaryTexts.{summary_text}
 use Rattle.fw_soak.specs.declared.summary.Summary.{Summary}
 use Rattle.fwupd_words.specs.declared.asked.SoakOrder.{SoakOrder}
 use Rattle.fwupd_watch.specs.Outputs.{FailsToWriteOutput, OutputOf, WritesOutput}
-use Rattle.fwupd_jobs.specs.Setups.{ArePackages, LacksPackage, NumberedSetupFails, Says}
+use Rattle.fwupd_nodes.specs.Setups.{ArePackages, LacksPackage, NumberedSetupFails, Says}
 use Rattle.fwupd_watch.specs.Files.{FileOf, IsApartFrom, IsOverOne}
 use Rattle.fwupd_watch.specs.declared.faults.JobFault.{JobFault}
 use Rattle.fwupd_watch.specs.declared.faults.JobFault.TheVariants as faults

@@ -13,14 +13,14 @@ use Rattle.fwupd_watch.specs.Histories.{HasHistoryLinesIfAny, MayHaveHistoryLine
 use Rattle.fwupd_watch.specs.Outputs.{FailsToWriteOutput, OutputOf, WritesOutput}
 use Rattle.fwupd_jobs.specs.Promises.{IsPromisedRun}
 use Rattle.fwupd_watch.specs.Recordings.{HasRecordedSteps}
-use Rattle.fwupd_jobs.specs.Sessions.{undone_in}
+use Rattle.fwupd_nodes.specs.Sessions.{undone_in}
 use Rattle.fwupd_watch.specs.Files.{FileOf}
 use Rattle.fwupd_watch.specs.Running.{IsCaused, UpdateOk, ShowOf, RunsSteps, RunsStepsSeen, UpdatesDevices, ObserverOf, shown_of, starts_of}
 use Rattle.fwupd_watch.specs.Apart.{IsApart, IsBarred}
-use Rattle.fwupd_jobs.specs.Setups.{IsSetup, LacksPackage, NumberedSetupFails, SourceOf, StoresFail}
+use Rattle.fwupd_nodes.specs.Setups.{IsSetup, LacksPackage, NumberedSetupFails, SourceOf, StoresFail}
 use Rattle.fwupd_watch.specs.declared.faults.JobFault.{JobFault}
 use Rattle.fwupd_watch.specs.declared.faults.JobFault.TheVariants as faults
-use Rattle.fwupd_jobs.specs.declared.sessions.Undone.{Undone}
+use Rattle.fwupd_nodes.specs.declared.sessions.Undone.{Undone}
 
 -- A link to a device has the requested roughness, and random numbers of its own: a stream of the
 -- seed.

@@ -8,21 +8,21 @@ ghost use Rattle.fw_package.specs.Package.{descriptor_of};
 ghost use Rattle.fw_package.specs.Writing.{IsHeaderOf, header_bytes};
 ghost use Rattle.fw_script.specs.PackageSpecs.{package_spec_of, spec_component_of, spec_descriptor_of, spec_record_of, spec_seen};
 ghost use Rattle.fwupd_jobs.specs.Built.{AreImages, BuildEnds, Builds, BuildsApart, ImageFails, ImagesFail, IsApartFromImages, IsImage, IsOverImage, IsBuildFault, asked_by, component_by, components_by, record_by, script_fault_of_refusal};
-ghost use Rattle.fwupd_jobs.specs.Setups.{Says, TextFails, TextFault};
+ghost use Rattle.fwupd_nodes.specs.Setups.{Says, TextFails, TextFault};
 
-use crate::setups::{read_fault, text_fault};
 use fw_package::{AskedComponent, AskedFault, AskedPackage, AskedRecord, Descriptor, Header};
 use fw_script::{
     PackageSpec, ScriptCause, ScriptFault, SpecComponent, SpecDescriptor, SpecRecord,
     read_package_spec,
 };
 use fwupd_base::write_whole;
+use fwupd_nodes::{read_fault, text_fault};
 use fwupd_watch::{Files, JobFault, OutputPlaces, is_same_file};
 use std::alloc::Global;
 use std::io::Write;
 
 /// The package description in the file of a path.
-#[tactic(auto, using(crate::proofs::Packed::unread_text))]
+#[tactic(auto, using(fwupd_nodes::proofs::Packed::unread_text))]
 fn package_spec<F: Files>(alloc: Global, files: &F, path: &str) -> Result<PackageSpec, JobFault>
     ensures says { IfOk result (λ spec. Says package_spec_of (F.holds files.now path.now) (spec_seen spec)) }
     ensures fault { IfErr result (λ e. (e ≡ JobFault.Memory) ⊎ TextFails package_spec_of (F.holds files.now) path.now e) }

@@ -4,11 +4,10 @@ ghost use Rattle.std.specs.Prelude.{◌≡◌, ◌⊎◌, IfErr, OnOk, option_ma
 ghost use Rattle.fw_setup.specs.Stocks.{stores_in};
 ghost use Rattle.fwupd_jobs.specs.Checked.{CheckedEnds, ReportsChecked};
 ghost use Rattle.fwupd_watch.specs.Running.{HasObserverFault, show_of};
-ghost use Rattle.fwupd_jobs.specs.Setups.{TellsStore, source_of};
+ghost use Rattle.fwupd_nodes.specs.Setups.{TellsStore, source_of};
 
-use crate::host::{Host, Parts};
-use crate::sessions::undone_fault;
 use crate::updating::update_files;
+use fwupd_nodes::{Host, Parts, undone_fault};
 use fwupd_watch::JobFault;
 use fwupd_words::Update;
 use std::alloc::Global;

@@ -3,9 +3,9 @@
 ghost use Rattle.std.specs.Prelude.{◌≡◌, IfErr, OnOk};
 ghost use Rattle.fwupd_jobs.specs.Inspected.{InspectEnds, Inspects, job_fault_of_inspection};
 
-use crate::setups::read_fault;
 use fw_json::inspect_beginning_in;
 use fwupd_base::{Form, InspectFault};
+use fwupd_nodes::read_fault;
 use fwupd_watch::{Beginning, Files, JobFault, Output};
 use std::alloc::Global;
 use std::io::Write;

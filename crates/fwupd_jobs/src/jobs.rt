@@ -2,23 +2,20 @@
 
 ghost use Rattle.std.specs.Prelude.{◌≡◌, ◌⊎◌, IfErr, OnOk};
 ghost use Rattle.fw_setup.specs.Stocks.{stores_in};
-ghost use Rattle.fwupd_jobs.specs.Hosts.{FoundOf, LeftOf, agent_store_in};
+ghost use Rattle.fwupd_nodes.specs.Hosts.{FoundOf, LeftOf, agent_store_in};
 ghost use Rattle.fwupd_jobs.specs.Jobs.{IsDone, JobEnds};
 ghost use Rattle.fwupd_watch.specs.Running.{HasObserverFault};
 
-use crate::agent_serving::run_agent;
-use crate::alone::{agent_file, device_file};
-use crate::answering::answer_serial;
 use crate::building::build_file;
 use crate::checking::update_checked;
-use crate::decoding::decode_file;
-use crate::device_serving::run_device;
-use crate::host::{Host, Parts};
 use crate::inspecting::inspect_file;
 use crate::planning::plan_file;
 use crate::replaying::replay_files;
 use crate::soaking::soak_file;
 use crate::telling::sel_file;
+use fwupd_nodes::{
+    Host, Parts, agent_file, answer_serial, decode_file, device_file, run_agent, run_device,
+};
 use fwupd_watch::JobFault;
 use fwupd_words::Job;
 use std::alloc::Global;

@@ -4,11 +4,11 @@ ghost use Rattle.std.specs.Prelude.{IfErr, OnOk};
 ghost use Rattle.fwupd_jobs.specs.Planned.{PlanEnds, Plans};
 
 use crate::numbering::{is_numbered, numbered};
-use crate::setups::{configuration, package_files, packages_in};
 use fw_json::plan_in;
 use fw_script::Config;
 use fw_setup::forecast;
 use fwupd_base::Form;
+use fwupd_nodes::{configuration, package_files, packages_in};
 use fwupd_watch::{Files, JobFault, Output};
 use std::alloc::Global;
 use std::io::Write;

@@ -6,12 +6,11 @@ ghost use Rattle.std.specs.Process.{exit_status};
 ghost use Rattle.clap.specs.Values.{kind_of};
 ghost use Rattle.clap.specs.declared.error.kind.ErrorKind.TheVariants.{DisplayHelp, DisplayVersion, OutOfMemory};
 ghost use Rattle.fw_setup.specs.Stocks.{stores_in};
-ghost use Rattle.fwupd_jobs.specs.Hosts.{FoundOf, LeftOf, agent_store_in};
+ghost use Rattle.fwupd_nodes.specs.Hosts.{FoundOf, LeftOf, agent_store_in};
 ghost use Rattle.fwupd_jobs.specs.Jobs.{StatusSays, SystemSays};
 ghost use Rattle.fwupd_jobs.specs.Progress.{runs_of_job};
 
 use crate::explaining::explain;
-use crate::host::{Host, Parts};
 use crate::jobs::perform_job;
 use crate::soak_progress::SoakProgress;
 use crate::sockets::{SocketLink, Sockets};
@@ -19,6 +18,7 @@ use crate::system_wiring::SystemWiring;
 use crate::words::words;
 use fw_setup::SystemStores;
 use fw_store::SystemFolder;
+use fwupd_nodes::{Host, Parts};
 use fwupd_watch::{
     JobFault, Observers, Output, SystemCalls, SystemFiles, WholeFiles, system_places,
 };

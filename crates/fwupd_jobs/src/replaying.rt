@@ -14,10 +14,8 @@ ghost use Rattle.fw_setup.specs.Stocks.{stores_in};
 ghost use Rattle.fwupd_jobs.specs.Replayed.{IsReplayed, ReplayEnds, ReportsReplay, taken_of};
 ghost use Rattle.fwupd_watch.specs.Apart.{IsApart, IsBarred};
 ghost use Rattle.fwupd_watch.specs.Running.{HasObserverFault, show_of, shown_of};
-ghost use Rattle.fwupd_jobs.specs.Setups.{source_of};
+ghost use Rattle.fwupd_nodes.specs.Setups.{source_of};
 
-use crate::host::{Host, Parts};
-use crate::setups::{configuration, package_files, packages_in, read_kept, schedule};
 use fd_core::Bank;
 use fw_json::report_in;
 use fw_package::Package;
@@ -27,6 +25,7 @@ use fw_world::{
     Missed, Step, StepFault, World, clocks_keep_time, moments_are_tied, replay, runs_are_promised,
 };
 use fwupd_base::Form;
+use fwupd_nodes::{Host, Parts, configuration, package_files, packages_in, read_kept, schedule};
 use fwupd_watch::{
     Files, JobFault, Observer, ObserverFault, begin_apart, is_one_path, observer_fault,
 };

@@ -4,12 +4,11 @@ ghost use Rattle.std.specs.Prelude.{◌≡◌, ◌≢◌, ◌⊎◌, IfErr, None
 ghost use Rattle.fw_script.specs.ScheduleTexts.{schedule_text};
 ghost use Rattle.fwupd_jobs.specs.Soaked.{ReportsViolation, SoakEnds, SoaksClean};
 
-use crate::host::{Host, Parts};
 use crate::numbering::is_numbered;
-use crate::setups::{configuration, package_files, packages_in};
 use fw_script::{Config, write_schedule};
 use fw_soak::{Setup, soak, summary_text};
 use fw_world::Step;
+use fwupd_nodes::{Host, Parts, configuration, package_files, packages_in};
 use fwupd_watch::{JobFault, OutputPlaces, is_over_read, write_file};
 use fwupd_words::Soak;
 use std::alloc::Global;

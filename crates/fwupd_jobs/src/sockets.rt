@@ -6,9 +6,9 @@ ghost use Rattle.mctp_wire.specs.Units.{bytes_of};
 
 use crate::read_ahead::ReadAhead;
 use crate::socket_names::{SocketNames, SystemNames};
-use crate::updating::Wires;
 use crate::write_behind::WriteBehind;
 use fw_edge::StreamLink;
+use fwupd_nodes::Wires;
 use fwupd_watch::{JobFault, explains};
 use mctp_wire::Unit;
 use std::alloc::{AllocError, Global};

@@ -6,17 +6,14 @@ ghost use Rattle.fw_json.specs.Forms.{report_in};
 ghost use Rattle.fw_setup.specs.Stocks.{stores_in};
 ghost use Rattle.fw_steps.specs.Opening.{IsOpeningWorld};
 ghost use Rattle.fwupd_watch.specs.Outputs.{FailsToWriteOutput, WritesOutput};
-ghost use Rattle.fwupd_jobs.specs.Sessions.{undone_in};
-ghost use Rattle.fwupd_jobs.specs.Setups.{SourceOf, TellsStore, source_of};
+ghost use Rattle.fwupd_nodes.specs.Sessions.{undone_in};
+ghost use Rattle.fwupd_nodes.specs.Setups.{SourceOf, TellsStore, source_of};
 ghost use Rattle.fwupd_watch.specs.Histories.{HasHistoryLinesIfAny, MayHaveHistoryLines};
 ghost use Rattle.fwupd_watch.specs.Recordings.{IsNewRecording, HasRecordedSteps};
 ghost use Rattle.fwupd_jobs.specs.Updated.{HaveLinks, DrivingEnds, IsLost, IsNumberedSetup, IsRoughLink, IsUnlinked, NamesLost, ReportsUpdate, TellsLost, UpdateEnds};
 ghost use Rattle.fwupd_watch.specs.Running.{ReportsLinkFailures, IsBrokenRun, IsCaused, HasObserverFault, UpdateOk, RunsSteps, RunsStepsSeen, UpdatesDevices, show_of};
 
-use crate::host::{Host, Parts};
 use crate::numbering::is_numbered;
-use crate::sessions::{Undone, first_undone};
-use crate::setups::{configuration, open_kept, package_files, packages_in};
 use fd_core::Bank;
 use fw_edge::{EdgeFault, Link, Rough};
 use fw_json::report_in;
@@ -24,31 +21,14 @@ use fw_script::Config;
 use fw_setup::{opening_world, opening_world_over};
 use fw_world::{World, runs_are_promised};
 use fwupd_base::{Form, Roughness};
+use fwupd_nodes::{
+    Host, Parts, Undone, Wires, configuration, first_undone, open_kept, package_files, packages_in,
+};
 use fwupd_watch::{JobFault, Observer, Output, begin_apart, update_observed};
 use fwupd_words::{Order, Update};
 use mctp_wire::Unit;
 use std::alloc::Global;
 use std::io::Write;
-
-/// The source of links to devices. In contracts, `lacks` is the devices to which a link may fail to
-/// open, and `is_to` the transmission unit, the folder and the device of a link.
-pub trait Wires<L> {
-    ghost use Rattle.mctp_wire.specs.declared.unit.Unit.{«Unit»};
-
-    ghost lacks: { Self → List ℕ → ℕ → Bool };
-
-    ghost is_to: { «Unit» → List ℕ → ℕ → L → Bool } = { λ unit folder device link. true };
-
-    /// Opens a link to a device in a folder, in a network with this transmission unit.
-    ///
-    /// # Errors
-    /// `Socket` if it can't be made, and `Memory`.
-    fn open(&mut self, unit: Unit, folder: &str, device: u8) -> Result<L, JobFault>
-        ensures to { IfOk result (λ link. is_to unit folder.now device link ≡ true) }
-        ensures same { lacks self.new ≡ lacks self.old }
-        ensures fault { IfErr result (λ e. (e ≡ JobFault.Memory)
-            ⊎ ((e ≡ JobFault.Socket device) × (lacks self.old folder.now device ≡ true))) };
-}
 
 /// Opens a link to each device of a world, in configured order, each with the requested roughness
 /// and random numbers of its own.

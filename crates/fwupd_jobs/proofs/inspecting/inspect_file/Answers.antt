@@ -1,6 +1,6 @@
 use Rattle.std.proofs.Common.{inl, inr, refl}
 use Rattle.fwupd_jobs.proofs.Examined.{breaks, inspection_fails, inspects}
-use Rattle.fwupd_jobs.proofs.Packed.{unread_package}
+use Rattle.fwupd_nodes.proofs.Packed.{unread_package}
 use Rattle.fwupd_jobs.proofs.inspecting.inspect_file.Goals as goal
 
 pub returns-in-Err-clause-fault : goal.returns-in-Err-clause-fault

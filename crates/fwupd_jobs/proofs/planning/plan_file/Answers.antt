@@ -1,7 +1,7 @@
 use Rattle.std.proofs.Common.{inr, map, refl, rules}
 use Rattle.std.specs.Prelude.{string_bytes}
 use Rattle.fwupd_jobs.proofs.Foretold.{foretold, package_there, plan_breaks}
-use Rattle.fwupd_jobs.proofs.Packed.{numbered_fails, or_later, packed_slice}
+use Rattle.fwupd_nodes.proofs.Packed.{numbered_fails, or_later, packed_slice}
 use Rattle.fwupd_jobs.proofs.planning.plan_file.Goals as goal
 
 pub packages_in-requires : goal.packages_in-requires

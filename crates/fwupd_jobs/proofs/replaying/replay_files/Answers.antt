@@ -6,8 +6,8 @@ use Rattle.fw_steps.specs.Opening.{new_world}
 use Rattle.fw_setup.specs.Nodes.{nodes_made}
 use Rattle.fw_setup.specs.Stocks.{stores_in}
 use Rattle.fwupd_watch.specs.Running.{show_of}
-use Rattle.fwupd_jobs.specs.Setups.{source_of}
-use Rattle.fwupd_jobs.proofs.Packed.{named_there, packed_slice, set_up, stores_fail}
+use Rattle.fwupd_nodes.specs.Setups.{source_of}
+use Rattle.fwupd_nodes.proofs.Packed.{named_there, packed_slice, set_up, stores_fail}
 use Rattle.fwupd_jobs.proofs.Told.{breaks_off, packages_end_replay, place_within, replay_reports, report_there, schedule_ends, seen_ends, step_ends, stores_end_replay, unkept_ends, unseen_ends}
 use Rattle.fwupd_jobs.proofs.replaying.replay_files.Goals as goal
 

@@ -1,7 +1,7 @@
 use Rattle.std.proofs.Common.{inr, map, refl, rules}
 use Rattle.std.specs.Prelude.{option_map, string_bytes}
 use Rattle.fw_script.specs.Seen.{config_seen}
-use Rattle.fwupd_jobs.proofs.Packed.{numbered_fails, or_later, packed_slice}
+use Rattle.fwupd_nodes.proofs.Packed.{numbered_fails, or_later, packed_slice}
 use Rattle.fwupd_jobs.proofs.Soakings.{ends_broken, ends_clean, ends_wrong, soaks_so, unmapped}
 use Rattle.fwupd_jobs.proofs.soaking.soak_file.Goals as goal
 

@@ -3,10 +3,11 @@ use Rattle.std.specs.Prelude.{option_map, string_bytes}
 use Rattle.fw_script.specs.Seen.{device_of}
 use Rattle.fw_script.specs.Whole.{AreWhole}
 use Rattle.fw_setup.specs.Stocks.{HaveStoredImages, stores_in}
-use Rattle.fwupd_jobs.proofs.Packed.{named_with, none_stocked, named_there, numbered_fails, or_later, packed_slice, some_stocked, some_unopened, stores_fail}
+use Rattle.fwupd_nodes.proofs.Packed.{none_stocked, named_there, numbered_fails, or_later, packed_slice, some_stocked, some_unopened, stores_fail}
+use Rattle.fwupd_jobs.proofs.Numbered.{named_with}
 use Rattle.fwupd_jobs.proofs.Told.{stores_end}
 use Rattle.fwupd_watch.specs.Running.{show_of}
-use Rattle.fwupd_jobs.specs.Setups.{source_of}
+use Rattle.fwupd_nodes.specs.Setups.{source_of}
 use Rattle.fwupd_jobs.proofs.updating.update_files.Goals as goal
 
 pub packages_in-requires : goal.packages_in-requires

@@ -1,7 +1,7 @@
 use Rattle.std.proofs.Common.{ap, map, ◌∷◌, ◌∙◌}
 use Rattle.std.specs.Prelude.{string_bytes}
 use Rattle.fwupd_watch.proofs.Happened.{kept_fresh}
-use Rattle.fwupd_jobs.proofs.Packed.{barred_by, watched_by}
+use Rattle.fwupd_jobs.proofs.Numbered.{barred_by, watched_by}
 use Rattle.fwupd_jobs.proofs.Told.{barred_of_none, driven_of_none, safe_reached, unbegun, update_ends}
 use Rattle.fwupd_watch.specs.Running.{show_of}
 use Rattle.fwupd_jobs.proofs.updating.update_new.Goals as goal

@@ -1,0 +1,5 @@
+mod AgentStores
+pub mod Ended
+mod Lone
+pub mod Packed
+mod Processes

@@ -1,0 +1,398 @@
+//! The agent of a configuration as a process of its own.
+
+ghost use Rattle.std.specs.Prelude.{◌≡◌, ◌≤◌, IfOk, IsOk, OnOk, length, map};
+ghost use Rattle.std.specs.List.{AllByRecursion};
+ghost use Rattle.fw_package.specs.Reading.{package_of};
+ghost use Rattle.fw_script.specs.Seen.{config_seen, device_of};
+ghost use Rattle.fw_script.specs.Whole.{AreWhole};
+ghost use Rattle.fwupd_watch.specs.Outputs.{WritesOutput};
+ghost use Rattle.fw_serve.specs.Agents.{new_served_agent};
+ghost use Rattle.fwupd_nodes.specs.Hosts.{agent_store_in};
+ghost use Rattle.fwupd_nodes.specs.AgentStores.{agent_setup_seen, keeps_nothing};
+ghost use Rattle.fwupd_nodes.specs.Processes.{RunsAgent, RunsKept, RunsPackages, RunsServed, RunsAgentSetup, ServesStarted, agent_report_in, agent_started};
+
+use crate::agent_stores::{AgentSetup, open_agent};
+use crate::alone::eids_of;
+use crate::host::{Host, Parts};
+use crate::outputs::{ProcessOutputs, check_outputs};
+use crate::sessions::{Undone, is_done, undone_fault};
+use crate::setups::{configuration, package_files, packages_in};
+use crate::wiring::{Joined, Network, Observed, Wiring, end_of, observe};
+use agent_store::{AgentKeeper, KeepFault, NoKeeper};
+use fw_json::agent_json;
+use fw_package::Package;
+use fw_process::{Clock, Line};
+use fw_script::{Config, session_of};
+use fw_serve::{AgentProcess, CallFault, ServedAgent, serve_agent_process};
+use fw_trace::log_bytes;
+use fwupd_base::Form;
+use fwupd_traces::{ObservedLine, PacketObserver, Starts, TracedNode};
+use fwupd_watch::{JobFault, OutputPlaces, process_fault, write_file};
+use std::alloc::{AllocError, Global};
+use std::io::Write;
+
+/// Starts the update of each of these devices with a package, in order.
+fn start_all(agent: &mut ServedAgent<'_>, number: usize, eids: &[u8]) -> Result<(), JobFault>
+    ensures { OnOk result (agent.new ≡ agent_started agent.old number eids.now) }
+{
+    for eid in eids {
+        match agent.start(*eid, number) {
+            Ok(()) => {}
+            Err(CallFault::Refused(_)) => return Err(JobFault::NoPackage),
+            Err(CallFault::Memory) => return Err(JobFault::Memory),
+        }
+    }
+    Ok(())
+}
+
+/// The agent of a process that is to begin: its network, its devices, and what keeps what it
+/// keeps over a restart.
+#[derive(Drop)]
+struct Beginner<'p, 'e, K: AgentKeeper + Drop> {
+    /// The network, with the agent's endpoint.
+    network: Network,
+    /// The agent, at time 0.
+    agent: ServedAgent<'p>,
+    /// The endpoint identifiers of its devices.
+    eids: &'e [u8],
+    /// The keeper.
+    keeper: K,
+}
+
+/// The fault of an agent's process whose keeper failed.
+fn unkept(eid: u8, fault: KeepFault) -> JobFault
+    ensures unwritable { fault ≡ KeepFault.Unwritable → result ≡ JobFault.Unkept eid }
+    ensures memory { fault ≡ KeepFault.Memory → result ≡ JobFault.Memory }
+{
+    match fault {
+        KeepFault::Unwritable => JobFault::Unkept(eid),
+        KeepFault::Memory => JobFault::Memory,
+    }
+}
+
+/// Serves an agent as a process, from the unit that a clock shows, with an update of each device.
+fn serve_started<
+    'p,
+    'e,
+    K: AgentKeeper + Drop,
+    L: Line + Drop,
+    O: PacketObserver + Drop,
+    C: Clock + Drop,
+>(
+    alloc: Global,
+    job: &fwupd_words::AgentProcess<'_>,
+    beginner: Beginner<'p, 'e, K>,
+    joined: &mut Joined<ObservedLine<L, O>, C>,
+) -> Result<AgentProcess<'p, K>, JobFault>
+    requires { beginner.agent.now ≡ 0 }
+    ensures { IfOk result (λ last. ServesStarted K.keeps job.now.number beginner.eids.now beginner.agent last) }
+{
+    let Beginner {
+        network,
+        mut agent,
+        eids,
+        keeper,
+    } = beginner;
+    let eid = network.endpoint.eid;
+    let shown = joined.clock.wait_past(0);
+    agent.miss(shown);
+    joined.line.begin(shown);
+    match start_all(&mut agent, job.number, eids) {
+        Ok(()) => {}
+        Err(fault) => return Err(fault),
+    }
+    let mut process = match AgentProcess::new(alloc, agent, keeper) {
+        Ok(process) => process,
+        Err(fault) => return Err(unkept(eid, fault)),
+    };
+    let end = end_of(shown, job.serving.ticks);
+    match serve_agent_process(&mut process, &mut joined.line, &mut joined.clock, end) {
+        Ok(()) => Ok(process),
+        Err(fault) => Err(unkept(eid, fault)),
+    }
+}
+
+/// Returns the report of the agent in a form.
+fn report_in(alloc: Global, agent: &ServedAgent<'_>, form: Form) -> Result<Vec<u8>, AllocError>
+    ensures { IfOk result (λ text. text.items ≡ agent_report_in form agent.now) }
+{
+    match form {
+        Form::Text => agent.report(alloc),
+        Form::Json => agent_json(
+            alloc,
+            agent.now(),
+            agent.agent(),
+            agent.counts(),
+            agent.answer(),
+            agent.history(),
+        ),
+    }
+}
+
+/// Writes the records of the agent's event log, if they are requested.
+fn keep_log<W: Write + Drop, P: OutputPlaces<W>>(
+    alloc: Global,
+    log: Option<&str>,
+    agent: &ServedAgent<'_>,
+    places: &mut P,
+) -> Result<(), JobFault> {
+    let Some(path) = log else {
+        return Ok(());
+    };
+    let Ok(records) = log_bytes(alloc, agent.agent().log()) else {
+        return Err(JobFault::Memory);
+    };
+    match write_file(places, path, &records) {
+        Ok(()) => Ok(()),
+        Err(JobFault::Memory) => Err(JobFault::Memory),
+        Err(_) => Err(JobFault::Log),
+    }
+}
+
+/// The fault of the first session that isn't Done, if there is one.
+fn all_done(agent: &ServedAgent<'_>) -> Result<(), JobFault> {
+    for count in agent.counts() {
+        let state = session_of(agent.agent(), count.device);
+        if !is_done(state) {
+            return Err(undone_fault(Undone {
+                eid: count.device,
+                state,
+            }));
+        }
+    }
+    Ok(())
+}
+
+/// Writes what is requested of an agent at the end: the records of its event log, and its report.
+fn end_agent<H: Parts>(
+    alloc: Global,
+    job: &fwupd_words::AgentProcess<'_>,
+    agent: &ServedAgent<'_>,
+    host: &mut Host<H>,
+) -> Result<(), JobFault>
+    ensures written { OnOk result (WritesOutput host.old.output host.new.output
+        (agent_report_in job.now.form agent.now)) }
+    ensures untouched { host.new.watch ≡ host.old.watch }
+{
+    match keep_log(alloc, job.log, agent, &mut host.places) {
+        Ok(()) => {}
+        Err(fault) => return Err(fault),
+    }
+    let Ok(text) = report_in(alloc, agent, job.form) else {
+        return Err(JobFault::Memory);
+    };
+    match host.output.write(&text) {
+        Ok(()) => {}
+        Err(fault) => return Err(fault),
+    }
+    if !job.is_checked {
+        return Ok(());
+    }
+    all_done(agent)
+}
+
+/// An agent as a process that is observed.
+fn observed(network: Network, number: usize, eids: &[u8]) -> Observed<'_> {
+    Observed {
+        unit: network.unit,
+        node: TracedNode::Agent(network.endpoint.eid),
+        starts: Starts { number, eids },
+    }
+}
+
+/// Serves an agent as a process.
+fn serve_agent<'p, 'e, K: AgentKeeper + Drop, H: Parts>(
+    alloc: Global,
+    job: &fwupd_words::AgentProcess<'_>,
+    beginner: Beginner<'p, 'e, K>,
+    host: &mut Host<H>,
+) -> Result<(), JobFault>
+    requires { beginner.agent.now ≡ 0 }
+    ensures runs { OnOk result (RunsServed K.keeps job.now beginner.agent beginner.eids.now
+        host.old.output host.new.output) }
+    ensures untouched { host.new.watch ≡ host.old.watch }
+{
+    let (network, eids) = (beginner.network, beginner.eids);
+    let observed = observed(network, job.number, eids);
+    let watch = match host.wiring.watch(alloc, observed, job.watching) {
+        Ok(watch) => watch,
+        Err(fault) => return Err(fault),
+    };
+    let joined = match host.wiring.agent(alloc, network, eids, job.serving) {
+        Ok(joined) => joined,
+        Err(fault) => return Err(fault),
+    };
+    let mut joined = observe(joined, watch);
+    let served = serve_started(alloc, job, beginner, &mut joined);
+    let watched = joined.line.end();
+    let process = match served {
+        Ok(process) => process,
+        Err(fault) => return Err(fault),
+    };
+    match end_agent(alloc, job, process.agent(), host) {
+        Ok(()) => {}
+        Err(fault) => return Err(fault),
+    }
+    match watched {
+        Ok(()) => Ok(()),
+        Err(fault) => Err(process_fault(fault)),
+    }
+}
+
+/// Serves a new agent, of which nothing is kept.
+fn serve_new<H: Parts>(
+    alloc: Global,
+    job: &fwupd_words::AgentProcess<'_>,
+    setup: AgentSetup<'_>,
+    packages: &[Package<'_>],
+    host: &mut Host<H>,
+) -> Result<(), JobFault>
+    requires devices { length setup.entry.eids.now ≤ 16 }
+    ensures runs { OnOk result (RunsServed keeps_nothing job.now (new_served_agent setup.entry.network.unit
+        setup.entry.network.endpoint setup.entry.eids.now packages.now) setup.entry.eids.now
+        host.old.output host.new.output) }
+    ensures untouched { host.new.watch ≡ host.old.watch }
+{
+    let AgentSetup { network, eids, .. } = setup;
+    let Ok(agent) = ServedAgent::new(alloc, network.unit, network.endpoint, eids, packages) else {
+        return Err(JobFault::Memory);
+    };
+    let beginner = Beginner {
+        network,
+        agent,
+        eids,
+        keeper: NoKeeper,
+    };
+    serve_agent(alloc, job, beginner, host)
+}
+
+/// Serves the agent that goes on with what a folder of stores keeps, and keeps it there.
+fn serve_kept<H: Parts>(
+    alloc: Global,
+    job: &fwupd_words::AgentProcess<'_>,
+    root: &str,
+    setup: (AgentSetup<'_>, &[Package<'_>]),
+    host: &mut Host<H>,
+) -> Result<(), JobFault>
+    requires devices { length setup.entry.0.eids.now ≤ 16 }
+    ensures runs { OnOk result (RunsKept job.now (agent_store_in (H.Stores.is_known host.old.stores)
+        (H.Stores.agent_files host.old.stores) root.now) (agent_setup_seen setup.entry.0)
+        setup.entry.1.now host.old.output host.new.output) }
+    ensures untouched { host.new.watch ≡ host.old.watch }
+{
+    let (setup, packages) = setup;
+    let (node, keeper) = match open_agent(alloc, &host.stores, root, setup) {
+        Ok(opened) => opened,
+        Err(fault) => return Err(fault),
+    };
+    let Ok(agent) = ServedAgent::of_node(alloc, node, packages) else {
+        return Err(JobFault::Memory);
+    };
+    let beginner = Beginner {
+        network: setup.network,
+        agent,
+        eids: setup.eids,
+        keeper,
+    };
+    serve_agent(alloc, job, beginner, host)
+}
+
+/// Serves an agent, which goes on with what a folder of stores keeps, if one is given.
+fn serve_setup<H: Parts>(
+    alloc: Global,
+    job: &fwupd_words::AgentProcess<'_>,
+    setup: AgentSetup<'_>,
+    packages: &[Package<'_>],
+    host: &mut Host<H>,
+) -> Result<(), JobFault>
+    requires devices { length setup.entry.eids.now ≤ 16 }
+    ensures runs { OnOk result (RunsAgentSetup job.now (agent_store_in (H.Stores.is_known host.old.stores)
+        (H.Stores.agent_files host.old.stores)) (agent_setup_seen setup.entry) packages.now
+        host.old.output host.new.output) }
+    ensures untouched { host.new.watch ≡ host.old.watch }
+{
+    match job.store {
+        None => serve_new(alloc, job, setup, packages, host),
+        Some(root) => serve_kept(alloc, job, root, (setup, packages), host),
+    }
+}
+
+/// Serves the agent of a configuration with the packages in these bytes.
+fn serve_packages<H: Parts>(
+    alloc: Global,
+    job: &fwupd_words::AgentProcess<'_>,
+    config: &Config,
+    contents: &[Vec<u8>],
+    host: &mut Host<H>,
+) -> Result<(), JobFault>
+    requires packed { AllByRecursion (λ f. IsOk (package_of f.items)) contents.now }
+    requires whole { AreWhole config.now.agent.eid (map device_of config.now.devices.items) }
+    ensures runs { OnOk result (RunsPackages job.now (agent_store_in (H.Stores.is_known host.old.stores)
+        (H.Stores.agent_files host.old.stores)) (config_seen config.now)
+        (map (λ f. f.items) contents.now) host.old.output host.new.output) }
+    ensures untouched { host.new.watch ≡ host.old.watch }
+{
+    let packages = match packages_in(alloc, contents) {
+        Ok(packages) => packages,
+        Err(fault) => return Err(fault),
+    };
+    let eids = match eids_of(alloc, config.devices.as_slice()) {
+        Ok(eids) => eids,
+        Err(fault) => return Err(fault),
+    };
+    let network = Network {
+        unit: config.unit,
+        endpoint: config.agent,
+    };
+    let setup = AgentSetup {
+        network,
+        eids: eids.as_slice(),
+        contents,
+    };
+    serve_setup(alloc, job, setup, packages.as_slice(), host)
+}
+
+/// Serves the agent of the configuration in a file as a process of its own: it starts the update of
+/// each device, and handles what comes over sockets or a serial line. It ends when each session is
+/// done or failed. Then the records of its event log, if they are requested, and its report are
+/// written. If a folder of stores is given, the agent goes on with what its folder there keeps, and
+/// what it records and its event log are kept there before a packet is sent that follows from them.
+///
+/// # Errors
+/// The first fault, in this order: of the configuration; `Trace`, `Log` and `Record` if these files
+/// would overwrite it, a package or each other, or be in a store; of each of its packages; `Store`
+/// if the agent's store can't be opened; `Trace` and `Record` if these files can't be made; `Tty` if
+/// the serial line can't be opened; `NoPackage` if it has no package of the number; `Unkept` if its
+/// store can't be written; `Log` and `Output` if the records or the report can't be written;
+/// `Session`, if that check is requested, with the first session that isn't Done; and `Trace` and
+/// `Record` if something of these couldn't be written. `Memory` if memory is refused.
+pub fn run_agent<H: Parts>(
+    alloc: Global,
+    job: &fwupd_words::AgentProcess<'_>,
+    host: &mut Host<H>,
+) -> Result<(), JobFault>
+    ensures runs { OnOk result (RunsAgent job.now (H.Files.holds host.old.files)
+        (agent_store_in (H.Stores.is_known host.old.stores) (H.Stores.agent_files host.old.stores))
+        host.old.output host.new.output) }
+    ensures untouched { host.new.watch ≡ host.old.watch }
+{
+    let config = match configuration(alloc, &host.files, job.config) {
+        Ok(config) => config,
+        Err(fault) => return Err(fault),
+    };
+    let packages = config.packages.as_slice();
+    let outputs = ProcessOutputs {
+        watching: job.watching,
+        log: job.log,
+        store: job.store,
+    };
+    match check_outputs(alloc, &host.files, job.config, packages, outputs) {
+        Ok(()) => {}
+        Err(fault) => return Err(fault),
+    }
+    let contents = match package_files(alloc, &host.files, packages) {
+        Ok(contents) => contents,
+        Err(fault) => return Err(fault),
+    };
+    serve_packages(alloc, job, &config, contents.as_slice(), host)
+}

@@ -1,0 +1,106 @@
+//! What the agent's process keeps in a folder of stores: opening it, and the node that goes on with
+//! it.
+
+ghost use Rattle.std.specs.Prelude.{◌≡◌, ◌≢◌, ◌≤◌, IfOk, IfSome, length, true};
+ghost use Rattle.fwupd_nodes.specs.Hosts.{agent_store_in};
+ghost use Rattle.fwupd_nodes.specs.AgentStores.{BeginsWithStore, IsAgentNode, agent_setup_seen};
+
+use crate::wiring::Network;
+use agent_store::{ClaimFault, FolderKeeper, claim_packages, resumed_agent};
+use fw_node::AgentNode;
+use fw_setup::Stores;
+use fw_store::{Folder, OpenFault, agent_in};
+use fwupd_watch::JobFault;
+use std::alloc::Global;
+
+/// The agent that an operator's process begins with: its network, its devices, at most 16, and the
+/// bytes of its packages.
+#[derive(Clone, Copy)]
+pub struct AgentSetup<'a> {
+    /// The network, with the agent's endpoint.
+    pub network: Network,
+    /// The endpoint identifiers of the devices.
+    pub eids: &'a [u8],
+    /// The bytes of each package, in configured order.
+    pub contents: &'a [Vec<u8>],
+}
+
+/// The fault of an agent's store that can't be opened.
+fn unopened(eid: u8, why: OpenFault) -> JobFault
+    ensures memory { why ≡ OpenFault.Memory → result ≡ JobFault.Memory }
+    ensures other { why ≢ OpenFault.Memory → result ≡ JobFault.Store eid why }
+{
+    match why {
+        OpenFault::Memory => JobFault::Memory,
+        why => JobFault::Store(eid, why),
+    }
+}
+
+/// The fault of an agent's store that isn't claimed for its packages.
+fn unclaimed(eid: u8, fault: ClaimFault) -> JobFault {
+    match fault {
+        ClaimFault::Refused(why) => unopened(eid, why),
+        ClaimFault::Unwritable => JobFault::Unkept(eid),
+    }
+}
+
+/// The node that goes on with what a folder keeps, or a new one if it keeps nothing yet.
+#[tactic(auto, using(crate::proofs::AgentStores::nodes))]
+fn node_in<F: Folder>(
+    alloc: Global,
+    folder: &F,
+    network: Network,
+    eids: &[u8],
+) -> Result<AgentNode, OpenFault>
+    requires { length eids.now ≤ 16 }
+    ensures { IfOk result (λ n. F.is_known folder.now ≡ true
+        → IsAgentNode (F.files folder.now) network.unit network.endpoint eids.now n) }
+{
+    let found = match agent_in(alloc, folder) {
+        Ok(found) => found,
+        Err(fault) => return Err(fault),
+    };
+    let Some(lines) = found else {
+        return match AgentNode::new(alloc, network.unit, network.endpoint, eids) {
+            Ok(node) => Ok(node),
+            Err(_) => Err(OpenFault::Memory),
+        };
+    };
+    match resumed_agent(alloc, network.unit, network.endpoint, eids, &lines) {
+        Ok(node) => Ok(node),
+        Err(fault) => Err(fault),
+    }
+}
+
+/// Opens the folder of what the agent keeps, below `root`, for its packages. Returns the node that
+/// goes on with it, and its keeper there. The folder is made if it isn't there.
+///
+/// # Errors
+/// `Store` if it can't be opened, or is of other packages or devices; `Unkept` if it can't be
+/// written; `Memory` if memory is refused.
+#[tactic(auto, using(crate::proofs::AgentStores::begins))]
+pub fn open_agent<F: Folder + Drop, T: Stores<F>>(
+    alloc: Global,
+    stores: &T,
+    root: &str,
+    setup: AgentSetup<'_>,
+) -> Result<(AgentNode, FolderKeeper<F>), JobFault>
+    requires { length setup.entry.eids.now ≤ 16 }
+    ensures { IfOk result (λ opened. IfSome (agent_store_in (T.is_known stores.now)
+        (T.agent_files stores.now) root.now) (λ files. BeginsWithStore files
+        (agent_setup_seen setup.entry) opened.0)) }
+{
+    let eid = setup.network.endpoint.eid;
+    let mut folder = match stores.make_agent(alloc, root) {
+        Ok(folder) => folder,
+        Err(fault) => return Err(unopened(eid, fault)),
+    };
+    match claim_packages(alloc, &mut folder, setup.contents) {
+        Ok(()) => {}
+        Err(fault) => return Err(unclaimed(eid, fault)),
+    }
+    match node_in(alloc, &folder, setup.network, setup.eids) {
+        Ok(node) => Ok((node, FolderKeeper::new(alloc, folder))),
+        Err(fault) => Err(unopened(eid, fault)),
+    }
+}
