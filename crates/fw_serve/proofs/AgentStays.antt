@@ -37,7 +37,7 @@ pub record IsSameHalf (h g : HalfOf TimedOf) : Type 0 where
   pub session : g.core.session.unit ≡ h.core.session.unit
 
 abbrev pub AreSameHalves : List (HalfOf TimedOf) → List (HalfOf TimedOf) → Type 0
-AreSameHalves [] [] = Unit {0}
+AreSameHalves [] [] = Prim.Unit {0}
 AreSameHalves (h ∷ hs) (g ∷ gs) = IsSameHalf h g × AreSameHalves hs gs
 AreSameHalves hs gs = ⊥
 
@@ -171,7 +171,7 @@ packet_at packages n bytes now None (Some h) at = same_agent n
 packet_at packages n bytes now (Some i) None at = same_agent n
 packet_at packages n bytes now (Some i) (Some h) at = record {
   endpoint = refl;
-  halves = same_set n.halves i h _ at (outcome_same h roles.Agent n.endpoint n.tid _ (heard_same packages h bytes));
+  halves = same_set n.halves i h _ at (outcome_same h roles.Agent n.endpoint n.tid (half_on_packet (session_core packages) true h bytes) (heard_same packages h bytes));
 }
 
 packet_if : (b : Bool) (n : AgentOf) (o : AgentOutcome) → IsSameAgent n o.agent → IsSameAgent n (if b then o else agent_unmoved n).agent

@@ -11,14 +11,13 @@ use Rattle.fd_core.specs.declared.states.Progress.TheVariants as progress
 use Rattle.fd_core.specs.declared.states.Verdict.{Verdict}
 use Rattle.fd_core.specs.declared.states.Verdict.TheVariants as verdicts
 use Rattle.fw_node.specs.Cores.{TimedDevice, answer_or, device_core}
-use Rattle.fw_node.specs.Halves.{CoreOf, HalfOf, HalfOutcome, half_on_packet, half_ticks}
+use Rattle.fw_node.specs.Halves.{HalfOf, HalfOutcome, half_on_packet, half_ticks}
 use Rattle.fw_node.specs.Nodes.{DeviceNodeOf, device_on_packet, device_restarts, node_outcome_of}
 use Rattle.fw_steps.specs.Alone.{DeviceCall, device_after_call}
 use Rattle.fw_steps.specs.Plays.{DeviceProcess}
 use Rattle.fw_steps.specs.Traces.{DeviceAct, device_act_call, device_process_after_act}
 use Rattle.fw_steps.proofs.LinksAreLanes.Hears.{half_in}
 use Rattle.fw_steps.proofs.LinksAreLanes.Ticks.{same_ticks}
-use Rattle.fw_steps.proofs.LinksAreLanes.Units.{KeepsUnit, hears_keeps, ticks_keep}
 use Rattle.fwup_wire.specs.Values.{AnswerOf, CommandOf, OfferOf, TableEntryOf, UpdateRequestOf}
 use Rattle.mctp_ctl.specs.declared.answers.Endpoint.{Endpoint}
 use Rattle.mctp_wire.specs.declared.unit.Unit.{«Unit»}
@@ -26,7 +25,7 @@ use Rattle.pldm_base.specs.declared.terminus.Role.{Role}
 use Rattle.pldm_base.specs.declared.terminus.Role.TheVariants as roles
 use Rattle.fw_serve.specs.Lives.{device_anew, recounted}
 use Rattle.fw_serve.specs.Traced.{device_process_after_acts}
-use Rattle.fw_serve.proofs.HalvesStay.{packet_between}
+use Rattle.fw_serve.proofs.HalvesStay.{KeepsFact, packet_between, packet_keeps, tick_keeps}
 
 -- THE DEVICE'S TRANSMISSION UNIT
 
@@ -109,11 +108,11 @@ ticked_at Phase.Idle v idle = refl
 ticked_at Phase.Activated v idle = refl
 ticked_at p v idle = waits (nat_lt (idle + 1) patience) v idle
 
--- the core of a device, with the transmission unit of the device
-abbrev united_core : CoreOf TimedDevice
-united_core = record device_core { unit = λ d. d.device.unit }
+-- the transmission unit of a device
+abbrev unit_of_device : TimedDevice → «Unit»
+unit_of_device d = d.device.unit
 
-core_keeps : KeepsUnit united_core
+core_keeps : KeepsFact device_core unit_of_device
 core_keeps = record {
   take = λ x c quiet works. takes_unit x.device c quiet works;
   learn = λ x a works. learns_at x.device x.device.phase (answer_or a) works;
@@ -147,13 +146,13 @@ packet_same : (works : Bool) (n : DeviceNodeOf) (bytes : List ℕ) → IsSameSit
 packet_same works n bytes =
     let b = packet_between device_core works n.half bytes in
     outcome_same n.half n.endpoint n.tid (half_on_packet device_core works n.half bytes)
-    (record { unit = b.unit; own = b.own; device = hears_keeps united_core core_keeps works n.half bytes })
+    (record { unit = b.unit; own = b.own; device = packet_keeps device_core unit_of_device core_keeps works n.half bytes })
 
 call_same : (n : DeviceNodeOf) (c : DeviceCall) → IsSameDevice n (device_after_call n c)
 call_same n (DeviceCall.Receives works faults bytes) =
     let same = packet_same works n bytes in record { endpoint = refl; unit = same.unit; own = same.own; device = same.device }
 call_same n DeviceCall.Ticks =
-    let b = same_ticks device_core true n.half in record { endpoint = refl; unit = b.0; own = b.1; device = ticks_keep united_core core_keeps true n.half }
+    let b = same_ticks device_core true n.half in record { endpoint = refl; unit = b.0; own = b.1; device = tick_keeps device_core unit_of_device core_keeps n.half }
 call_same n (DeviceCall.Judges works faults verdict) =
     record { endpoint = refl; unit = refl; own = refl; device = judged_at n.half.core.device n.half.core.device.phase verdict works }
 call_same n DeviceCall.Restarts = record { endpoint = refl; unit = refl; own = refl; device = refl }
