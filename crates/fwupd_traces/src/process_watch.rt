@@ -1,0 +1,124 @@
+//! All that observes a process: its trace, its record, and its progress, each if it is requested.
+
+ghost use Rattle.std.specs.Prelude.{◌≡◌, Err, IfErr, IfSome, None, OnOk};
+ghost use Rattle.fwupd_traces.specs.Records.{EndsRecord};
+ghost use Rattle.fwupd_traces.specs.Traces.{KeepsTrace};
+ghost use Rattle.fwupd_traces.specs.Watches.{Optional};
+
+use crate::node_record::NodeRecord;
+use crate::observed_line::PacketObserver;
+use crate::packet_trace::PacketTrace;
+use mctp_wire::RawPacket;
+use std::io::Write;
+
+/// Why what observes a process fails. It disturbs no traffic.
+#[derive(Clone, Copy, PartialEq, Eq)]
+pub enum WatchFault {
+    /// The trace can't be written.
+    Trace,
+    /// The record can't be written.
+    Record,
+    /// Memory was refused.
+    Memory,
+}
+
+/// The trace, the record and the progress of a process, each if it is requested.
+#[derive(Drop)]
+pub struct ProcessWatch<W: Write + Drop, P: PacketObserver + Drop> {
+    /// The trace.
+    pub trace: Option<PacketTrace<W>>,
+    /// The record.
+    pub record: Option<NodeRecord<W>>,
+    /// The progress.
+    pub progress: Option<P>,
+}
+
+/// Ends a trace, if there is one.
+fn end_trace<W: Write + Drop>(trace: &mut Option<PacketTrace<W>>) -> Result<(), WatchFault>
+    ensures whole { OnOk result (IfSome trace.new (λ t. t.fault ≡ None)) }
+    ensures kept { OnOk result (Optional (λ s u t. KeepsTrace s t) trace.old tt trace.new) }
+{
+    match trace {
+        Some(trace) => trace.end(),
+        None => Ok(()),
+    }
+}
+
+/// Ends a record, if there is one.
+fn end_record<W: Write + Drop>(record: &mut Option<NodeRecord<W>>) -> Result<(), WatchFault>
+    ensures text { OnOk result (Optional (λ s u t. EndsRecord s t) record.old tt record.new) }
+{
+    match record {
+        Some(record) => record.end(),
+        None => Ok(()),
+    }
+}
+
+/// The first of two faults, if there is one.
+fn first_of(one: Result<(), WatchFault>, other: Result<(), WatchFault>) -> Result<(), WatchFault>
+    ensures one { IfErr one (λ e. result ≡ Err e) }
+    ensures other { OnOk one (result ≡ other) }
+{
+    match one {
+        Ok(()) => other,
+        Err(fault) => Err(fault),
+    }
+}
+
+impl<W: Write + Drop, P: PacketObserver + Drop> ProcessWatch<W, P> {
+    /// Puts all that is written into the files.
+    ///
+    /// # Errors
+    /// The first fault of the trace, or else of the record.
+    pub fn end(&mut self) -> Result<(), WatchFault>
+        ensures traced { OnOk result (IfSome self.new.trace (λ t. t.fault ≡ None)) }
+        ensures kept { OnOk result (Optional (λ s u t. KeepsTrace s t) self.old.trace tt self.new.trace) }
+        ensures recorded { OnOk result (Optional (λ s u t. EndsRecord s t) self.old.record tt self.new.record) }
+    {
+        let traced = end_trace(&mut self.trace);
+        let recorded = end_record(&mut self.record);
+        first_of(traced, recorded)
+    }
+}
+
+impl<W: Write + Drop, P: PacketObserver + Drop> PacketObserver for ProcessWatch<W, P> {
+    ghost use Rattle.std.specs.Prelude.{◌≡◌, ◌×◌};
+    ghost use Rattle.fwupd_traces.specs.Records.{RecordsPacket, RecordsUnits};
+    ghost use Rattle.fwupd_traces.specs.Traces.{KeepsTrace, TracesPacket};
+    ghost use Rattle.fwupd_traces.specs.Watches.{Optional};
+
+    ghost receives = { λ s p t. Optional TracesPacket s.trace p t.trace
+        × (Optional RecordsPacket s.record p t.record × Optional P.receives s.progress p t.progress) };
+
+    ghost sends = { λ s p t. Optional TracesPacket s.trace p t.trace
+        × ((t.record ≡ s.record) × Optional P.sends s.progress p t.progress) };
+
+    ghost begins = { λ s unit t. (t.trace ≡ s.trace)
+        × (Optional (λ r u q. q ≡ record r { unit = u }) s.record unit t.record
+        × Optional P.begins s.progress unit t.progress) };
+
+    ghost begins_round = { λ s unit t. Optional (λ q u r. KeepsTrace q r) s.trace unit t.trace
+        × (Optional RecordsUnits s.record unit t.record × Optional P.begins_round s.progress unit t.progress) };
+
+    fn begin(&mut self, unit: u32) {
+        self.record.begin(unit);
+        self.progress.begin(unit);
+    }
+
+    fn begin_round(&mut self, unit: u32) {
+        self.trace.begin_round(unit);
+        self.record.begin_round(unit);
+        self.progress.begin_round(unit);
+    }
+
+    fn receive(&mut self, stamp: u32, packet: &RawPacket) {
+        self.trace.receive(stamp, packet);
+        self.record.receive(stamp, packet);
+        self.progress.receive(stamp, packet);
+    }
+
+    fn send(&mut self, unit: u32, packet: &RawPacket) {
+        self.trace.send(unit, packet);
+        self.progress.send(unit, packet);
+    }
+}
