@@ -24,9 +24,24 @@ use Rattle.fwupd_jobs.specs.Alone.{DeviceSetupOf, IsDeviceSetup}
 use Rattle.fwupd_jobs.specs.Setups.{AreDevices, ArePacked, Says}
 use Rattle.fwupd_watch.specs.Files.{FileOf}
 use Rattle.fwupd_watch.specs.Outputs.{OutputOf, WritesOutput}
+use Rattle.fwupd_watch.specs.Running.{ShowOf}
 use Rattle.fwupd_words.specs.declared.asked.DeviceAlone.{DeviceAlone}
 use Rattle.fwupd_words.specs.declared.processes.AgentProcess.{AgentProcess}
 use Rattle.fwupd_words.specs.declared.processes.DeviceProcess.{DeviceProcess}
+use Rattle.fwupd_words.specs.declared.processes.Watching.{Watching}
+
+-- the outputs of a process besides its report, as those of a run
+abbrev pub process_shows : Watching → (log store : Option (List ℕ)) → ShowOf
+process_shows watching log store = record {
+  is_quiet = true;
+  trace = option_map (λ p. p.now) watching.trace;
+  trace_form = watching.trace_form;
+  log = log;
+  record_path = option_map (λ p. p.now) watching.record;
+  store = store;
+  history = None;
+  form = forms.Text;
+}
 
 -- A DEVICE
 

@@ -11,12 +11,13 @@ ghost use Rattle.fwupd_jobs.specs.Hosts.{agent_store_in};
 ghost use Rattle.fwupd_jobs.specs.AgentStores.{agent_setup_seen, keeps_nothing};
 ghost use Rattle.fwupd_jobs.specs.Processes.{RunsAgent, RunsKept, RunsPackages, RunsServed, RunsAgentSetup, ServesStarted, agent_report_in, agent_started};
 
-use crate::agent_stores::{AgentSetup, is_in_store, open_agent};
+use crate::agent_stores::{AgentSetup, open_agent};
 use crate::alone::eids_of;
 use crate::host::{Host, Parts};
+use crate::process_files::{ProcessOutputs, check_outputs};
 use crate::sessions::{Undone, is_done, undone_fault};
 use crate::setups::{configuration, package_files, packages_in};
-use crate::wiring::{Joined, Network, Wiring, end_of};
+use crate::wiring::{Joined, Network, Observed, Wiring, end_of, observe};
 use agent_store::{AgentKeeper, KeepFault, NoKeeper};
 use fw_json::agent_json;
 use fw_package::Package;
@@ -25,7 +26,8 @@ use fw_script::{Config, session_of};
 use fw_serve::{AgentProcess, CallFault, ServedAgent, serve_agent_process};
 use fw_trace::log_bytes;
 use fwupd_base::Form;
-use fwupd_watch::{JobFault, OutputPlaces, is_over_read, write_file};
+use fwupd_traces::{ObservedLine, PacketObserver, Starts, TracedNode, WatchFault};
+use fwupd_watch::{JobFault, OutputPlaces, process_fault, write_file};
 use std::alloc::{AllocError, Global};
 use std::io::Write;
 
@@ -69,11 +71,18 @@ fn unkept(eid: u8, fault: KeepFault) -> JobFault
 }
 
 /// Serves an agent as a process, from the unit that a clock shows, with an update of each device.
-fn serve_started<'p, 'e, K: AgentKeeper + Drop, L: Line + Drop, C: Clock + Drop>(
+fn serve_started<
+    'p,
+    'e,
+    K: AgentKeeper + Drop,
+    L: Line + Drop,
+    O: PacketObserver + Drop,
+    C: Clock + Drop,
+>(
     alloc: Global,
     job: &fwupd_words::AgentProcess<'_>,
     beginner: Beginner<'p, 'e, K>,
-    joined: &mut Joined<L, C>,
+    joined: &mut Joined<ObservedLine<L, O>, C>,
 ) -> Result<AgentProcess<'p, K>, JobFault>
     requires { beginner.agent.now ≡ 0 }
     ensures { IfOk result (λ last. ServesStarted K.keeps job.now.number beginner.eids.now beginner.agent last) }
@@ -87,6 +96,7 @@ fn serve_started<'p, 'e, K: AgentKeeper + Drop, L: Line + Drop, C: Clock + Drop>
     let eid = network.endpoint.eid;
     let shown = joined.clock.wait_past(0);
     agent.miss(shown);
+    joined.line.begin(shown);
     match start_all(&mut agent, job.number, eids) {
         Ok(()) => {}
         Err(fault) => return Err(fault),
@@ -181,6 +191,37 @@ fn end_agent<H: Parts>(
     all_done(agent)
 }
 
+/// Writes what is requested of an agent at the end, whose observer ended so.
+fn end_observed<H: Parts>(
+    alloc: Global,
+    job: &fwupd_words::AgentProcess<'_>,
+    agent: &ServedAgent<'_>,
+    watched: Result<(), WatchFault>,
+    host: &mut Host<H>,
+) -> Result<(), JobFault>
+    ensures written { OnOk result (WritesOutput host.old.output host.new.output
+        (agent_report_in job.now.form agent.now)) }
+    ensures untouched { host.new.watch ≡ host.old.watch }
+{
+    match end_agent(alloc, job, agent, host) {
+        Ok(()) => {}
+        Err(fault) => return Err(fault),
+    }
+    match watched {
+        Ok(()) => Ok(()),
+        Err(fault) => Err(process_fault(fault)),
+    }
+}
+
+/// An agent as a process that is observed.
+fn observed(network: Network, number: usize, eids: &[u8]) -> Observed<'_> {
+    Observed {
+        unit: network.unit,
+        node: TracedNode::Agent(network.endpoint.eid),
+        starts: Starts { number, eids },
+    }
+}
+
 /// Serves an agent as a process.
 fn serve_agent<'p, 'e, K: AgentKeeper + Drop, H: Parts>(
     alloc: Global,
@@ -194,15 +235,23 @@ fn serve_agent<'p, 'e, K: AgentKeeper + Drop, H: Parts>(
     ensures untouched { host.new.watch ≡ host.old.watch }
 {
     let (network, eids) = (beginner.network, beginner.eids);
-    let mut joined = match host.wiring.agent(alloc, network, eids, job.serving) {
+    let observed = observed(network, job.number, eids);
+    let watch = match host.wiring.watch(alloc, observed, job.watching) {
+        Ok(watch) => watch,
+        Err(fault) => return Err(fault),
+    };
+    let joined = match host.wiring.agent(alloc, network, eids, job.serving) {
         Ok(joined) => joined,
         Err(fault) => return Err(fault),
     };
-    let process = match serve_started(alloc, job, beginner, &mut joined) {
+    let mut joined = observe(joined, watch);
+    let served = serve_started(alloc, job, beginner, &mut joined);
+    let watched = joined.line.end();
+    let process = match served {
         Ok(process) => process,
         Err(fault) => return Err(fault),
     };
-    end_agent(alloc, job, process.agent(), host)
+    end_observed(alloc, job, process.agent(), watched, host)
 }
 
 /// Serves a new agent, of which nothing is kept.
@@ -325,12 +374,13 @@ fn serve_packages<H: Parts>(
 /// what it records and its event log are kept there before a packet is sent that follows from them.
 ///
 /// # Errors
-/// The first fault, in this order: of the configuration; `Log` if the records would overwrite it or
-/// a package, or be in a store; of each of its packages; `Store` if the agent's store can't be
-/// opened; `Tty` if the serial line can't be opened; `NoPackage` if it has no package of the
-/// number; `Unkept` if its store can't be written; `Log` and `Output` if the records or the report
-/// can't be written; and `Session`, if that check is requested, with the first session that isn't
-/// Done. `Memory` if memory is refused.
+/// The first fault, in this order: of the configuration; `Trace`, `Log` and `Record` if these files
+/// would overwrite it, a package or each other, or be in a store; of each of its packages; `Store`
+/// if the agent's store can't be opened; `Trace` and `Record` if these files can't be made; `Tty` if
+/// the serial line can't be opened; `NoPackage` if it has no package of the number; `Unkept` if its
+/// store can't be written; `Log` and `Output` if the records or the report can't be written;
+/// `Session`, if that check is requested, with the first session that isn't Done; and `Trace` and
+/// `Record` if something of these couldn't be written. `Memory` if memory is refused.
 pub fn run_agent<H: Parts>(
     alloc: Global,
     job: &fwupd_words::AgentProcess<'_>,
@@ -346,12 +396,13 @@ pub fn run_agent<H: Parts>(
         Err(fault) => return Err(fault),
     };
     let packages = config.packages.as_slice();
-    if is_over_read(&host.files, job.log, job.config, packages) {
-        return Err(JobFault::Log);
-    }
-    match is_in_store(alloc, &host.files, job.log, job.store) {
-        Ok(false) => {}
-        Ok(true) => return Err(JobFault::Log),
+    let outputs = ProcessOutputs {
+        watching: job.watching,
+        log: job.log,
+        store: job.store,
+    };
+    match check_outputs(alloc, &host.files, job.config, packages, outputs) {
+        Ok(()) => {}
         Err(fault) => return Err(fault),
     }
     let contents = match package_files(alloc, &host.files, packages) {

@@ -10,7 +10,7 @@ use agent_store::{ClaimFault, FolderKeeper, claim_packages, resumed_agent};
 use fw_node::AgentNode;
 use fw_setup::Stores;
 use fw_store::{Folder, OpenFault, agent_in};
-use fwupd_watch::{Files, JobFault};
+use fwupd_watch::JobFault;
 use std::alloc::Global;
 
 /// The agent that an operator's process begins with: its network, its devices, at most 16, and the
@@ -102,21 +102,5 @@ pub(crate) fn open_agent<F: Folder + Drop, T: Stores<F>>(
     match node_in(alloc, &folder, setup.network, setup.eids) {
         Ok(node) => Ok((node, FolderKeeper::new(alloc, folder))),
         Err(fault) => Err(unopened(eid, fault)),
-    }
-}
-
-/// Whether a file would be made in a folder of stores, if there are both.
-pub(crate) fn is_in_store<F: Files>(
-    alloc: Global,
-    files: &F,
-    path: Option<&str>,
-    store: Option<&str>,
-) -> Result<bool, JobFault> {
-    match (path, store) {
-        (Some(path), Some(store)) => match files.is_below(alloc, path, store) {
-            Ok(is_below) => Ok(is_below),
-            Err(_) => Err(JobFault::Memory),
-        },
-        _ => Ok(false),
     }
 }

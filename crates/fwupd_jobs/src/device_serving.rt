@@ -4,28 +4,33 @@ ghost use Rattle.std.specs.Prelude.{◌≡◌, IfOk, None, OnOk, Some, length, m
 ghost use Rattle.fd_core.specs.Components.{HasComponents};
 ghost use Rattle.fw_script.specs.Seen.{device_of};
 ghost use Rattle.fw_script.specs.Whole.{AreWhole};
+ghost use Rattle.fw_serve.specs.Serving.{device_report};
 ghost use Rattle.fw_setup.specs.Stocks.{stores_in};
 ghost use Rattle.fwupd_jobs.specs.Alone.{device_setup_seen};
+ghost use Rattle.fwupd_watch.specs.Outputs.{WritesOutput};
 ghost use Rattle.fwupd_jobs.specs.Processes.{RunsDevice, RunsNode, RunsSetup, ServesProcess};
 
 use crate::alone::{DeviceSetup, device_setup};
 use crate::host::{Host, Parts};
+use crate::process_files::{ProcessOutputs, check_outputs};
 use crate::setups::open_kept;
-use crate::wiring::{Joined, Network, Wiring, end_of};
+use crate::wiring::{Joined, Network, Observed, Wiring, end_of, observe};
 use fd_core::Bank;
 use fw_node::DeviceNode;
 use fw_process::{Clock, Line, ProcessNode, serve_process};
 use fw_serve::DeviceProcess;
 use fw_setup::{MemBanks, device_node};
-use fwupd_watch::JobFault;
+use fwupd_traces::{ObservedLine, PacketObserver, Starts, TracedNode, WatchFault};
+use fwupd_watch::{JobFault, Output, process_fault};
 use fwupd_words::DeviceAlone;
 use std::alloc::Global;
+use std::io::Write;
 
 /// Serves a device's node as a process over a line, from the unit that a clock shows.
-fn serve_over<B: Bank + Drop, L: Line + Drop, C: Clock + Drop>(
+fn serve_over<B: Bank + Drop, L: Line + Drop, O: PacketObserver + Drop, C: Clock + Drop>(
     alloc: Global,
     node: DeviceNode<B>,
-    joined: &mut Joined<L, C>,
+    joined: &mut Joined<ObservedLine<L, O>, C>,
     ticks: Option<u32>,
 ) -> Result<DeviceProcess<B>, JobFault>
     requires { HasComponents node.half.core.device }
@@ -36,6 +41,7 @@ fn serve_over<B: Bank + Drop, L: Line + Drop, C: Clock + Drop>(
     };
     let shown = joined.clock.wait_past(0);
     process.miss(shown);
+    joined.line.begin(shown);
     match serve_process(
         &mut process,
         &mut joined.line,
@@ -44,6 +50,39 @@ fn serve_over<B: Bank + Drop, L: Line + Drop, C: Clock + Drop>(
     ) {
         Ok(()) => Ok(process),
         Err(_) => Err(JobFault::Memory),
+    }
+}
+
+/// Writes the report of a device's process, whose observer ended so.
+fn report_served<B: Bank + Drop, W: Write + Drop>(
+    process: &DeviceProcess<B>,
+    watched: Result<(), WatchFault>,
+    output: &mut Output<W>,
+) -> Result<(), JobFault>
+    ensures { OnOk result (WritesOutput output.old output.new (device_report process.now.device)) }
+{
+    let Ok(text) = process.report() else {
+        return Err(JobFault::Memory);
+    };
+    match output.write(&text) {
+        Ok(()) => {}
+        Err(fault) => return Err(fault),
+    }
+    match watched {
+        Ok(()) => Ok(()),
+        Err(fault) => Err(process_fault(fault)),
+    }
+}
+
+/// A device as a process that is observed.
+fn observed(network: Network) -> Observed<'static> {
+    Observed {
+        unit: network.unit,
+        node: TracedNode::Device(network.endpoint.eid),
+        starts: Starts {
+            number: 0,
+            eids: &[],
+        },
     }
 }
 
@@ -59,18 +98,22 @@ fn serve_device<B: Bank + Drop, H: Parts>(
     ensures runs { OnOk result (RunsNode node host.old.output host.new.output) }
     ensures untouched { host.new.watch ≡ host.old.watch }
 {
-    let mut joined = match host.wiring.device(alloc, network, job) {
+    let watch = match host.wiring.watch(alloc, observed(network), job.watching) {
+        Ok(watch) => watch,
+        Err(fault) => return Err(fault),
+    };
+    let joined = match host.wiring.device(alloc, network, job) {
         Ok(joined) => joined,
         Err(fault) => return Err(fault),
     };
-    let process = match serve_over(alloc, node, &mut joined, job.serving.ticks) {
+    let mut joined = observe(joined, watch);
+    let served = serve_over(alloc, node, &mut joined, job.serving.ticks);
+    let watched = joined.line.end();
+    let process = match served {
         Ok(process) => process,
         Err(fault) => return Err(fault),
     };
-    let Ok(text) = process.report() else {
-        return Err(JobFault::Memory);
-    };
-    host.output.write(&text)
+    report_served(&process, watched, &mut host.output)
 }
 
 /// Serves a device with the images of the configuration.
@@ -142,8 +185,11 @@ fn serve_stored<H: Parts>(
 ///
 /// # Errors
 /// The first fault, in this order: of the configuration; `NoDevice` if it has no such device;
-/// `Store` if the device's store can't be opened; `Socket` or `Tty` if what joins it to the agent
-/// can't be made; `Output` if the report can't be written. `Memory` if memory is refused.
+/// `Trace` and `Record` if these files would overwrite it, each other, or are in a store; `Store` if
+/// the device's store can't be opened; `Trace` and `Record` if these files can't be made; `Socket`
+/// or `Tty` if what joins it to the agent can't be made; `Output` if the report can't be written;
+/// and `Trace` and `Record` if something of these couldn't be written. `Memory` if memory is
+/// refused.
 pub fn run_device<H: Parts>(
     alloc: Global,
     job: &fwupd_words::DeviceProcess<'_>,
@@ -166,6 +212,15 @@ pub fn run_device<H: Parts>(
         Ok(setup) => setup,
         Err(fault) => return Err(fault),
     };
+    let outputs = ProcessOutputs {
+        watching: job.watching,
+        log: None,
+        store: job.store,
+    };
+    match check_outputs(alloc, &host.files, job.config, &[], outputs) {
+        Ok(()) => {}
+        Err(fault) => return Err(fault),
+    }
     match job.store {
         Some(root) => serve_stored(alloc, job, root, setup, host),
         None => serve_configured(alloc, job, &setup, host),

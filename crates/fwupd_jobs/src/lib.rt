@@ -19,6 +19,7 @@ mod inspecting;
 mod jobs;
 mod numbering;
 mod planning;
+mod process_files;
 mod program;
 mod read_ahead;
 mod reasons;
@@ -45,6 +46,7 @@ pub use checking::update_checked;
 pub use decoding::decode_file;
 pub use device_serving::run_device;
 pub use fw_store::Durable;
+pub use fwupd_traces::{PacketObserver, PacketTrace};
 pub use fwupd_watch::{
     Beginning, FileCalls, FileFault, FileIdentity, Files, HistoryFile, JobFault, Observer,
     ObserverFault, Output, OutputPlaces, Recording, WholeFiles, texts_are_lines,
@@ -64,4 +66,4 @@ pub use sessions::Undone;
 pub use soaking::soak_file;
 pub use telling::{names_causes, sel_file};
 pub use updating::{Wires, update_files};
-pub use wiring::{Joined, Network, Wiring};
+pub use wiring::{Joined, Network, Observed, Wiring};

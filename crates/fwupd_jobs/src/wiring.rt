@@ -1,8 +1,9 @@
 //! What joins the processes of nodes to their peers.
 
 use fw_process::{Clock, Line};
+use fwupd_traces::{ObservedLine, PacketObserver, Starts, TracedNode};
 use fwupd_watch::JobFault;
-use fwupd_words::{DeviceProcess, Serving};
+use fwupd_words::{DeviceProcess, Serving, Watching};
 use mctp_ctl::Endpoint;
 use mctp_wire::Unit;
 use std::alloc::Global;
@@ -14,6 +15,18 @@ pub struct Network {
     pub unit: Unit,
     /// The node's endpoint.
     pub endpoint: Endpoint,
+}
+
+/// A process that is observed: the transmission unit of its network, its node, and the updates that
+/// it starts.
+#[derive(Clone, Copy)]
+pub struct Observed<'a> {
+    /// The transmission unit.
+    pub unit: Unit,
+    /// The node.
+    pub node: TracedNode,
+    /// The updates that it starts at its beginning.
+    pub starts: Starts<'a>,
 }
 
 /// What joins a process to its peers, and the clock of the machine.
@@ -33,6 +46,19 @@ pub trait Wiring {
     type Agent: Line + Drop;
     /// The clock.
     type Clock: Clock + Drop;
+    /// The observer of a process.
+    type Watch: PacketObserver + Drop;
+
+    /// Opens what is written of a process while it runs.
+    ///
+    /// # Errors
+    /// `Trace` and `Record` if these files can't be made, and `Memory`.
+    fn watch(
+        &mut self,
+        alloc: Global,
+        observed: Observed<'_>,
+        watching: Watching<'_>,
+    ) -> Result<Self::Watch, JobFault>;
 
     /// Joins a device to the agent.
     ///
@@ -57,6 +83,17 @@ pub trait Wiring {
         eids: &[u8],
         serving: Serving<'_>,
     ) -> Result<Joined<Self::Agent, Self::Clock>, JobFault>;
+}
+
+/// Has what joins a process to its peers observed.
+pub(crate) fn observe<L: Line + Drop, C: Clock + Drop, O: PacketObserver + Drop>(
+    joined: Joined<L, C>,
+    observer: O,
+) -> Joined<ObservedLine<L, O>, C> {
+    Joined {
+        line: ObservedLine::new(joined.line, observer),
+        clock: joined.clock,
+    }
 }
 
 /// The unit in which a process ends, if it ends after a number of units.

@@ -63,3 +63,8 @@ pub record KeepsTrace (s t : PacketTraceOf) : Type 0 where
   pub node : t.node ≡ s.node
   pub decoder : t.decoder ≡ s.decoder
   pub text : t.fault ≡ None → Keeps s.text t.text
+
+-- All that was written is in the file.
+pub record EndsTrace (s t : PacketTraceOf) : Type 0 where
+  pub whole : t.fault ≡ None
+  pub kept : KeepsTrace s t

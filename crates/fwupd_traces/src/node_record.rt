@@ -4,7 +4,7 @@ ghost use Rattle.std.specs.Prelude.{◌≡◌, ◌⊎◌, ◌<◌, ◌≤◌, �
 ghost use Rattle.std.specs.Io.KnownBytes.{Appends};
 ghost use Rattle.exch_lane.specs.Steps.{sent_at};
 ghost use Rattle.fw_text.specs.Printing.{AppendsText};
-ghost use Rattle.fwupd_traces.specs.Records.{EndsRecord, HasRecordedPacket, HasRecordedUnits, RecordsPacket, RecordsUnits, advanced_held, advanced_text, beginning_of, packet_held, packet_line, packet_text, packet_unit, start_line, starts_text, ticks_line};
+ghost use Rattle.fwupd_traces.specs.Records.{HasRecordedPacket, HasRecordedUnits, RecordsPacket, RecordsUnits, advanced_held, advanced_text, beginning_of, packet_held, packet_line, packet_text, packet_unit, start_line, starts_text, ticks_line};
 
 use crate::observed_line::PacketObserver;
 use crate::process_watch::WatchFault;
@@ -266,24 +266,10 @@ impl<W: Write + Drop> NodeRecord<W> {
             Err(_) => Err(WatchFault::Record),
         }
     }
-
-    /// Writes the ticks that are held back, and puts all that is written into the file. The record
-    /// is complete then.
-    ///
-    /// # Errors
-    /// The first fault: `Record` if something couldn't be written, and `Memory`.
-    pub fn end(&mut self) -> Result<(), WatchFault>
-        ensures { OnOk result (EndsRecord self.old self.new) }
-    {
-        match self.fault {
-            Some(fault) => Err(fault),
-            None => self.finish(),
-        }
-    }
 }
 
 impl<W: Write + Drop> PacketObserver for NodeRecord<W> {
-    ghost use Rattle.fwupd_traces.specs.Records.{BeginsRecord, RecordsPacket, RecordsUnits};
+    ghost use Rattle.fwupd_traces.specs.Records.{EndsRecord, RecordsPacket, RecordsUnits};
 
     ghost receives = { λ s p t. RecordsPacket s p t };
 
@@ -292,6 +278,8 @@ impl<W: Write + Drop> PacketObserver for NodeRecord<W> {
     ghost begins = { λ s unit t. t ≡ record s { unit = unit } };
 
     ghost begins_round = { λ s unit t. RecordsUnits s unit t };
+
+    ghost ends = { λ s t. EndsRecord s t };
 
     fn begin(&mut self, unit: u32) {
         self.unit = unit;
@@ -318,4 +306,11 @@ impl<W: Write + Drop> PacketObserver for NodeRecord<W> {
     }
 
     fn send(&mut self, _unit: u32, _packet: &RawPacket) {}
+
+    fn end(&mut self) -> Result<(), WatchFault> {
+        match self.fault {
+            Some(fault) => Err(fault),
+            None => self.finish(),
+        }
+    }
 }

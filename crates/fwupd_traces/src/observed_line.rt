@@ -1,10 +1,11 @@
 //! A line whose packets are observed.
 
-ghost use Rattle.std.specs.Prelude.{[], ◌≡◌, ◌∷◌, IfSome, None, ℕ};
+ghost use Rattle.std.specs.Prelude.{[], ◌≡◌, ◌∷◌, IfSome, None, OnOk, ℕ};
 ghost use Rattle.exch_lane.specs.Lanes.{Sent};
 ghost use Rattle.exch_lane.specs.Steps.{sent_at};
 ghost use Rattle.fw_process.specs.Processes.{line_with, packet_come};
 
+use crate::process_watch::WatchFault;
 use fw_process::Line;
 use mctp_wire::RawPacket;
 
@@ -19,6 +20,8 @@ pub trait PacketObserver {
     ghost begins: { Self → (unit : ℕ) → Self → Type 0 };
 
     ghost begins_round: { Self → (unit : ℕ) → Self → Type 0 };
+
+    ghost ends: { Self → Self → Type 0 };
 
     /// The process begins in a unit.
     fn begin(&mut self, unit: u32)
@@ -35,6 +38,13 @@ pub trait PacketObserver {
     /// A packet is sent in a unit.
     fn send(&mut self, unit: u32, packet: &RawPacket)
         ensures { sends self.old (sent_at unit packet.now.items) self.new };
+
+    /// The process ended. What was observed is in its files.
+    ///
+    /// # Errors
+    /// The first fault of the observer. It disturbs no traffic.
+    fn end(&mut self) -> Result<(), WatchFault>
+        ensures { OnOk result (ends self.old self.new) };
 }
 
 impl<O: PacketObserver> PacketObserver for Option<O> {
@@ -47,6 +57,8 @@ impl<O: PacketObserver> PacketObserver for Option<O> {
     ghost begins = { λ s unit t. Optional O.begins s unit t };
 
     ghost begins_round = { λ s unit t. Optional O.begins_round s unit t };
+
+    ghost ends = { λ s t. Optional (λ o u q. O.ends o q) s tt t };
 
     fn begin(&mut self, unit: u32) {
         if let Some(observer) = self {
@@ -69,6 +81,13 @@ impl<O: PacketObserver> PacketObserver for Option<O> {
     fn send(&mut self, unit: u32, packet: &RawPacket) {
         if let Some(observer) = self {
             observer.send(unit, packet);
+        }
+    }
+
+    fn end(&mut self) -> Result<(), WatchFault> {
+        match self {
+            Some(observer) => observer.end(),
+            None => Ok(()),
         }
     }
 }
@@ -97,11 +116,15 @@ impl<L: Line + Drop, O: PacketObserver + Drop> ObservedLine<L, O> {
         self.observer.begin(unit);
     }
 
-    /// Returns the observer.
-    pub fn into_observer(self) -> O
-        ensures { result ≡ self.observer }
+    /// The process ended. What was observed is in its files.
+    ///
+    /// # Errors
+    /// The first fault of the observer.
+    pub fn end(&mut self) -> Result<(), WatchFault>
+        ensures ends { OnOk result (O.ends self.old.observer self.new.observer) }
+        ensures line { self.new.line ≡ self.old.line }
     {
-        self.observer
+        self.observer.end()
     }
 }
 

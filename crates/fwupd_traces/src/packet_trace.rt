@@ -1,6 +1,6 @@
 //! Writes the packets of a process when they are sent or received.
 
-ghost use Rattle.std.specs.Prelude.{◌≡◌, ◌⊎◌, IfErr, IfOk, IfSome, None, OnOk, Some};
+ghost use Rattle.std.specs.Prelude.{◌≡◌, ◌⊎◌, IfErr, IfOk, None, OnOk};
 ghost use Rattle.std.specs.Io.Buffered.{writer_buffer};
 ghost use Rattle.std.specs.Io.KnownBytes.{Appends};
 ghost use Rattle.exch_lane.specs.Steps.{sent_at};
@@ -193,26 +193,10 @@ impl<W: Write + Drop> PacketTrace<W> {
             Err(_) => self.fault = Some(WatchFault::Trace),
         }
     }
-
-    /// Puts all that is written into the file.
-    ///
-    /// # Errors
-    /// The first fault: `Trace` if something couldn't be written, and `Memory`.
-    pub fn end(&mut self) -> Result<(), WatchFault>
-        ensures kept { OnOk result (KeepsTrace self.old self.new) }
-        ensures whole { OnOk result (self.new.fault ≡ None) }
-        ensures fault { IfErr result (λ e. self.new.fault ≡ Some e) }
-    {
-        self.flush();
-        match self.fault {
-            Some(fault) => Err(fault),
-            None => Ok(()),
-        }
-    }
 }
 
 impl<W: Write + Drop> PacketObserver for PacketTrace<W> {
-    ghost use Rattle.fwupd_traces.specs.Traces.{KeepsTrace, TracesPacket};
+    ghost use Rattle.fwupd_traces.specs.Traces.{EndsTrace, KeepsTrace, TracesPacket};
 
     ghost receives = { λ s p t. TracesPacket s p t };
 
@@ -221,6 +205,8 @@ impl<W: Write + Drop> PacketObserver for PacketTrace<W> {
     ghost begins = { λ s unit t. t ≡ s };
 
     ghost begins_round = { λ s unit t. KeepsTrace s t };
+
+    ghost ends = { λ s t. EndsTrace s t };
 
     fn begin(&mut self, _unit: u32) {}
 
@@ -234,5 +220,13 @@ impl<W: Write + Drop> PacketObserver for PacketTrace<W> {
 
     fn send(&mut self, unit: u32, packet: &RawPacket) {
         self.see(unit, packet.as_slice());
+    }
+
+    fn end(&mut self) -> Result<(), WatchFault> {
+        self.flush();
+        match self.fault {
+            Some(fault) => Err(fault),
+            None => Ok(()),
+        }
     }
 }

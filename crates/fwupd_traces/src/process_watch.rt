@@ -1,9 +1,6 @@
 //! All that observes a process: its trace, its record, and its progress, each if it is requested.
 
-ghost use Rattle.std.specs.Prelude.{◌≡◌, Err, IfErr, IfSome, None, OnOk};
-ghost use Rattle.fwupd_traces.specs.Records.{EndsRecord};
-ghost use Rattle.fwupd_traces.specs.Traces.{KeepsTrace};
-ghost use Rattle.fwupd_traces.specs.Watches.{Optional};
+ghost use Rattle.std.specs.Prelude.{◌≡◌, ◌×◌, Err, IfErr, Ok, OnOk};
 
 use crate::node_record::NodeRecord;
 use crate::observed_line::PacketObserver;
@@ -33,31 +30,11 @@ pub struct ProcessWatch<W: Write + Drop, P: PacketObserver + Drop> {
     pub progress: Option<P>,
 }
 
-/// Ends a trace, if there is one.
-fn end_trace<W: Write + Drop>(trace: &mut Option<PacketTrace<W>>) -> Result<(), WatchFault>
-    ensures whole { OnOk result (IfSome trace.new (λ t. t.fault ≡ None)) }
-    ensures kept { OnOk result (Optional (λ s u t. KeepsTrace s t) trace.old tt trace.new) }
-{
-    match trace {
-        Some(trace) => trace.end(),
-        None => Ok(()),
-    }
-}
-
-/// Ends a record, if there is one.
-fn end_record<W: Write + Drop>(record: &mut Option<NodeRecord<W>>) -> Result<(), WatchFault>
-    ensures text { OnOk result (Optional (λ s u t. EndsRecord s t) record.old tt record.new) }
-{
-    match record {
-        Some(record) => record.end(),
-        None => Ok(()),
-    }
-}
-
 /// The first of two faults, if there is one.
 fn first_of(one: Result<(), WatchFault>, other: Result<(), WatchFault>) -> Result<(), WatchFault>
     ensures one { IfErr one (λ e. result ≡ Err e) }
     ensures other { OnOk one (result ≡ other) }
+    ensures both { OnOk result ((one ≡ Ok tt) × (other ≡ Ok tt)) }
 {
     match one {
         Ok(()) => other,
@@ -65,26 +42,10 @@ fn first_of(one: Result<(), WatchFault>, other: Result<(), WatchFault>) -> Resul
     }
 }
 
-impl<W: Write + Drop, P: PacketObserver + Drop> ProcessWatch<W, P> {
-    /// Puts all that is written into the files.
-    ///
-    /// # Errors
-    /// The first fault of the trace, or else of the record.
-    pub fn end(&mut self) -> Result<(), WatchFault>
-        ensures traced { OnOk result (IfSome self.new.trace (λ t. t.fault ≡ None)) }
-        ensures kept { OnOk result (Optional (λ s u t. KeepsTrace s t) self.old.trace tt self.new.trace) }
-        ensures recorded { OnOk result (Optional (λ s u t. EndsRecord s t) self.old.record tt self.new.record) }
-    {
-        let traced = end_trace(&mut self.trace);
-        let recorded = end_record(&mut self.record);
-        first_of(traced, recorded)
-    }
-}
-
 impl<W: Write + Drop, P: PacketObserver + Drop> PacketObserver for ProcessWatch<W, P> {
     ghost use Rattle.std.specs.Prelude.{◌≡◌, ◌×◌};
-    ghost use Rattle.fwupd_traces.specs.Records.{RecordsPacket, RecordsUnits};
-    ghost use Rattle.fwupd_traces.specs.Traces.{KeepsTrace, TracesPacket};
+    ghost use Rattle.fwupd_traces.specs.Records.{EndsRecord, RecordsPacket, RecordsUnits};
+    ghost use Rattle.fwupd_traces.specs.Traces.{EndsTrace, KeepsTrace, TracesPacket};
     ghost use Rattle.fwupd_traces.specs.Watches.{Optional};
 
     ghost receives = { λ s p t. Optional TracesPacket s.trace p t.trace
@@ -99,6 +60,10 @@ impl<W: Write + Drop, P: PacketObserver + Drop> PacketObserver for ProcessWatch<
 
     ghost begins_round = { λ s unit t. Optional (λ q u r. KeepsTrace q r) s.trace unit t.trace
         × (Optional RecordsUnits s.record unit t.record × Optional P.begins_round s.progress unit t.progress) };
+
+    ghost ends = { λ s t. Optional (λ q u r. EndsTrace q r) s.trace tt t.trace
+        × (Optional (λ q u r. EndsRecord q r) s.record tt t.record
+        × Optional (λ p u q. P.ends p q) s.progress tt t.progress) };
 
     fn begin(&mut self, unit: u32) {
         self.record.begin(unit);
@@ -120,5 +85,12 @@ impl<W: Write + Drop, P: PacketObserver + Drop> PacketObserver for ProcessWatch<
     fn send(&mut self, unit: u32, packet: &RawPacket) {
         self.trace.send(unit, packet);
         self.progress.send(unit, packet);
+    }
+
+    fn end(&mut self) -> Result<(), WatchFault> {
+        let traced = self.trace.end();
+        let recorded = self.record.end();
+        let shown = self.progress.end();
+        first_of(first_of(traced, recorded), shown)
     }
 }

@@ -6,6 +6,7 @@ pub mod Openings
 pub mod Outputs
 pub mod Paths
 pub mod Places
+pub mod Processes
 pub mod Progress
 pub mod Recordings
 pub mod Running

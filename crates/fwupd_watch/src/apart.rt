@@ -6,7 +6,7 @@ ghost use Rattle.fwupd_watch.specs.Files.{IsApartFrom, IsOver};
 ghost use Rattle.fwupd_watch.specs.Histories.{HasNoLines};
 ghost use Rattle.fwupd_watch.specs.Recordings.{IsNewRecording};
 ghost use Rattle.fwupd_watch.specs.Running.{HasObserverFault, show_of, shown_of};
-ghost use Rattle.fwupd_watch.specs.Apart.{IsApart, IsApartFromUsed, IsBarred, IsInStore, IsOutOfStore, IsOverUsed};
+ghost use Rattle.fwupd_watch.specs.Apart.{IsApart, IsApartFromUsed, IsBarred, IsInStore, IsOutOfStore, IsOverRead, IsOverUsed};
 
 use crate::faults::JobFault;
 use crate::files::{Files, is_read, is_same_file};
@@ -106,26 +106,23 @@ fn is_barred<F: Files>(
     is_in_store(alloc, files, path, store)
 }
 
-/// Begins an observer after checking its outputs: none may overwrite an input or another output, or
+/// Checks the outputs of a run or of a process: none may overwrite an input or another output, or
 /// be in a store.
-pub fn begin_apart<F: Files, V: Observer>(
+///
+/// # Errors
+/// `Trace`, `Log` or `Record` for the first that may, in this order; `Memory` if memory is refused.
+pub fn check_apart<F: Files>(
     alloc: Global,
     files: &F,
     config: &str,
     packages: &[String],
     show: Show<'_>,
-    watch: &mut V,
 ) -> Result<(), JobFault>
-    ensures shows { OnOk result ((V.watched watch.new).shows ≡ shown_of (show_of show.entry)) }
-    ensures anew { OnOk result (((V.watched watch.new).seen ≡ 0) × ((V.watched watch.new).lost ≡ None)) }
-    ensures recording { OnOk result (IfSome (V.watched watch.new).recording IsNewRecording) }
-    ensures history { OnOk result (IfSome (V.watched watch.new).history HasNoLines) }
     ensures apart { OnOk result (IsApart (F.holds files.now) (show_of show.entry)
         (config.now ∷ map (λ p. string_bytes p) packages.now)) }
-    ensures untouched { IfErr result (λ e. (watch.new ≡ watch.old) ⊎ HasObserverFault e (V.watched watch.new).fault) }
     ensures fault { IfErr result (λ e. (e ≡ JobFault.Memory)
-        ⊎ IsBarred (F.holds files.now) (V.refuses watch.old) (show_of show.entry)
-        (config.now ∷ map (λ p. string_bytes p) packages.now) e (V.watched watch.new)) }
+        ⊎ IsOverRead (F.holds files.now) (show_of show.entry)
+        (config.now ∷ map (λ p. string_bytes p) packages.now) e) }
 {
     let store = show.store;
     match is_barred(
@@ -155,6 +152,34 @@ pub fn begin_apart<F: Files, V: Observer>(
         Ok(false) => {}
         Ok(true) => return Err(JobFault::Record),
         Err(_) => return Err(JobFault::Memory),
+    }
+    Ok(())
+}
+
+/// Begins an observer after checking its outputs: none may overwrite an input or another output, or
+/// be in a store.
+pub fn begin_apart<F: Files, V: Observer>(
+    alloc: Global,
+    files: &F,
+    config: &str,
+    packages: &[String],
+    show: Show<'_>,
+    watch: &mut V,
+) -> Result<(), JobFault>
+    ensures shows { OnOk result ((V.watched watch.new).shows ≡ shown_of (show_of show.entry)) }
+    ensures anew { OnOk result (((V.watched watch.new).seen ≡ 0) × ((V.watched watch.new).lost ≡ None)) }
+    ensures recording { OnOk result (IfSome (V.watched watch.new).recording IsNewRecording) }
+    ensures history { OnOk result (IfSome (V.watched watch.new).history HasNoLines) }
+    ensures apart { OnOk result (IsApart (F.holds files.now) (show_of show.entry)
+        (config.now ∷ map (λ p. string_bytes p) packages.now)) }
+    ensures untouched { IfErr result (λ e. (watch.new ≡ watch.old) ⊎ HasObserverFault e (V.watched watch.new).fault) }
+    ensures fault { IfErr result (λ e. (e ≡ JobFault.Memory)
+        ⊎ IsBarred (F.holds files.now) (V.refuses watch.old) (show_of show.entry)
+        (config.now ∷ map (λ p. string_bytes p) packages.now) e (V.watched watch.new)) }
+{
+    match check_apart(alloc, files, config, packages, show) {
+        Ok(()) => {}
+        Err(fault) => return Err(fault),
     }
     match watch.begin(show) {
         Ok(()) => Ok(()),

@@ -69,7 +69,7 @@ fn asked(packets: &SentPackets<'_>, device: u8) -> u32
 ///
 /// # Errors
 /// `AllocError` if memory is refused.
-fn progress_line(
+pub(crate) fn progress_line(
     alloc: Global,
     device: u8,
     key: Key,

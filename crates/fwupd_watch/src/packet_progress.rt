@@ -1,0 +1,252 @@
+//! Shows the progress of a process on a terminal, by the packets of its line.
+
+ghost use Rattle.std.specs.Prelude.{◌≡◌, IfOk, Option, Some, drop, codes, ◌++◌};
+ghost use Rattle.fwupd_watch.specs.Processes.{load_line};
+
+use crate::progress::progress_line;
+use crate::terminal::{erase, is_due};
+use fwup_wire::{Command, Key};
+use fwup_wire::code::command;
+use fw_text::{push_number, push_words};
+use fwupd_traces::{PacketObserver, WatchFault};
+use mctp_wire::{RawPacket, Unit};
+use pldm_base::TYPE_FIRMWARE_UPDATE;
+use std::alloc::{AllocError, Global};
+use std::io::Print;
+use std::time::Instant;
+
+/// The number of endpoint identifiers.
+const EIDS: usize = 256;
+
+/// An image that a device loads: for which component, the end of the bytes that it requested last,
+/// and the image's size in bytes.
+#[derive(Clone, Copy)]
+struct Load {
+    device: u8,
+    key: Key,
+    asked: u32,
+    size: u32,
+}
+
+/// What a packet says of an update.
+#[derive(Clone, Copy)]
+enum Event {
+    /// The agent has a device load an image (UpdateComponent).
+    Offers(Load),
+    /// A device requests bytes of its image up to an end (RequestFirmwareData).
+    Asks(u8, u32),
+    /// A device activated its images (the answer to ActivateFirmware).
+    Activates(u8),
+}
+
+/// The offer in the request data of UpdateComponent (DSP0267): the component's classification and
+/// identifier, its classification index, its comparison stamp, and the size of its image.
+fn offered(device: u8, fields: &[u8]) -> Option<Event> {
+    let [
+        class_low,
+        class_high,
+        ident_low,
+        ident_high,
+        _,
+        _,
+        _,
+        _,
+        _,
+        size_0,
+        size_1,
+        size_2,
+        size_3,
+        ..,
+    ] = fields else {
+        return None;
+    };
+    Some(Event::Offers(Load {
+        device,
+        key: Key {
+            classification: u16::from_le_bytes([*class_low, *class_high]),
+            identifier: u16::from_le_bytes([*ident_low, *ident_high]),
+        },
+        asked: 0,
+        size: u32::from_le_bytes([*size_0, *size_1, *size_2, *size_3]),
+    }))
+}
+
+/// The end of the bytes that a device's RequestFirmwareData requests.
+fn asked(device: u8, fields: &[u8]) -> Option<Event> {
+    match fwup_wire::read(command::REQUEST_FIRMWARE_DATA, fields) {
+        Ok(Command::RequestFirmwareData { offset, length }) => {
+            Some(Event::Asks(device, offset.saturating_add(length)))
+        }
+        _ => None,
+    }
+}
+
+/// What a packet says of an update, if it says something of it.
+fn event_in(packet: &[u8]) -> Option<Event> {
+    let Ok(packet) = mctp_wire::decode(Unit::U128, packet) else {
+        return None;
+    };
+    let Ok((head, fields)) = pldm_base::decode(packet.body) else {
+        return None;
+    };
+    if head.pldm_type != TYPE_FIRMWARE_UPDATE {
+        return None;
+    }
+    match (head.rq, head.command) {
+        (true, command::UPDATE_COMPONENT) => offered(packet.head.dest, fields),
+        (true, command::REQUEST_FIRMWARE_DATA) => asked(packet.head.source, fields),
+        (false, command::ACTIVATE_FIRMWARE) => match fields {
+            [0, ..] => Some(Event::Activates(packet.head.source)),
+            _ => None,
+        },
+        _ => None,
+    }
+}
+
+/// The line of a device that loads an image. For the agent, the number of its devices that are
+/// done, and of all of them, is before it.
+///
+/// # Errors
+/// `AllocError` if memory is refused.
+fn load_line(
+    alloc: Global,
+    done: Option<(usize, usize)>,
+    load: &Load,
+) -> Result<Vec<u8>, AllocError>
+    ensures { IfOk result (λ line. line.items ≡ load_line done load.now) }
+{
+    let loads = progress_line(alloc, load.device, load.key, load.asked, load.size)?;
+    let Some((done, all)) = done else {
+        return Ok(loads);
+    };
+    let mut line = Vec::new(alloc);
+    push_number(alloc, &mut line, "\r", done)?;
+    push_number(alloc, &mut line, "/", all)?;
+    push_words(&mut line, " done, ")?;
+    line.extend_from_slice(loads.get(1..).unwrap_or(&[]))?;
+    Ok(line)
+}
+
+/// Shows on standard error the image that was requested last, at most ten times a second; for the
+/// agent, also how many of its devices activated theirs.
+#[derive(Drop)]
+pub struct PacketProgress<'a> {
+    rt: &'a HostRuntime,
+    /// The number of the agent's devices. `None` for a device.
+    all: Option<usize>,
+    /// The image that each device loads, by its endpoint identifier.
+    loads: Vec<Option<Load>>,
+    /// The devices that activated their images.
+    done: Vec<u8>,
+    /// The image that was requested last.
+    latest: Option<Load>,
+    shown: Option<Instant>,
+}
+
+impl<'a> PacketProgress<'a> {
+    /// Creates the progress of the agent, with the number of its devices, or of a device. It shows
+    /// nothing yet.
+    ///
+    /// # Errors
+    /// `AllocError` if memory is refused.
+    pub fn new(rt: &'a HostRuntime, all: Option<usize>) -> Result<PacketProgress<'a>, AllocError> {
+        let alloc = rt.alloc();
+        let mut loads = Vec::with_capacity(alloc, EIDS)?;
+        for _ in 0..EIDS {
+            loads.push(None)?;
+        }
+        Ok(PacketProgress {
+            rt,
+            all,
+            loads,
+            done: Vec::with_capacity(alloc, EIDS)?,
+            latest: None,
+            shown: None,
+        })
+    }
+
+    /// A packet came or is sent.
+    fn note(&mut self, packet: &[u8]) {
+        match event_in(packet) {
+            Some(Event::Offers(load)) => {
+                if let Some(place) = self.loads.get_mut(usize::from(load.device)) {
+                    *place = Some(load);
+                }
+            }
+            Some(Event::Asks(device, end)) => self.note_asked(device, end),
+            Some(Event::Activates(device)) => {
+                if !self.done.contains(&device) {
+                    let _ = self.done.push(device);
+                }
+            }
+            None => {}
+        }
+    }
+
+    /// A device requested bytes of its image up to an end.
+    fn note_asked(&mut self, device: u8, end: u32) {
+        if let Some(Some(load)) = self.loads.get_mut(usize::from(device)) {
+            load.asked = end;
+            self.latest = Some(*load);
+        }
+    }
+
+    /// The current time, if the display is due for an update.
+    fn due(&self) -> Option<Instant> {
+        let Ok(now) = Instant::now(self.rt) else {
+            return None;
+        };
+        match self.shown {
+            Some(shown) if !is_due(Some(now.duration_since(shown))) => None,
+            _ => Some(now),
+        }
+    }
+
+    /// Shows the progress, if something was requested since, and the display is due for an update.
+    fn show(&mut self) {
+        let (Some(load), Some(now)) = (self.latest, self.due()) else {
+            return;
+        };
+        let done = match self.all {
+            Some(all) => Some((self.done.len(), all)),
+            None => None,
+        };
+        let Ok(line) = load_line(self.rt.alloc(), done, &load) else {
+            return;
+        };
+        let _ = self.rt.stderr().write_all(&line);
+        self.latest = None;
+        self.shown = Some(now);
+    }
+}
+
+impl<'a> PacketObserver for PacketProgress<'a> {
+    ghost receives = { λ s p t. Prim.Unit {0} };
+
+    ghost sends = { λ s p t. Prim.Unit {0} };
+
+    ghost begins = { λ s unit t. Prim.Unit {0} };
+
+    ghost begins_round = { λ s unit t. Prim.Unit {0} };
+
+    ghost ends = { λ s t. Prim.Unit {0} };
+
+    fn begin(&mut self, _unit: u32) {}
+
+    fn begin_round(&mut self, _unit: u32) {
+        self.show();
+    }
+
+    fn receive(&mut self, _stamp: u32, packet: &RawPacket) {
+        self.note(packet.as_slice());
+    }
+
+    fn send(&mut self, _unit: u32, packet: &RawPacket) {
+        self.note(packet.as_slice());
+    }
+
+    fn end(&mut self) -> Result<(), WatchFault> {
+        let _ = erase(&mut self.rt.stderr(), self.shown.is_some());
+        Ok(())
+    }
+}
