@@ -14,8 +14,8 @@ unfoldable pub ticks_line : ℕ → List ℕ
 ticks_line n = if n == 0 then [] else word_and_number (codes "tick ") n ++ codes "\n"
 
 -- a packet
-unfoldable pub packet_line : List ℕ → List ℕ
-packet_line bytes = encode_upper bytes ++ codes "\n"
+unfoldable pub digits_line : List ℕ → List ℕ
+digits_line bytes = encode_upper bytes ++ codes "\n"
 
 -- the start of a device's update with a package
 unfoldable pub start_line : (number eid : ℕ) → List ℕ
@@ -44,7 +44,7 @@ advanced_held held units = if nat_le units 40 then (if nat_le (held + units) 960
 
 -- what is written of what is done with a packet, after the ticks that are held back
 abbrev pub deed_text : (held : ℕ) → Deed → List ℕ
-deed_text held (Deed.Receives p) = ticks_line held ++ packet_line p.bytes
+deed_text held (Deed.Receives p) = ticks_line held ++ digits_line p.bytes
 deed_text held d = []
 
 abbrev pub deed_held : (held : ℕ) → Deed → ℕ
@@ -65,18 +65,18 @@ units_to s p = p.date - s.unit
 
 -- A packet came: the process goes on to the unit of its stamp, if it isn't there, and receives it,
 -- if it is timely. A stamp that is too far ahead isn't followed.
-abbrev pub packet_text : NodeRecordOf → Sent → List ℕ
-packet_text s p =
+abbrev pub came_text : NodeRecordOf → Sent → List ℕ
+came_text s p =
     if nat_le p.date (s.unit + 2 ^ 20)
     then advanced_text s.held (units_to s p) ++ deed_text (advanced_held s.held (units_to s p)) (deed_with (s.unit + units_to s p) p)
     else []
 
-abbrev pub packet_held : NodeRecordOf → Sent → ℕ
-packet_held s p =
+abbrev pub came_held : NodeRecordOf → Sent → ℕ
+came_held s p =
     if nat_le p.date (s.unit + 2 ^ 20) then deed_held (advanced_held s.held (units_to s p)) (deed_with (s.unit + units_to s p) p) else s.held
 
-abbrev pub packet_unit : NodeRecordOf → Sent → ℕ
-packet_unit s p = if nat_le p.date (s.unit + 2 ^ 20) then s.unit + units_to s p else s.unit
+abbrev pub came_unit : NodeRecordOf → Sent → ℕ
+came_unit s p = if nat_le p.date (s.unit + 2 ^ 20) then s.unit + units_to s p else s.unit
 
 -- RECORDING
 
@@ -88,9 +88,9 @@ pub record HasRecordedUnits (s : NodeRecordOf) (unit : ℕ) (t : NodeRecordOf) :
 
 -- a packet is
 pub record HasRecordedPacket (s : NodeRecordOf) (p : Sent) (t : NodeRecordOf) : Type 0 where
-  pub text : Appends s.text t.text (packet_text s p)
-  pub held : t.held ≡ packet_held s p
-  pub counted : t.unit ≡ packet_unit s p
+  pub text : Appends s.text t.text (came_text s p)
+  pub held : t.held ≡ came_held s p
+  pub counted : t.unit ≡ came_unit s p
 
 -- They are, unless there is a fault.
 pub record RecordsUnits (s : NodeRecordOf) (unit : ℕ) (t : NodeRecordOf) : Type 0 where

@@ -11,5 +11,5 @@ mod process_watch;
 pub use node_record::{NodeRecord, Starts};
 pub use observed_line::{ObservedLine, PacketObserver};
 pub use packet_lines::{TracedNode, device_of_packet, is_to_agent, push_packet_line};
-pub use packet_trace::PacketTrace;
+pub use packet_trace::{PacketTrace, trace_head};
 pub use process_watch::{ProcessWatch, WatchFault};

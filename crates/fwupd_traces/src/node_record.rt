@@ -4,7 +4,7 @@ ghost use Rattle.std.specs.Prelude.{◌≡◌, ◌⊎◌, ◌<◌, ◌≤◌, �
 ghost use Rattle.std.specs.Io.KnownBytes.{Appends};
 ghost use Rattle.exch_lane.specs.Steps.{sent_at};
 ghost use Rattle.fw_text.specs.Printing.{AppendsText};
-ghost use Rattle.fwupd_traces.specs.Records.{HasRecordedPacket, HasRecordedUnits, RecordsPacket, RecordsUnits, advanced_held, advanced_text, beginning_of, packet_held, packet_line, packet_text, packet_unit, start_line, starts_text, ticks_line};
+ghost use Rattle.fwupd_traces.specs.Records.{HasRecordedPacket, HasRecordedUnits, RecordsPacket, RecordsUnits, advanced_held, advanced_text, beginning_of, came_held, digits_line, came_text, came_unit, start_line, starts_text, ticks_line};
 
 use crate::observed_line::PacketObserver;
 use crate::process_watch::WatchFault;
@@ -49,7 +49,7 @@ fn push_ticks(alloc: Global, text: &mut Vec<u8>, count: u32) -> Result<(), Alloc
 
 /// Appends the line of a packet.
 fn push_packet(alloc: Global, text: &mut Vec<u8>, bytes: &[u8]) -> Result<(), AllocError>
-    ensures { OnOk result (AppendsText text.old.items text.new.items (packet_line bytes.now)) }
+    ensures { OnOk result (AppendsText text.old.items text.new.items (digits_line bytes.now)) }
 {
     push_words(text, &hex::encode_upper(alloc, bytes)?)?;
     push_words(text, "\n")?;
@@ -189,9 +189,9 @@ impl<W: Write + Drop> NodeRecord<W> {
     /// A packet is received, if it is timely, after the units up to its stamp.
     fn accept(&mut self, text: &mut Vec<u8>, stamp: u32, bytes: &[u8]) -> Result<(), AllocError>
         ensures text { OnOk result (AppendsText text.old.items text.new.items
-            (packet_text self.old (sent_at stamp bytes.now))) }
-        ensures held { OnOk result (self.new.held ≡ packet_held self.old (sent_at stamp bytes.now)) }
-        ensures unit { OnOk result (self.new.unit ≡ packet_unit self.old (sent_at stamp bytes.now)) }
+            (came_text self.old (sent_at stamp bytes.now))) }
+        ensures held { OnOk result (self.new.held ≡ came_held self.old (sent_at stamp bytes.now)) }
+        ensures unit { OnOk result (self.new.unit ≡ came_unit self.old (sent_at stamp bytes.now)) }
         ensures written { self.new.text ≡ self.old.text }
         ensures fault { self.new.fault ≡ self.old.fault }
     {

@@ -48,8 +48,8 @@ impl<W: Write + Drop> Model for PacketTrace<W> {
     } };
 }
 
-/// The beginning of a trace.
-fn head(form: TraceForm) -> &'static [u8]
+/// Returns the beginning of a trace.
+pub fn trace_head(form: TraceForm) -> &'static [u8]
     ensures { result.now ≡ head_of form }
 {
     match form {
@@ -127,7 +127,7 @@ impl<W: Write + Drop> PacketTrace<W> {
         let Ok(mut writer) = BufWriter::new(alloc, writer) else {
             return Err(WatchFault::Memory);
         };
-        match writer.write_all(head(form)) {
+        match writer.write_all(trace_head(form)) {
             Ok(()) => {}
             Err(_) => return Err(WatchFault::Trace),
         }

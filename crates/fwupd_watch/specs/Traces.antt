@@ -3,32 +3,13 @@ use Rattle.std.specs.Prelude.{ℕ, zero, suc, ◌≡◌, ◌<◌, ◌+◌, ◌==
 use Rattle.std.specs.Io.KnownBytes.{Appends}
 use Rattle.exch_lane.specs.Lanes.{Sent}
 use Rattle.fw_edge.specs.Ledgers.{packet_counts}
-use Rattle.fw_text.specs.Printing.{word_and_number}
-use Rattle.fw_trace.specs.Captures.{CapturedOf, capture_header, capture_record}
+use Rattle.fw_trace.specs.Captures.{capture_record}
 use Rattle.fw_trace.specs.Lines.{ReaderOf, SentOf, lines_of, new_reader, packet_line, reader_after}
 use Rattle.fw_steps.specs.Worlds.{SiteOf, WorldOf}
+use Rattle.fwupd_traces.specs.PacketLines.{trace_line}
+use Rattle.fwupd_traces.specs.Traces.{captured_as, head_of}
 use Rattle.fwupd_words.specs.declared.asked.TraceForm.{TraceForm}
 use Rattle.fwupd_words.specs.declared.asked.TraceForm.TheVariants as forms
-use Rattle.hex.specs.Hex.{encode_upper}
-
--- a packet goes to the agent: its third byte is its source
-abbrev pub is_to_agent : (device : ℕ) → List ℕ → Bool
-is_to_agent device (version ∷ dest ∷ source ∷ rest) = source == device
-is_to_agent device bytes = false
-
--- the direction of a packet
-abbrev pub way_of : (device : ℕ) → List ℕ → List ℕ
-way_of device bytes = if is_to_agent device bytes then codes " to-agent " else codes " to-device "
-
--- a packet's line: the tick of sending, the device of its pair, its direction, and its bytes in
--- digits
-unfoldable pub trace_line : (device : ℕ) → Sent → List ℕ
-trace_line device p =
-    word_and_number [] p.date ++ word_and_number (codes " ") device ++ way_of device p.bytes ++ encode_upper p.bytes ++ codes "\n"
-
--- a packet of a capture: what goes to a device is sent by us
-abbrev pub captured_as : (device : ℕ) → Sent → CapturedOf
-captured_as device p = record { turn = p.date; is_sent = not (is_to_agent device p.bytes); bytes = p.bytes }
 
 -- a packet in a format: decoded lines have the packet's number, and depend on the reader of the
 -- packets before it
@@ -42,12 +23,6 @@ abbrev pub reader_next : TraceForm → ReaderOf → Sent → ReaderOf
 reader_next forms.Hex reader p = reader
 reader_next forms.Text reader p = reader_after reader p.bytes
 reader_next forms.Capture reader p = reader
-
--- the beginning of a trace
-abbrev pub head_of : TraceForm → List ℕ
-head_of forms.Hex = []
-head_of forms.Text = []
-head_of forms.Capture = capture_header
 
 -- the text of packets numbered from `number`
 abbrev pub trace_text : TraceForm → ReaderOf → (device number : ℕ) → List Sent → List ℕ

@@ -7,14 +7,15 @@ ghost use Rattle.fw_edge.specs.Ledgers.{packet_counts};
 ghost use Rattle.fw_text.specs.Printing.{AppendsText};
 ghost use Rattle.fw_steps.specs.Packets.{sent_of};
 ghost use Rattle.fw_steps.specs.Worlds.{WorldOf};
-ghost use Rattle.fwupd_watch.specs.Traces.{ContinuesPairsIfAny, HasReadWorlds, HasTracedWorlds, ReadOn, head_of, is_to_agent, packet_text, pair_text, pairs_text, reader_next, reader_of_pair, reader_past, readers_for, trace_line, trace_text, way_of, written_at as written_of};
+ghost use Rattle.fwupd_traces.specs.Traces.{head_of};
+ghost use Rattle.fwupd_watch.specs.Traces.{ContinuesPairsIfAny, HasReadWorlds, HasTracedWorlds, ReadOn, packet_text, pair_text, pairs_text, reader_next, reader_of_pair, reader_past, readers_for, trace_text, written_at as written_of};
 
 use crate::running::ObserverFault;
 use arrayvec::ArrayVec;
 use fd_core::Bank;
-use fw_text::{push_number, push_words};
-use fw_trace::{PacketReader, capture_header, push_capture};
+use fw_trace::{PacketReader, push_capture};
 use fw_world::{DatedPacket, SentPackets, World};
+use fwupd_traces::{is_to_agent, push_packet_line, trace_head};
 use fwupd_words::TraceForm;
 use std::alloc::{AllocError, Global};
 use std::io::{BufWriter, Write};
@@ -29,46 +30,6 @@ pub struct Trace<W: Write + Drop> {
     written: ArrayVec<usize, 16>,
     /// The reader of each pair's packets.
     readers: Vec<PacketReader>,
-}
-
-/// Whether a packet goes to the agent, by its third byte.
-fn is_to_agent(device: u8, bytes: &[u8]) -> bool
-    ensures { result ≡ is_to_agent device bytes.now }
-{
-    match bytes {
-        [_, _, source, ..] => *source == device,
-        _ => false,
-    }
-}
-
-/// The direction of a packet.
-fn way(device: u8, bytes: &[u8]) -> &'static str
-    ensures { result.now ≡ way_of device bytes.now }
-{
-    if is_to_agent(device, bytes) {
-        " to-agent "
-    } else {
-        " to-device "
-    }
-}
-
-/// Appends a packet's line: the tick, the device of the pair, `to-device` or `to-agent`, and the
-/// packet in upper-case digits.
-#[tactic(auto, unfolding(crate::specs::Traces::trace_line))]
-fn push_line(
-    alloc: Global,
-    text: &mut Vec<u8>,
-    device: u8,
-    packet: &DatedPacket<'_>,
-) -> Result<(), AllocError>
-    ensures { OnOk result (AppendsText text.old.items text.new.items (trace_line device (sent_of packet.now))) }
-{
-    push_number(alloc, text, "", packet.date as usize)?;
-    push_number(alloc, text, " ", usize::from(device))?;
-    push_words(text, way(device, packet.bytes))?;
-    push_words(text, &hex::encode_upper(alloc, packet.bytes)?)?;
-    push_words(text, "\n")?;
-    Ok(())
 }
 
 /// Appends a packet in a format, with its number, from 1. `reader` has read the packets before it,
@@ -87,22 +48,12 @@ fn push_packet(
     ensures after { OnOk result (reader.new ≡ reader_next form reader.old (sent_of packet.now)) }
 {
     match form {
-        TraceForm::Hex => push_line(alloc, text, device, packet),
+        TraceForm::Hex => push_packet_line(alloc, text, device, packet.date, packet.bytes),
         TraceForm::Text => reader.push_line(alloc, text, packet.date, number, packet.bytes),
         TraceForm::Capture => {
             let is_sent = !is_to_agent(device, packet.bytes);
             push_capture(text, packet.date, is_sent, packet.bytes)
         }
-    }
-}
-
-/// The beginning of a trace.
-fn head(form: TraceForm) -> &'static [u8]
-    ensures { result.now ≡ head_of form }
-{
-    match form {
-        TraceForm::Hex | TraceForm::Text => &[],
-        TraceForm::Capture => capture_header(),
     }
 }
 
@@ -258,7 +209,7 @@ impl<W: Write + Drop> Trace<W> {
         let Ok(mut writer) = BufWriter::new(alloc, writer) else {
             return Err(ObserverFault::Memory);
         };
-        match writer.write_all(head(form)) {
+        match writer.write_all(trace_head(form)) {
             Ok(()) => {}
             Err(_) => return Err(ObserverFault::Unwritten),
         }
