@@ -1,7 +1,7 @@
 //! The system's sockets and serial lines, and its clock.
 
-use crate::sockets::{explain_socket, socket_path};
 use crate::process_files::{open_progress, open_record, open_trace};
+use crate::sockets::{explain_socket, socket_path};
 use crate::wiring::{Joined, Network, Observed, Wiring};
 use fwupd_traces::ProcessWatch;
 use fwupd_watch::{JobFault, PacketProgress, explains};

@@ -61,12 +61,7 @@ fn push_packet(alloc: Global, text: &mut Vec<u8>, bytes: &[u8]) -> Result<(), Al
 
 /// Appends the line of the start of an update.
 #[tactic(auto, unfolding(crate::specs::Records::start_line))]
-fn push_start(
-    alloc: Global,
-    text: &mut Vec<u8>,
-    number: usize,
-    eid: u8,
-) -> Result<(), AllocError>
+fn push_start(alloc: Global, text: &mut Vec<u8>, number: usize, eid: u8) -> Result<(), AllocError>
     ensures { OnOk result (AppendsText text.old.items text.new.items (start_line number eid)) }
 {
     push_number(alloc, text, "start ", usize::from(eid))?;
