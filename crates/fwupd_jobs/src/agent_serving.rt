@@ -376,9 +376,9 @@ fn serve_packages<H: Parts>(
 /// # Errors
 /// The first fault, in this order: of the configuration; `Trace`, `Log` and `Record` if these files
 /// would overwrite it, a package or each other, or be in a store; of each of its packages; `Store`
-/// if the agent's store can't be opened; `Trace` and `Record` if these files can't be made; `Tty` if
-/// the serial line can't be opened; `NoPackage` if it has no package of the number; `Unkept` if its
-/// store can't be written; `Log` and `Output` if the records or the report can't be written;
+/// if the agent's store can't be opened; `Trace` and `Record` if these files can't be made; `Tty`
+/// if the serial line can't be opened; `NoPackage` if it has no package of the number; `Unkept` if
+/// its store can't be written; `Log` and `Output` if the records or the report can't be written;
 /// `Session`, if that check is requested, with the first session that isn't Done; and `Trace` and
 /// `Record` if something of these couldn't be written. `Memory` if memory is refused.
 pub fn run_agent<H: Parts>(
