@@ -11,9 +11,10 @@ abbrev pub agent_store_in : (is_known : Bool) → ((root : List ℕ) → Files) 
 agent_store_in true files root = Some (files root)
 agent_store_in false files root = None
 
--- The files, and the stores in each folder, with the agent's, if it is known; the folders and devices to which a link may fail to
--- open, and the traces that the observer may refuse; the input that isn't read yet; whether the
--- files made at places are known, and which these are; and the output.
+-- The files, and the stores in each folder, with the agent's, if it is known; the folders and
+-- devices to which a link may fail to open, and the traces that the observer may refuse; the input
+-- that isn't read yet; whether the files made at places are known, and which these are; and the
+-- output.
 pub record FoundOf : Type 0 where
   pub files : List ℕ → FileOf
   pub stores : (root : List ℕ) → StoresOf

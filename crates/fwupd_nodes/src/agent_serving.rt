@@ -26,7 +26,7 @@ use fw_script::{Config, session_of};
 use fw_serve::{AgentProcess, CallFault, ServedAgent, serve_agent_process};
 use fw_trace::log_bytes;
 use fwupd_base::Form;
-use fwupd_traces::{ObservedLine, PacketObserver, Starts, TracedNode};
+use fwupd_traces::{ObservedLine, PacketObserver, Starts, TracedNode, WatchFault};
 use fwupd_watch::{JobFault, OutputPlaces, process_fault, write_file};
 use std::alloc::{AllocError, Global};
 use std::io::Write;
@@ -191,6 +191,28 @@ fn end_agent<H: Parts>(
     all_done(agent)
 }
 
+/// Writes what is requested of an agent at the end, whose observer ended so.
+fn end_observed<H: Parts>(
+    alloc: Global,
+    job: &fwupd_words::AgentProcess<'_>,
+    agent: &ServedAgent<'_>,
+    watched: Result<(), WatchFault>,
+    host: &mut Host<H>,
+) -> Result<(), JobFault>
+    ensures written { OnOk result (WritesOutput host.old.output host.new.output
+        (agent_report_in job.now.form agent.now)) }
+    ensures untouched { host.new.watch ≡ host.old.watch }
+{
+    match end_agent(alloc, job, agent, host) {
+        Ok(()) => {}
+        Err(fault) => return Err(fault),
+    }
+    match watched {
+        Ok(()) => Ok(()),
+        Err(fault) => Err(process_fault(fault)),
+    }
+}
+
 /// An agent as a process that is observed.
 fn observed(network: Network, number: usize, eids: &[u8]) -> Observed<'_> {
     Observed {
@@ -229,14 +251,7 @@ fn serve_agent<'p, 'e, K: AgentKeeper + Drop, H: Parts>(
         Ok(process) => process,
         Err(fault) => return Err(fault),
     };
-    match end_agent(alloc, job, process.agent(), host) {
-        Ok(()) => {}
-        Err(fault) => return Err(fault),
-    }
-    match watched {
-        Ok(()) => Ok(()),
-        Err(fault) => Err(process_fault(fault)),
-    }
+    end_observed(alloc, job, process.agent(), watched, host)
 }
 
 /// Serves a new agent, of which nothing is kept.
@@ -361,9 +376,9 @@ fn serve_packages<H: Parts>(
 /// # Errors
 /// The first fault, in this order: of the configuration; `Trace`, `Log` and `Record` if these files
 /// would overwrite it, a package or each other, or be in a store; of each of its packages; `Store`
-/// if the agent's store can't be opened; `Trace` and `Record` if these files can't be made; `Tty` if
-/// the serial line can't be opened; `NoPackage` if it has no package of the number; `Unkept` if its
-/// store can't be written; `Log` and `Output` if the records or the report can't be written;
+/// if the agent's store can't be opened; `Trace` and `Record` if these files can't be made; `Tty`
+/// if the serial line can't be opened; `NoPackage` if it has no package of the number; `Unkept` if
+/// its store can't be written; `Log` and `Output` if the records or the report can't be written;
 /// `Session`, if that check is requested, with the first session that isn't Done; and `Trace` and
 /// `Record` if something of these couldn't be written. `Memory` if memory is refused.
 pub fn run_agent<H: Parts>(

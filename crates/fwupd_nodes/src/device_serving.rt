@@ -185,11 +185,11 @@ fn serve_stored<H: Parts>(
 ///
 /// # Errors
 /// The first fault, in this order: of the configuration; `NoDevice` if it has no such device;
-/// `Trace` and `Record` if these files would overwrite it, each other, or are in a store; `Store` if
-/// the device's store can't be opened; `Trace` and `Record` if these files can't be made; `Socket`
-/// or `Tty` if what joins it to the agent can't be made; `Output` if the report can't be written;
-/// and `Trace` and `Record` if something of these couldn't be written. `Memory` if memory is
-/// refused.
+/// `Trace` and `Record` if these files would overwrite it, each other, or are in a store; `Store`
+/// if the device's store can't be opened; `Trace` and `Record` if these files can't be made;
+/// `Socket` or `Tty` if what joins it to the agent can't be made; `Output` if the report can't be
+/// written; and `Trace` and `Record` if something of these couldn't be written. `Memory` if memory
+/// is refused.
 pub fn run_device<H: Parts>(
     alloc: Global,
     job: &fwupd_words::DeviceProcess<'_>,

@@ -1,10 +1,11 @@
 //! Writes the calls of a process's node as lines that the node's filter reads.
 
-ghost use Rattle.std.specs.Prelude.{◌≡◌, ◌⊎◌, ◌<◌, ◌≤◌, ◌++◌, ◌-◌, ◌+◌, ◌^◌, IfErr, IfOk, None, OnOk, Some, codes};
+ghost use Rattle.std.specs.Prelude.{◌≡◌, ◌⊎◌, ◌<◌, ◌++◌, ◌-◌, ◌+◌, ◌^◌, IfErr, IfOk, None, OnOk, codes, nat_le};
 ghost use Rattle.std.specs.Io.KnownBytes.{Appends};
 ghost use Rattle.exch_lane.specs.Steps.{sent_at};
 ghost use Rattle.fw_text.specs.Printing.{AppendsText};
-ghost use Rattle.fwupd_traces.specs.Records.{HasRecordedPacket, HasRecordedUnits, RecordsPacket, RecordsUnits, advanced_held, advanced_text, beginning_of, came_held, digits_line, came_text, came_unit, start_line, starts_text, ticks_line};
+ghost use Rattle.fw_process.specs.Processes.{deed_with};
+ghost use Rattle.fwupd_traces.specs.Records.{HasRecordedPacket, HasRecordedUnits, RecordsPacket, RecordsUnits, advanced_held, advanced_text, beginning_of, came_held, came_text, came_unit, deed_held, deed_text, digits_line, start_line, starts_text, ticks_line};
 
 use crate::observed_line::PacketObserver;
 use crate::process_watch::WatchFault;
@@ -36,6 +37,7 @@ pub struct Starts<'a> {
 }
 
 /// Appends a line of ticks, or nothing for 0.
+#[tactic(auto, unfolding(crate::specs::Records::ticks_line))]
 fn push_ticks(alloc: Global, text: &mut Vec<u8>, count: u32) -> Result<(), AllocError>
     ensures { OnOk result (AppendsText text.old.items text.new.items (ticks_line count)) }
 {
@@ -48,6 +50,7 @@ fn push_ticks(alloc: Global, text: &mut Vec<u8>, count: u32) -> Result<(), Alloc
 }
 
 /// Appends the line of a packet.
+#[tactic(auto, unfolding(crate::specs::Records::digits_line))]
 fn push_packet(alloc: Global, text: &mut Vec<u8>, bytes: &[u8]) -> Result<(), AllocError>
     ensures { OnOk result (AppendsText text.old.items text.new.items (digits_line bytes.now)) }
 {
@@ -57,12 +60,8 @@ fn push_packet(alloc: Global, text: &mut Vec<u8>, bytes: &[u8]) -> Result<(), Al
 }
 
 /// Appends the line of the start of an update.
-fn push_start(
-    alloc: Global,
-    text: &mut Vec<u8>,
-    number: usize,
-    eid: u8,
-) -> Result<(), AllocError>
+#[tactic(auto, unfolding(crate::specs::Records::start_line))]
+fn push_start(alloc: Global, text: &mut Vec<u8>, number: usize, eid: u8) -> Result<(), AllocError>
     ensures { OnOk result (AppendsText text.old.items text.new.items (start_line number eid)) }
 {
     push_number(alloc, text, "start ", usize::from(eid))?;
@@ -87,9 +86,62 @@ fn push_starts(
     Ok(())
 }
 
+/// Appends a restart, after the ticks that were held back.
+#[tactic(auto, using(fw_text::proofs::Chains::adds_more))]
+fn push_restart(alloc: Global, text: &mut Vec<u8>, held: u32) -> Result<(), AllocError>
+    ensures { OnOk result (AppendsText text.old.items text.new.items (ticks_line held ++ codes "restart\n")) }
+{
+    push_ticks(alloc, text, held)?;
+    push_words(text, "restart\n")?;
+    Ok(())
+}
+
+/// Appends a packet, after the ticks that were held back.
+#[tactic(auto, using(fw_text::proofs::Chains::adds_more))]
+fn push_received(
+    alloc: Global,
+    text: &mut Vec<u8>,
+    held: u32,
+    bytes: &[u8],
+) -> Result<(), AllocError>
+    ensures { OnOk result (AppendsText text.old.items text.new.items (ticks_line held ++ digits_line bytes.now)) }
+{
+    push_ticks(alloc, text, held)?;
+    push_packet(alloc, text, bytes)?;
+    Ok(())
+}
+
+/// Whether a process makes up for this number of units by turns.
+fn is_made_up(units: u32) -> bool
+    ensures { result ≡ nat_le units 40 }
+{
+    units <= MOST_BEHIND
+}
+
+/// Whether this number of ticks is held back.
+fn is_held(ticks: u32) -> bool
+    ensures { result ≡ nat_le ticks 960 }
+{
+    ticks <= MOST_HELD
+}
+
+/// Whether a stamp is followed, in a unit.
+fn is_followed(unit: u32, stamp: u32) -> bool
+    ensures { result ≡ nat_le stamp (unit + 2 ^ 20) }
+{
+    stamp <= unit.saturating_add(MOST_AHEAD)
+}
+
+/// Whether a packet with this stamp is received in a unit.
+fn is_timely(unit: u32, stamp: u32) -> bool
+    ensures { result ≡ nat_le (unit - stamp) 8 }
+{
+    unit.saturating_sub(stamp) <= LIFE
+}
+
 /// The beginning of a record.
 fn beginning(alloc: Global, starts: Starts<'_>) -> Result<Vec<u8>, AllocError>
-    ensures { IfOk result (λ text. text.items ≡ beginning_of starts.number starts.eids.now) }
+    ensures { IfOk result (λ text. text.items ≡ beginning_of starts.entry.number starts.entry.eids.now) }
 {
     let mut text = Vec::new(alloc);
     push_words(&mut text, "restart\n")?;
@@ -139,7 +191,7 @@ impl<W: Write + Drop> NodeRecord<W> {
         ensures unit { IfOk result (λ r. r.unit ≡ 0) }
         ensures held { IfOk result (λ r. r.held ≡ 0) }
         ensures whole { IfOk result (λ r. r.fault ≡ None) }
-        ensures text { IfOk result (λ r. Appends (W.contents writer) r.text (beginning_of starts.number starts.eids.now)) }
+        ensures text { IfOk result (λ r. Appends (W.contents writer) r.text (beginning_of starts.entry.number starts.entry.eids.now)) }
         ensures fault { IfErr result (λ e. (e ≡ WatchFault.Memory) ⊎ (e ≡ WatchFault.Record)) }
     {
         let Ok(mut writer) = BufWriter::new(alloc, writer) else {
@@ -167,26 +219,47 @@ impl<W: Write + Drop> NodeRecord<W> {
         requires { self.old.unit + units < 2 ^ 32 }
         ensures text { OnOk result (AppendsText text.old.items text.new.items (advanced_text self.old.held units)) }
         ensures held { OnOk result (self.new.held ≡ advanced_held self.old.held units) }
-        ensures unit { OnOk result (self.new.unit ≡ self.old.unit + units) }
+        ensures unit { self.new.unit ≡ self.old.unit + units }
         ensures written { self.new.text ≡ self.old.text }
         ensures fault { self.new.fault ≡ self.old.fault }
     {
-        let mut held = self.held;
+        let (alloc, held) = (self.alloc, self.held);
         self.unit += units;
         self.held = 0;
-        if units > MOST_BEHIND {
-            push_ticks(self.alloc, text, held)?;
-            return push_words(text, "restart\n");
+        if !is_made_up(units) {
+            return push_restart(alloc, text, held);
         }
-        held += units;
-        if held > MOST_HELD {
-            return push_ticks(self.alloc, text, held);
+        if !is_held(held + units) {
+            return push_ticks(alloc, text, held + units);
         }
-        self.held = held;
+        self.held = held + units;
         Ok(())
     }
 
-    /// A packet is received, if it is timely, after the units up to its stamp.
+    /// A packet is received, if it is timely.
+    fn receive_timely(
+        &mut self,
+        text: &mut Vec<u8>,
+        stamp: u32,
+        bytes: &[u8],
+    ) -> Result<(), AllocError>
+        ensures text { OnOk result (AppendsText text.old.items text.new.items
+            (deed_text self.old.held (deed_with self.old.unit (sent_at stamp bytes.now)))) }
+        ensures held { OnOk result (self.new.held ≡ deed_held self.old.held (deed_with self.old.unit (sent_at stamp bytes.now))) }
+        ensures unit { self.new.unit ≡ self.old.unit }
+        ensures written { self.new.text ≡ self.old.text }
+        ensures fault { self.new.fault ≡ self.old.fault }
+    {
+        let (alloc, held) = (self.alloc, self.held);
+        if !is_timely(self.unit, stamp) {
+            return Ok(());
+        }
+        self.held = 0;
+        push_received(alloc, text, held, bytes)
+    }
+
+    /// A packet came: it is received, if it is timely, after the units up to its stamp.
+    #[tactic(auto, using(fw_text::proofs::Chains::adds_more, fw_text::proofs::Chains::adds_none))]
     fn accept(&mut self, text: &mut Vec<u8>, stamp: u32, bytes: &[u8]) -> Result<(), AllocError>
         ensures text { OnOk result (AppendsText text.old.items text.new.items
             (came_text self.old (sent_at stamp bytes.now))) }
@@ -195,16 +268,15 @@ impl<W: Write + Drop> NodeRecord<W> {
         ensures written { self.new.text ≡ self.old.text }
         ensures fault { self.new.fault ≡ self.old.fault }
     {
-        if stamp > self.unit.saturating_add(MOST_AHEAD) {
+        let unit = self.unit;
+        if !is_followed(unit, stamp) {
             return Ok(());
         }
-        self.advance(text, stamp.saturating_sub(self.unit))?;
-        if self.unit.saturating_sub(stamp) > LIFE {
-            return Ok(());
+        match self.advance(text, stamp.saturating_sub(unit)) {
+            Ok(()) => {}
+            Err(error) => return Err(error),
         }
-        push_ticks(self.alloc, text, self.held)?;
-        self.held = 0;
-        push_packet(self.alloc, text, bytes)
+        self.receive_timely(text, stamp, bytes)
     }
 
     /// Writes lines.

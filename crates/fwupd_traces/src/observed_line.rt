@@ -48,7 +48,7 @@ pub trait PacketObserver {
 }
 
 impl<O: PacketObserver> PacketObserver for Option<O> {
-    ghost use Rattle.fwupd_traces.specs.Watches.{Optional};
+    ghost use Rattle.fwupd_traces.specs.Watches.{Optional, OptionalEnd};
 
     ghost receives = { λ s p t. Optional O.receives s p t };
 
@@ -58,7 +58,7 @@ impl<O: PacketObserver> PacketObserver for Option<O> {
 
     ghost begins_round = { λ s unit t. Optional O.begins_round s unit t };
 
-    ghost ends = { λ s t. Optional (λ o u q. O.ends o q) s tt t };
+    ghost ends = { λ s t. OptionalEnd O.ends s t };
 
     fn begin(&mut self, unit: u32) {
         if let Some(observer) = self {

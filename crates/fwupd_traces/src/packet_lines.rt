@@ -27,13 +27,7 @@ pub fn device_of_packet(node: TracedNode, bytes: &[u8]) -> u8
         TracedNode::Agent(agent) => agent,
     };
     match bytes {
-        [_, dest, source, ..] => {
-            if *source == agent {
-                *dest
-            } else {
-                *source
-            }
-        }
+        [_, dest, source, ..] => { if *source == agent { *dest } else { *source } }
         _ => 0,
     }
 }

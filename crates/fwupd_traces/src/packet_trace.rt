@@ -7,6 +7,7 @@ ghost use Rattle.exch_lane.specs.Steps.{sent_at};
 ghost use Rattle.fw_text.specs.Printing.{AppendsText};
 ghost use Rattle.fw_trace.specs.Decoding.{decoder_after_seen, facts_line, facts_of_seen, new_decoder, text_of_seen};
 ghost use Rattle.fw_trace.specs.Seen.{seen_of};
+ghost use Rattle.fwupd_traces.specs.PacketLines.{device_in};
 ghost use Rattle.fwupd_traces.specs.Traces.{KeepsTrace, TracesPacket, decoder_next, head_of, packet_piece};
 
 use crate::observed_line::PacketObserver;
@@ -149,11 +150,12 @@ impl<W: Write + Drop> PacketTrace<W> {
             ≡ decoder_next self.old.form (device_in self.old.node bytes.now) self.old.decoder (sent_at unit bytes.now)) }
         ensures same { (self.new.form ≡ self.old.form) × ((self.new.node ≡ self.old.node) × (self.new.fault ≡ self.old.fault)) }
     {
-        let mut text = Vec::new(self.alloc);
+        let (alloc, form) = (self.alloc, self.form);
+        let mut text = Vec::new(alloc);
         let device = device_of_packet(self.node, bytes);
         let Ok(()) = push_packet(
-            self.alloc,
-            self.form,
+            alloc,
+            form,
             device,
             &mut self.decoder,
             &mut text,

@@ -1,6 +1,6 @@
 //! All that observes a process: its trace, its record, and its progress, each if it is requested.
 
-ghost use Rattle.std.specs.Prelude.{◌≡◌, ◌×◌, Err, IfErr, Ok, OnOk};
+ghost use Rattle.std.specs.Prelude.{◌≡◌, Err, IfErr, Ok, OnOk};
 
 use crate::node_record::NodeRecord;
 use crate::observed_line::PacketObserver;
@@ -43,10 +43,10 @@ fn first_of(one: Result<(), WatchFault>, other: Result<(), WatchFault>) -> Resul
 }
 
 impl<W: Write + Drop, P: PacketObserver + Drop> PacketObserver for ProcessWatch<W, P> {
-    ghost use Rattle.std.specs.Prelude.{◌≡◌, ◌×◌};
+    ghost use Rattle.std.specs.Prelude.{◌≡◌};
     ghost use Rattle.fwupd_traces.specs.Records.{EndsRecord, RecordsPacket, RecordsUnits};
     ghost use Rattle.fwupd_traces.specs.Traces.{EndsTrace, KeepsTrace, TracesPacket};
-    ghost use Rattle.fwupd_traces.specs.Watches.{Optional};
+    ghost use Rattle.fwupd_traces.specs.Watches.{Optional, OptionalEnd};
 
     ghost receives = { λ s p t. Optional TracesPacket s.trace p t.trace
         × (Optional RecordsPacket s.record p t.record × Optional P.receives s.progress p t.progress) };
@@ -61,9 +61,8 @@ impl<W: Write + Drop, P: PacketObserver + Drop> PacketObserver for ProcessWatch<
     ghost begins_round = { λ s unit t. Optional (λ q u r. KeepsTrace q r) s.trace unit t.trace
         × (Optional RecordsUnits s.record unit t.record × Optional P.begins_round s.progress unit t.progress) };
 
-    ghost ends = { λ s t. Optional (λ q u r. EndsTrace q r) s.trace tt t.trace
-        × (Optional (λ q u r. EndsRecord q r) s.record tt t.record
-        × Optional (λ p u q. P.ends p q) s.progress tt t.progress) };
+    ghost ends = { λ s t. OptionalEnd EndsTrace s.trace t.trace
+        × (OptionalEnd EndsRecord s.record t.record × OptionalEnd P.ends s.progress t.progress) };
 
     fn begin(&mut self, unit: u32) {
         self.record.begin(unit);

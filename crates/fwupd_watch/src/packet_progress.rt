@@ -5,9 +5,9 @@ ghost use Rattle.fwupd_watch.specs.Processes.{load_line};
 
 use crate::progress::progress_line;
 use crate::terminal::{erase, is_due};
-use fwup_wire::{Command, Key};
-use fwup_wire::code::command;
 use fw_text::{push_number, push_words};
+use fwup_wire::code::command;
+use fwup_wire::{Command, Key};
 use fwupd_traces::{PacketObserver, WatchFault};
 use mctp_wire::{RawPacket, Unit};
 use pldm_base::TYPE_FIRMWARE_UPDATE;
@@ -56,8 +56,9 @@ fn offered(device: u8, fields: &[u8]) -> Option<Event> {
         size_1,
         size_2,
         size_3,
-        ..,
-    ] = fields else {
+        ..
+    ] = fields
+    else {
         return None;
     };
     Some(Event::Offers(Load {

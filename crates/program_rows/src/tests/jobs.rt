@@ -13,8 +13,8 @@ use fw_world::{Step, World};
 use fwupd_base::{Form, Roughness};
 use fwupd_jobs::{
     Beginning, DeviceProcess, FileFault, FileIdentity, Files, Host, JobFault, Joined, Network,
-    Observer, ObserverFault, Order, Output, Parts, Serving, Show, TraceForm, Update, WholeFiles,
-    Wire, Wires, Wiring, plan_file, update_checked,
+    Observed, Observer, ObserverFault, Order, Output, PacketTrace, Parts, Serving, Show, TraceForm,
+    Update, Watching, WholeFiles, Wire, Wires, Wiring, plan_file, update_checked,
 };
 use fwupd_watch::{SystemCalls, system_places};
 use mctp_wire::{RawPacket, Unit};
@@ -326,6 +326,17 @@ impl Wiring for Lonely {
     type Agent = Silence;
 
     type Clock = Hasty;
+
+    type Watch = Option<PacketTrace<Vec<u8>>>;
+
+    fn watch(
+        &mut self,
+        _alloc: Global,
+        _observed: Observed<'_>,
+        _watching: Watching<'_>,
+    ) -> Result<Option<PacketTrace<Vec<u8>>>, JobFault> {
+        Ok(None)
+    }
 
     fn device(
         &mut self,
