@@ -3,7 +3,7 @@
 use Rattle.std.proofs.Common.{◌≡◌, ◌≢◌, ◌∙◌, ◌==◌, ℕ, zero, suc, Bool, true, false, nat_le, if◌then◌else◌, List, [], ◌∷◌, map, slice_get, slice_set, Option, Some, None, IfSome, ap, refl, sym, subst}
 use Rattle.std.specs.List.{AllByRecursion}
 use Rattle.agent_store.specs.Kept.{HaveDevicesOnce}
-use Rattle.fw_node.specs.Agents.{AgentOf, AgentOutcome, agent_on_packet_at, agent_ticks, agent_unmoved, all_grown, any_packet, becomes_at, half_after_activate, half_after_cancel, half_after_start, half_at, half_for, new_half, place_of, place_of_sender, ready_for, ready_in, session_half_aged, session_half_after}
+use Rattle.fw_node.specs.Agents.{AgentOf, AgentOutcome, agent_on_packet_at, agent_unmoved, all_grown, any_packet, becomes_at, half_after_activate, half_after_cancel, half_after_start, half_at, half_for, new_half, place_of, place_of_sender, ready_for, ready_in, session_half_aged, session_half_after}
 use Rattle.fw_node.specs.Cores.{session_core}
 use Rattle.fw_node.specs.Halves.{HalfOf, HalfOutcome, core_after_give_up, half_on_packet, half_restarts, half_ticks, half_with_ticked_core, unwished_abandoned, with_caller}
 use Rattle.fw_node.specs.Nodes.{node_outcome_of}

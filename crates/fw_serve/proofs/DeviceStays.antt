@@ -1,17 +1,17 @@
 -- What no call changes of a device: the nodes that its half is between, and its transmission unit.
 -- So a device that is started anew with the images that ran is, after a restart, the device itself.
-use Rattle.std.proofs.Common.{◌≡◌, ◌∙◌, ◌+◌, ◌==◌, ℕ, Bool, true, false, nat_lt, if◌then◌else◌, List, [], ◌∷◌, map, length, Option, Some, None, Result, Ok, Err, ap, refl, sym}
+use Rattle.std.proofs.Common.{◌≡◌, ◌∙◌, ◌+◌, ◌==◌, ℕ, Bool, true, false, nat_lt, if◌then◌else◌, List, [], ◌∷◌, length, Option, ap, refl, sym}
 use Rattle.fd_core.specs.Codes.{patience}
-use Rattle.fd_core.specs.Commands.{CancelRow, OfferRow, RequestRow, ReturnRow, SwitchRow, TableRow, cancel_by, cancel_row, device_take, device_with_table, offer_by, offer_row, request_by, request_row, return_by, return_row, switch_by, switch_row, table_by, table_row, with_entry}
+use Rattle.fd_core.specs.Commands.{CancelRow, OfferRow, RequestRow, ReturnRow, SwitchRow, TableRow, cancel_by, cancel_row, device_take, offer_by, offer_row, request_by, request_row, return_by, return_row, switch_by, switch_row, table_by, table_row, with_entry}
 use Rattle.fd_core.specs.Images.{RowOf, row_without_applied, rows_after_drop}
 use Rattle.fd_core.specs.States.{DeviceState, Phase, UpdateOf, WorkOf}
-use Rattle.fd_core.specs.Steps.{device_tick, device_timeout, judged_or, tick_at, verdict_after, verdict_at}
-use Rattle.fd_core.specs.Wishes.{DeviceLearnRow, applied_row, apply_by, asked_length, device_learn, download_by, download_row, learn_at, report_row, verified_row, verify_by}
+use Rattle.fd_core.specs.Steps.{device_timeout, judged_or, tick_at, verdict_at}
+use Rattle.fd_core.specs.Wishes.{DeviceLearnRow, applied_row, apply_by, asked_length, download_by, download_row, learn_at, report_row, verified_row, verify_by}
 use Rattle.fd_core.specs.declared.states.Progress.TheVariants as progress
 use Rattle.fd_core.specs.declared.states.Verdict.{Verdict}
 use Rattle.fd_core.specs.declared.states.Verdict.TheVariants as verdicts
 use Rattle.fw_node.specs.Cores.{TimedDevice, answer_or, device_core}
-use Rattle.fw_node.specs.Halves.{HalfOf, HalfOutcome, half_on_packet, half_ticks}
+use Rattle.fw_node.specs.Halves.{HalfOf, HalfOutcome, half_on_packet}
 use Rattle.fw_node.specs.Nodes.{DeviceNodeOf, device_on_packet, device_restarts, node_outcome_of}
 use Rattle.fw_steps.specs.Alone.{DeviceCall, device_after_call}
 use Rattle.fw_steps.specs.Plays.{DeviceProcess}
@@ -21,7 +21,6 @@ use Rattle.fw_steps.proofs.LinksAreLanes.Ticks.{same_ticks}
 use Rattle.fwup_wire.specs.Values.{AnswerOf, CommandOf, OfferOf, TableEntryOf, UpdateRequestOf}
 use Rattle.mctp_ctl.specs.declared.answers.Endpoint.{Endpoint}
 use Rattle.mctp_wire.specs.declared.unit.Unit.{«Unit»}
-use Rattle.pldm_base.specs.declared.terminus.Role.{Role}
 use Rattle.pldm_base.specs.declared.terminus.Role.TheVariants as roles
 use Rattle.fw_serve.specs.Lives.{device_anew, recounted}
 use Rattle.fw_serve.specs.Traced.{device_process_after_acts}

@@ -1,16 +1,14 @@
 -- The lives of processes are acts of a trace, and the headline holds for them (`lives_act`,
 -- `lives_are_safe`).
-use Rattle.std.proofs.Common.{◌≡◌, ◌≤◌, ◌∙◌, ◌+◌, ◌-◌, ◌^◌, ◌==◌, ◌++◌, ◌⊎◌, ℕ, Bool, true, false, List, [], ◌∷◌, map, Option, Some, None, IfSome, inl, inr, ap, arith, refl, sym, subst}
+use Rattle.std.proofs.Common.{◌≡◌, ◌≤◌, ◌∙◌, ◌+◌, ◌-◌, ◌^◌, ◌++◌, ◌⊎◌, ℕ, List, [], ◌∷◌, map, Option, Some, None, IfSome, inl, inr, ap, arith, refl, sym, subst}
 use Rattle.std.specs.List.{AllByRecursion}
 use Rattle.std.specs.Option.{option_map}
 use Rattle.agent_store.specs.Kept.{kept_lines}
-use Rattle.exch_lane.specs.Lanes.{Sent}
 use Rattle.fw_node.specs.Agents.{AgentOf, agent_restarts}
 use Rattle.fw_node.specs.Halves.{HalfOf}
 use Rattle.fw_node.specs.Nodes.{DeviceNodeOf, device_restarts, new_device_node}
 use Rattle.fw_node.specs.Resumed.{IsHalfIn}
 use Rattle.fw_package.specs.Package.{PackageText}
-use Rattle.fw_process.specs.Processes.{Deed}
 use Rattle.fw_steps.specs.Absences.{agent_absence, device_absence}
 use Rattle.fw_steps.specs.Alone.{DeviceCall}
 use Rattle.fw_steps.specs.Opening.{AreDifferent, IsNewNode, IsOpeningWorld, new_site}
@@ -18,17 +16,14 @@ use Rattle.fw_steps.specs.Plays.{AgentProcess, DeviceProcess}
 use Rattle.fw_steps.specs.Traces.{Act, AgentAct, DeviceAct, TracesAreSafe, agent_process_after_act, agent_unit_after, new_process, processes_of}
 use Rattle.fw_steps.specs.Worlds.{SiteOf, WorldOf, site_for}
 use Rattle.fw_steps.proofs.LinksAreLanes.Firsts.{first_fact}
-use Rattle.fw_steps.proofs.LinksAreLanes.Listed.{every}
-use Rattle.fw_steps.proofs.LinksAreLanes.Posting.{first_site, site_eid, site_is_first, site_of}
+use Rattle.fw_steps.proofs.LinksAreLanes.Posting.{site_eid, site_is_first, site_of}
 use Rattle.mctp_ctl.specs.declared.answers.Endpoint.{Endpoint}
 use Rattle.mctp_wire.specs.declared.unit.Unit.{«Unit»}
 use Rattle.ua_core.specs.Session.{TimedOf}
-use Rattle.fw_serve.specs.Agents.{ServedAgentOf}
-use Rattle.fw_serve.specs.Anew.{IsAbsence, StartedAnewIsAbsence, agent_anew, node_anew}
+use Rattle.fw_serve.specs.Anew.{StartedAnewIsAbsence, agent_anew, node_anew}
 use Rattle.fw_serve.specs.Lives.{AgentLifeOf, AgentLives, AgentSetupOf, AreActsOfAgentLife, AreActsOfAgentLives, AreActsOfDeviceLife, AreActsOfDeviceLives, AreAgentLives, AreDeviceLives, AreLived, DeviceEndsAsLived, DeviceLifeOf, DeviceLives, DeviceLivesIf, GoesOnWith, IsAgentLife, IsDeviceLife, LivesAct, LivesAreSafe, LivesEnd, agent_after_gone, agent_after_lives, agent_begun, agent_gone, agent_left, agent_of_setup, device_after_gone, device_after_lives, device_anew, device_begun, device_gone, device_left, process_recounted, recounted, served_recounted}
-use Rattle.fw_serve.specs.Processes.{AgentDoes, DeviceDoes, DeviceProcessOf}
 use Rattle.fw_serve.specs.Serving.{TakesCalls}
-use Rattle.fw_serve.specs.Traced.{AgentMayDo, AgentsAct, DeviceMayDo, DevicesAct, acts_of_agent, acts_of_device, agent_process_after_acts, agent_process_of, device_process_after_acts, device_process_of}
+use Rattle.fw_serve.specs.Traced.{AgentMayDo, DeviceMayDo, acts_of_agent, acts_of_device, agent_process_after_acts, agent_process_of, device_process_after_acts, device_process_of}
 use Rattle.fw_serve.proofs.AgentStays.{IsAgentOf, acts_same as agent_acts_same, agent_devices_once, new_agent_of, stays_agent}
 use Rattle.fw_serve.proofs.DeviceStays.{IsDeviceNode, acts_same as device_acts_same, anew_restarts, stays_device}
 use Rattle.fw_serve.proofs.Recounts.{acts_recounted, are_recounted, count_last}
@@ -143,7 +138,7 @@ agent_lives_act c packages p (l ∷ ls) h =
     let served = agents_act l.first l.last l.deeds l.before l.sent h.0.done h.0.timely h.0.clock in
     let one = agent_absence (l.shown - p.unit) ++ (l.calls ++ served.0) in
     let more = agent_lives_act c packages (agent_left l) ls h.1 in
-    (one ++ more.0, one, more.0, record { served = served.0; are = served.1; all = refl }, more.1, refl)
+    (one ++ more.0, (one, more.0, record { served = served.0; are = served.1; all = refl }, more.1, refl))
 
 -- A DEVICE
 
@@ -230,14 +225,14 @@ device_lived eid q acts it h =
 
 -- any lives have acts
 device_lives_act : (q : DeviceProcess) (ls : List DeviceLifeOf) (before : ℕ) → AreDeviceLives q ls → (after : ℕ) × (acts : List DeviceAct) × AreActsOfDeviceLives q ls before after acts
-device_lives_act q [] before h = (before, [], refl, refl)
+device_lives_act q [] before h = (before, [], (refl, refl))
 device_lives_act q (l ∷ ls) before h =
     let real = devices_act l.first l.last l.deeds q.sent l.sent h.0.done h.0.timely in
     let mid = count_last before real.0 in
     let served = acts_recounted before real.0 in
     let one = device_absence (l.shown - q.unit) ++ served in
     let more = device_lives_act (device_left q.sent l) ls mid h.1 in
-    (more.0, one ++ more.1, mid, one, more.1, record { served = served; are = are_recounted before q.sent l.first _ l.last l.sent real.0 real.1; all = refl }, more.2, refl)
+    (more.0, one ++ more.1, (mid, one, more.1, record { served = served; are = are_recounted before q.sent l.first _ l.last l.sent real.0 real.1; all = refl }, more.2, refl))
 
 pub lives_act : LivesAct
 lives_act = record { agent = agent_lives_act; device = device_lives_act }

@@ -86,7 +86,7 @@ pub record IsAgentLife (c : AgentSetupOf) (packages : List PackageText) (p : Age
 
 -- lives, one after another, and the process after them
 abbrev pub AreAgentLives : AgentSetupOf → List PackageText → AgentProcess → List AgentLifeOf → Type 0
-AreAgentLives c packages p [] = Unit {0}
+AreAgentLives c packages p [] = Prim.Unit {0}
 AreAgentLives c packages p (l ∷ ls) = IsAgentLife c packages p l × AreAgentLives c packages (agent_left l) ls
 
 abbrev pub agent_after_lives : AgentProcess → List AgentLifeOf → AgentProcess
@@ -164,7 +164,7 @@ pub record IsDeviceLife (q : DeviceProcess) (l : DeviceLifeOf) : Type 0 where
   pub timely : AreTimely l.first.unit l.deeds
 
 abbrev pub AreDeviceLives : DeviceProcess → List DeviceLifeOf → Type 0
-AreDeviceLives q [] = Unit {0}
+AreDeviceLives q [] = Prim.Unit {0}
 AreDeviceLives q (l ∷ ls) = IsDeviceLife q l × AreDeviceLives (device_left q.sent l) ls
 
 abbrev pub device_after_lives : DeviceProcess → List DeviceLifeOf → DeviceProcess
