@@ -24,7 +24,7 @@ use Rattle.fw_process.specs.Processes.{Deed, DoesAll}
 use Rattle.fw_steps.specs.Absences.{agent_absence, agent_after_absence, device_absence, device_after_absence}
 use Rattle.fw_steps.specs.Opening.{IsOpeningWorld}
 use Rattle.fw_steps.specs.Plays.{AgentProcess, DeviceProcess}
-use Rattle.fw_steps.specs.Traces.{Act, AgentAct, AreSafeProcesses, DeviceAct, HaveReachedUnit, ProcessesOf, processes_after, processes_at, processes_of}
+use Rattle.fw_steps.specs.Traces.{Act, AgentAct, AreSafeProcesses, DeviceAct, HaveReachedUnit, processes_after, processes_at, processes_of}
 use Rattle.fw_steps.specs.Worlds.{WorldOf}
 use Rattle.fw_store.specs.declared.kept_line.KeptLine.{KeptLine}
 use Rattle.mctp_ctl.specs.declared.answers.Endpoint.{Endpoint}
