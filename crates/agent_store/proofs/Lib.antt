@@ -1,5 +1,5 @@
+mod Claims
 mod GivenBack
 mod Keeping
-mod Packages
 mod Places
 mod Same

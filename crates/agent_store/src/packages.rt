@@ -41,7 +41,7 @@ fn push_package(alloc: Global, text: &mut Vec<u8>, bytes: &[u8]) -> Result<(), A
 ///
 /// # Errors
 /// `AllocError` if memory can't be allocated.
-#[tactic(auto, using(crate::proofs::Packages::text))]
+#[tactic(auto, using(crate::proofs::Claims::text))]
 pub fn packages_text(alloc: Global, packages: &[Vec<u8>]) -> Result<Vec<u8>, AllocError>
     ensures { IfOk result (λ text. text.items ≡ packages_text (map (λ p. p.items) packages.now)) }
 {
@@ -65,7 +65,7 @@ fn has_active<F: Folder>(alloc: Global, folder: &F) -> Result<bool, OpenFault>
 }
 
 /// Whether the text of the packages is in the folder already, if the folder isn't refused for them.
-#[tactic(auto, using(crate::proofs::Packages::claiming))]
+#[tactic(auto, using(crate::proofs::Claims::claiming))]
 fn has_text<F: Folder>(alloc: Global, folder: &F, text: &[u8]) -> Result<bool, OpenFault>
     ensures allowed { OnOk result (F.is_known folder.now ≡ true
         → claim_fault (F.files folder.now) text.now ≡ None) }
@@ -98,7 +98,7 @@ fn has_text<F: Folder>(alloc: Global, folder: &F, text: &[u8]) -> Result<bool, O
 }
 
 /// Puts the text of the packages into the folder. A renaming is the moment.
-#[tactic(auto, using(crate::proofs::Packages::putting))]
+#[tactic(auto, using(crate::proofs::Claims::putting))]
 fn put_packages<F: Folder>(folder: &mut F, text: &[u8]) -> Result<(), RenameFault>
     ensures known { F.is_known folder.new ≡ F.is_known folder.old }
     ensures ok { OnOk result (F.is_known folder.old ≡ true
@@ -119,7 +119,7 @@ fn put_packages<F: Folder>(folder: &mut F, text: &[u8]) -> Result<(), RenameFaul
 /// `Foreign` if it was claimed for other packages, and `Damaged` if it was claimed for none and yet
 /// keeps lines; `Unreadable` or `Memory`. Then it is unchanged. `Unwritable` if it can't be
 /// written: it has the text that it had, or the new one.
-#[tactic(auto, using(crate::proofs::Packages::claiming))]
+#[tactic(auto, using(crate::proofs::Claims::claiming))]
 pub fn claim_packages<F: Folder>(
     alloc: Global,
     folder: &mut F,

@@ -1,10 +1,8 @@
 -- The text of packages, and claiming a folder for them.
-use Rattle.std.proofs.Common.{◌≡◌, ◌≢◌, ◌∙◌, ◌<◌, ◌+◌, ◌++◌, ◌⊎◌, inl, inr, ℕ, zero, suc, List, [], ◌∷◌, None, Option, Some, append_assoc, append-nil, ap, get_or, length, map, take, refl, sym, arith}
-use Rattle.std.specs.Prelude.{nat_eq}
-use Rattle.std.specs.List.{starts_with}
+use Rattle.std.proofs.Common.{◌≡◌, ◌≢◌, ◌∙◌, ◌<◌, ◌+◌, ◌++◌, ◌⊎◌, inl, inr, ℕ, zero, suc, List, [], ◌∷◌, Some, append_assoc, append-nil, ap, get_or, length, map, take, refl, sym, arith}
 use Rattle.std.proofs.lemmas.List.{take_all}
-use Rattle.fw_store.specs.Folders.{ChangesOnlyFile, Files, LeavesFiles, RenamesFile, WritesFile, active_name}
-use Rattle.agent_store.specs.Packages.{ClaimsFolder, FailsToClaim, LeavesOthers, MayPutPackages, PutsPackages, claim_fault, fault_by, new_packages_name, package_line, packages_name, packages_text}
+use Rattle.fw_store.specs.Folders.{ChangesOnlyFile, Files, LeavesFiles, RenamesFile, WritesFile}
+use Rattle.agent_store.specs.Packages.{MayPutPackages, PutsPackages, new_packages_name, package_line, packages_name, packages_text}
 
 -- THE TEXT
 
@@ -19,11 +17,16 @@ text_next f (x ∷ xs) (suc i) d below =
     ap (λ ls. package_line (f x) ++ ls) (text_next f xs i d (omega arith))
     ∙ sym (append_assoc (package_line (f x)) (packages_text (map f (take i xs))) (package_line (f (get_or xs i d))))
 
-pub text_more : {X : Type 0} (f : X → List ℕ) (xs : List X) (i : ℕ) (d : X) → i < length xs
+text_more : {X : Type 0} (f : X → List ℕ) (xs : List X) (i : ℕ) (d : X) → i < length xs
     → packages_text (map f (take (i + 1) xs)) ≡ packages_text (map f (take i xs)) ++ package_line (f (get_or xs i d))
 text_more f xs i d below = ap (λ n. packages_text (map f (take n xs))) (plus_one i) ∙ text_next f xs i d below
 
-pub ruleset text = (text_more, take_all)
+pub text_step : {X : Type 0} (xs : List X) (f : X → List ℕ) (i : ℕ) (d : X) (text next bytes : List ℕ) → i < length xs → text ≡ packages_text (map f (take i xs))
+    → bytes ≡ f (get_or xs i d) → next ≡ text ++ package_line bytes → next ≡ packages_text (map f (take (i + 1) xs))
+text_step xs f i d text next bytes below before here after =
+    after ∙ ap (λ ls. ls ++ package_line bytes) before ∙ ap (λ bs. packages_text (map f (take i xs)) ++ package_line bs) here ∙ sym (text_more f xs i d below)
+
+pub ruleset text = (take_all)
 
 -- PUTTING IT
 
