@@ -1,5 +1,5 @@
 -- The record of a process: lines that its filter reads.
-use Rattle.std.specs.Prelude.{ℕ, ◌≡◌, ◌+◌, ◌-◌, ◌^◌, ◌==◌, ◌++◌, nat_le, if◌then◌else◌, List, [], ◌∷◌, Option, None, Some, codes}
+use Rattle.std.specs.Prelude.{ℕ, ◌≡◌, ◌+◌, ◌-◌, ◌^◌, ◌==◌, ◌++◌, nat_le, if◌then◌else◌, List, [], ◌∷◌, Option, None, codes}
 use Rattle.std.specs.Io.KnownBytes.{Appends}
 use Rattle.exch_lane.specs.Lanes.{Sent}
 use Rattle.fw_process.specs.Processes.{Deed, deed_with}

@@ -1,5 +1,5 @@
 -- The text of a trace of a process.
-use Rattle.std.specs.Prelude.{ℕ, ◌≡◌, ◌++◌, not, List, [], ◌∷◌, Option, None, Some}
+use Rattle.std.specs.Prelude.{ℕ, ◌≡◌, not, List, [], Option, None, Some}
 use Rattle.std.specs.Io.KnownBytes.{Appends, Keeps}
 use Rattle.exch_lane.specs.Lanes.{Sent}
 use Rattle.fw_trace.specs.Captures.{CapturedOf, capture_header, capture_record}

@@ -1,5 +1,5 @@
 -- What observes a process: its faults, and its progress.
-use Rattle.std.specs.Prelude.{ℕ, ◌==◌, ◌&&◌, ◌+◌, ◌*◌, ◌++◌, ◌-◌, ◌^◌, not, Bool, if◌then◌else◌, List, [], ◌∷◌, Option, None, Some, Result, Ok, Err, codes, drop, min}
+use Rattle.std.specs.Prelude.{ℕ, ◌++◌, List, [], Option, None, Some, codes, drop}
 use Rattle.fwup_wire.specs.declared.values.Key.{Key}
 use Rattle.fw_text.specs.Printing.{word_and_number}
 use Rattle.fwupd_traces.specs.declared.process_watch.WatchFault.{WatchFault}
