@@ -1,5 +1,5 @@
--- What no packet and no tick changes of a half: the nodes that it is between, and what its core keeps
--- in each of its functions.
+-- What no packet and no tick changes of a half: the nodes that it is between, and what its core
+-- keeps in each of its functions.
 use Rattle.std.proofs.Common.{◌≡◌, ◌∙◌, ◌==◌, ℕ, Bool, true, false, List, [], ◌∷◌, Option, Some, None, Result, Ok, Err, ap, refl}
 use Rattle.fw_node.specs.Halves.{CoreOf, HalfOf, begins_if, begins_wish, half_on_packet, half_on_rows, half_takes, half_tick_by_row, half_ticks, read_by, takes_if, takes_read, tick_if, unwished_abandoned, with_caller}
 use Rattle.fw_steps.proofs.LinksAreLanes.Hears.{half_in}

@@ -13,7 +13,8 @@
 -- - `NodeCounts`: the counts of an agent with a node.
 -- - `Keeping`: the agent as a process with a keeper.
 -- - `Anew`: an agent that is started anew from what was kept.
--- - `HalvesStay`, `AgentStays`, `DeviceStays`: what no call changes of a half, the agent and a device.
+-- - `HalvesStay`, `AgentStays`, `DeviceStays`: what no call changes of a half, the agent and a
+--   device.
 -- - `Recounts`: nothing depends on a bank's count of failures.
 -- - `Lives`: the lives of processes that are killed and started anew are acts of a trace.
 -- - `Ends`: the line of packets, from the packets with a space after each.

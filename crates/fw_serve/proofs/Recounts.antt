@@ -1,5 +1,5 @@
--- Nothing that a device does or sends depends on its bank's count of failures. So its acts may be done
--- with another count, which goes on from another number.
+-- Nothing that a device does or sends depends on its bank's count of failures. So its acts may be
+-- done with another count, which goes on from another number.
 use Rattle.std.proofs.Common.{◌≡◌, ◌∙◌, ◌+◌, ◌-◌, ◌^◌, ◌==◌, ℕ, Bool, true, false, if◌then◌else◌, List, [], ◌∷◌, inl, inr, ap, refl, sym, subst}
 use Rattle.std.proofs.lemmas.Bool.{eqb-true}
 use Rattle.exch_lane.specs.Lanes.{Sent}
@@ -87,7 +87,8 @@ received_same f (DeviceAct.Receives works faults stamp bytes ∷ ds) = ap (λ (p
 received_same f (DeviceAct.Judges works faults verdict ∷ ds) = received_same (count_after f works) ds
 received_same f (DeviceAct.Restarts ∷ ds) = received_same f ds
 
--- The acts between two states of a served device are acts between the same states with other counts.
+-- The acts between two states of a served device are acts between the same states with other
+-- counts.
 pub are_recounted : (f : ℕ) (before : List Sent) (s : DeviceProcessOf) (came : List Sent) (t : DeviceProcessOf) (sent : List Sent) (ds : List DeviceAct) → AreDeviceActs before s came t sent ds
     → AreDeviceActs before (served_recounted f s) came (served_recounted (count_last f ds) t) sent (acts_recounted f ds)
 are_recounted f before s came t sent ds h = record {

@@ -1,17 +1,18 @@
 -- The lives of processes. A life of the agent's process, or of a device's, begins with a node, in
--- the unit that the clock shows then. It does deeds (`specs/Processes`), and ends after any of them:
--- by itself, or because it is stopped for good or killed. Then the process may be started anew, with
--- a node made of what was kept; if it isn't, it may be counted as absent from then on. The laws:
--- 1. `LivesAct`: lives are acts of a trace (`specs/Traces` of `fw_steps`), each of which the process
---    may do, as far as it knows.
+-- the unit that the clock shows then. It does deeds (`specs/Processes`), and ends after any of
+-- them: by itself, or because it is stopped for good or killed. Then the process may be started
+-- anew, with a node made of what was kept; if it isn't, it may be counted as absent from then on.
+-- The laws:
+-- 1. `LivesAct`: lives are acts of a trace (`specs/Traces` of `fw_steps`), each of which the
+--    process may do, as far as it knows.
 -- 2. `LivesEnd`: a trace of the acts of lives leaves each process as its last life did.
--- 3. `LivesAreSafe`: if each packet is received after it was sent, the processes are safe at the end
---    of each unit that all have reached.
+-- 3. `LivesAreSafe`: if each packet is received after it was sent, the processes are safe at the
+--    end of each unit that all have reached.
 --
 -- A kill within a deed counts as one before the deed or after it. Of the agent, what it keeps is
 -- kept before the packets of a deed are sent (`specs/Keeping`); of a device, its bank keeps an
--- activation entirely or not at all. Packets of the last deed that weren't sent any more are packets
--- that were lost.
+-- activation entirely or not at all. Packets of the last deed that weren't sent any more are
+-- packets that were lost.
 use Rattle.std.specs.Prelude.{ℕ, ◌≡◌, ◌≤◌, ◌+◌, ◌-◌, ◌^◌, ◌++◌, ◌∷◌, ◌⊎◌, [], IfSome, List, Option, Some, None}
 use Rattle.agent_store.specs.Kept.{kept_lines, settings_in}
 use Rattle.exch_lane.specs.Lanes.{Sent}
@@ -54,7 +55,8 @@ pub record GoesOnWith (c : AgentSetupOf) (ls : List KeptLine) (n : AgentOf) : Ty
 
 -- A life of the agent's process: the node that it begins with, and the unit that the clock shows
 -- then; calls of the operator, after which it is `first` and has sent the packets `before`, in this
--- life and in those before it; its deeds; and then it is `last` and has also sent the packets `sent`.
+-- life and in those before it; its deeds; and then it is `last` and has also sent the packets
+-- `sent`.
 pub record AgentLifeOf : Type 0 where
   pub node : AgentOf
   pub shown : ℕ
@@ -153,9 +155,9 @@ device_begun n = record { unit = 0; device = record { node = n; history = [] } }
 abbrev pub device_left : (sent : List Sent) → DeviceLifeOf → DeviceProcess
 device_left sent l = device_process_of l.last (sent ++ l.sent)
 
--- A life of a device's process, which was left as `q`. Its node is made anew of the images that ran;
--- or, as the first life has the configured images, it is the node as it was left. It begins with a
--- restart, and the clock hasn't gone back.
+-- A life of a device's process, which was left as `q`. Its node is made anew of the images that
+-- ran; or, as the first life has the configured images, it is the node as it was left. It begins
+-- with a restart, and the clock hasn't gone back.
 pub record IsDeviceLife (q : DeviceProcess) (l : DeviceLifeOf) : Type 0 where
   pub goes_on : (l.node ≡ q.node) ⊎ (l.node ≡ device_anew q.node)
   pub later : q.unit ≤ l.shown

@@ -1,5 +1,5 @@
-//! What the jobs of the program run on, and the jobs of single nodes: answers, decoded packets, and a
-//! device or the agent by itself, as a filter of lines or as a process.
+//! What the jobs of the program run on, and the jobs of single nodes: answers, decoded packets, and
+//! a device or the agent by itself, as a filter of lines or as a process.
 #![tactic(auto)]
 
 mod agent_serving;
