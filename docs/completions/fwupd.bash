@@ -9,6 +9,8 @@ _fwupd() {
     case ${COMP_WORDS[1]}:$before in
         replay:--trace-format) words="hex text pcap" ;;
         run:--trace-format) words="hex text pcap" ;;
+        device:--trace-format) words="hex text pcap" ;;
+        agent:--trace-format) words="hex text pcap" ;;
         decode:--unit) words="64 128" ;;
         help:*) words="answer inspect replay plan run soak sel build device agent decode" ;;
         *) case ${COMP_WORDS[1]}:$word in
@@ -20,8 +22,8 @@ _fwupd() {
             soak:-*) words="--runs --record --loss --duplicate --delay --seed --help" ;;
             sel:-*) words="--help" ;;
             build:-*) words="--help" ;;
-            device:-*) words="--auto --open --store --report --listen --take-over --tty --tick --ticks --help --listen --tty" ;;
-            agent:-*) words="--auto --open --sel --report --connect --package --check --json --tty --tick --ticks --help --connect --tty" ;;
+            device:-*) words="--auto --open --store --report --listen --take-over --tty --tick --ticks --trace --trace-format --record --help --listen --tty" ;;
+            agent:-*) words="--auto --open --sel --store --report --connect --package --check --json --tty --tick --ticks --trace --trace-format --record --help --connect --tty" ;;
             decode:-*) words="--unit --json --help" ;;
         esac ;;
     esac
