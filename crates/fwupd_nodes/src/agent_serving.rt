@@ -85,7 +85,7 @@ fn serve_started<
     joined: &mut Joined<ObservedLine<L, O>, C>,
 ) -> Result<AgentProcess<'p, K>, JobFault>
     requires { beginner.agent.now ≡ 0 }
-    ensures { IfOk result (λ last. ServesStarted K.keeps job.now.number beginner.eids.now beginner.agent last) }
+    ensures { IfOk result (λ last. ServesStarted K.keeps job.now.number beginner.entry.eids.now beginner.entry.agent last) }
 {
     let Beginner {
         network,
@@ -230,7 +230,7 @@ fn serve_agent<'p, 'e, K: AgentKeeper + Drop, H: Parts>(
     host: &mut Host<H>,
 ) -> Result<(), JobFault>
     requires { beginner.agent.now ≡ 0 }
-    ensures runs { OnOk result (RunsServed K.keeps job.now beginner.agent beginner.eids.now
+    ensures runs { OnOk result (RunsServed K.keeps job.now beginner.entry.agent beginner.entry.eids.now
         host.old.output host.new.output) }
     ensures untouched { host.new.watch ≡ host.old.watch }
 {
@@ -262,7 +262,7 @@ fn serve_new<H: Parts>(
     packages: &[Package<'_>],
     host: &mut Host<H>,
 ) -> Result<(), JobFault>
-    requires devices { length setup.entry.eids.now ≤ 16 }
+    requires devices { length setup.eids.now ≤ 16 }
     ensures runs { OnOk result (RunsServed keeps_nothing job.now (new_served_agent setup.entry.network.unit
         setup.entry.network.endpoint setup.entry.eids.now packages.now) setup.entry.eids.now
         host.old.output host.new.output) }
@@ -289,7 +289,7 @@ fn serve_kept<H: Parts>(
     setup: (AgentSetup<'_>, &[Package<'_>]),
     host: &mut Host<H>,
 ) -> Result<(), JobFault>
-    requires devices { length setup.entry.0.eids.now ≤ 16 }
+    requires devices { length setup.0.eids.now ≤ 16 }
     ensures runs { OnOk result (RunsKept job.now (agent_store_in (H.Stores.is_known host.old.stores)
         (H.Stores.agent_files host.old.stores) root.now) (agent_setup_seen setup.entry.0)
         setup.entry.1.now host.old.output host.new.output) }
@@ -320,7 +320,7 @@ fn serve_setup<H: Parts>(
     packages: &[Package<'_>],
     host: &mut Host<H>,
 ) -> Result<(), JobFault>
-    requires devices { length setup.entry.eids.now ≤ 16 }
+    requires devices { length setup.eids.now ≤ 16 }
     ensures runs { OnOk result (RunsAgentSetup job.now (agent_store_in (H.Stores.is_known host.old.stores)
         (H.Stores.agent_files host.old.stores)) (agent_setup_seen setup.entry) packages.now
         host.old.output host.new.output) }

@@ -85,7 +85,7 @@ pub fn open_agent<F: Folder + Drop, T: Stores<F>>(
     root: &str,
     setup: AgentSetup<'_>,
 ) -> Result<(AgentNode, FolderKeeper<F>), JobFault>
-    requires { length setup.entry.eids.now ≤ 16 }
+    requires { length setup.eids.now ≤ 16 }
     ensures { IfOk result (λ opened. IfSome (agent_store_in (T.is_known stores.now)
         (T.agent_files stores.now) root.now) (λ files. BeginsWithStore files
         (agent_setup_seen setup.entry) opened.0)) }

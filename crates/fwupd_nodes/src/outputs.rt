@@ -32,7 +32,7 @@ pub fn check_outputs<F: Files>(
     packages: &[String],
     outputs: ProcessOutputs<'_>,
 ) -> Result<(), JobFault>
-    ensures { OnOk result (IsApart (F.holds files.now) (process_shows outputs.watching
+    ensures { OnOk result (IsApart (F.holds files.now) (process_shows outputs.entry.watching
         (option_map (λ p. p.now) outputs.entry.log) (option_map (λ p. p.now) outputs.entry.store))
         (config.now ∷ map (λ p. string_bytes p) packages.now)) }
 {

@@ -5,7 +5,7 @@ returns-in-Ok-serve_process g c = record {
   shown = c.wait_past-shown.result;
   first = c.miss.new.self;
   begins = rw c.in-Ok.ensures at c.miss.ensures.does;
-  joined = g.L.Line.known c.args.joined.now.line;
-  left = g.L.Line.known c.serve_process.new.line;
+  joined = g.L.Line.known c.begin.new.self.line;
+  left = g.L.Line.known c.serve_process.new.line.line;
   serves = c.in-Ok-serve_process.ensures.served;
 }
