@@ -15,7 +15,7 @@ use std::fs::File;
 use std::io;
 
 /// The front of a node over sockets, if it is requested.
-fn front(network: Network, serving: Serving<'_>) -> Option<Front> {
+fn front(network: &Network, serving: Serving<'_>) -> Option<Front> {
     if !serving.is_open {
         return None;
     }
@@ -63,7 +63,7 @@ impl<'a> SystemWiring<'a> {
         &mut self,
         alloc: Global,
         path: &str,
-        network: Network,
+        network: &Network,
     ) -> Result<SerialLine<Port>, JobFault> {
         match Port::open(self.rt, alloc, path) {
             Ok(port) => Ok(SerialLine::new(port, network.unit, network.endpoint)),
@@ -118,7 +118,7 @@ impl<'a> Wiring for SystemWiring<'a> {
     fn device(
         &mut self,
         alloc: Global,
-        network: Network,
+        network: &Network,
         job: &DeviceProcess<'_>,
     ) -> Result<Joined<Self::Device, Self::Clock>, JobFault> {
         let line = match job.serving.wire {
@@ -137,7 +137,7 @@ impl<'a> Wiring for SystemWiring<'a> {
     fn agent(
         &mut self,
         alloc: Global,
-        network: Network,
+        network: &Network,
         eids: &[u8],
         serving: Serving<'_>,
     ) -> Result<Joined<Self::Agent, Self::Clock>, JobFault> {

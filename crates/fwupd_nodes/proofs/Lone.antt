@@ -1,6 +1,6 @@
 -- A device or the agent of a configuration by itself: its setup, and what it served.
-use Rattle.std.proofs.Common.{◌≡◌, ◌≢◌, ◌≤◌, ◌<◌, ◌+◌, ◌∙◌, ◌==◌, ◌∷◌, ◌⊎◌, [], Bool, Err, IfErr, IfSome, List, None, Ok, OnErr, OnOk, Option, Result, Some, ap, arith, cond, false, inl, inr, length, map, nat_lt, not, option_map, refl, slice_get, suc, subst, sym, true, zero, ℕ}
-use Rattle.std.specs.Prelude.{All, IsSome, IsSomeAnd, slice_index_or}
+use Rattle.std.proofs.Common.{◌≡◌, ◌≢◌, ◌<◌, ◌+◌, ◌∙◌, ◌==◌, ◌∷◌, ◌⊎◌, [], Bool, Err, IfErr, IfSome, List, None, Ok, OnErr, OnOk, Option, Result, Some, ap, arith, cond, false, inl, inr, length, map, nat_lt, not, option_map, refl, slice_get, suc, subst, sym, true, zero, ℕ}
+use Rattle.std.specs.Prelude.{All, IsSome, slice_index_or}
 use Rattle.std.specs.List.{AllByRecursion, position, position_or_len}
 use Rattle.std.proofs.lemmas.List.{length-map}
 use Rattle.std.proofs.lemmas.List.Elements.{All-cons, All-head, All-nil, All-tail}
@@ -19,7 +19,7 @@ use Rattle.fw_setup.specs.Nodes.{node_made}
 use Rattle.fw_setup.specs.Stocks.{HaveStoredImages, StoresOf}
 use Rattle.fw_trace.specs.Records.{records_bytes}
 use Rattle.fwupd_base.specs.declared.stream.AnswerFault.{AnswerFault}
-use Rattle.fwupd_nodes.specs.Alone.{AgentEnds, AreOutputsApart, DeviceEnds, DeviceSetupOf, FilterEnds, IsDeviceSetup, IsOnly, NodeEnds, PackagesEnd, ServesAgent, ServesDevice, ServesFilter, ServesNode, ServesPackages, ServesSetup, SetupEnds, agent_end, agent_filter, agent_made, device_filter, device_source, place_named, streams_found, streams_left}
+use Rattle.fwupd_nodes.specs.Alone.{AgentEnds, AreOutputsApart, DeviceEnds, DeviceSetupOf, FilterEnds, IsDeviceSetup, IsOnly, NodeEnds, PackagesEnd, ServesAgent, ServesDevice, ServesFilter, ServesNode, ServesPackages, ServesSetup, SetupEnds, agent_end, agent_filter, device_filter, device_source, place_named, streams_found, streams_left}
 use Rattle.fwupd_nodes.specs.Hosts.{FoundOf, LeftOf}
 use Rattle.fwupd_nodes.specs.Setups.{AreDevices, ArePacked, Says}
 use Rattle.fwupd_nodes.proofs.Packed.{none_stocked, packages_so, some_stocked}

@@ -1,5 +1,5 @@
 -- Files that are read one after the other.
-use Rattle.std.proofs.Common.{◌≡◌, ◌≢◌, ◌≤◌, ◌<◌, ◌+◌, ◌++◌, ◌⊎◌, ◌∙◌, ℕ, suc, Bool, List, [], ◌∷◌, false, true, Some, None, Result, Ok, Err, IfOk, IsOk, inl, inr, length, map, take, get_or, Vec, String, Global, refl, sym, ap, subst, arith}
+use Rattle.std.proofs.Common.{◌≡◌, ◌≢◌, ◌≤◌, ◌<◌, ◌+◌, ◌++◌, ◌⊎◌, ◌∙◌, ℕ, suc, List, [], ◌∷◌, false, true, Some, None, Result, Ok, Err, IfOk, IsOk, inl, inr, length, map, take, get_or, Vec, String, Global, refl, sym, ap, subst, arith}
 use Rattle.std.specs.Prelude.{IsSomeAnd, Option, drop, option_map, string_bytes}
 use Rattle.std.proofs.Math.Seq.{split_at, take-suc}
 use Rattle.std.proofs.lemmas.List.{append-nil, drop_all, length-map, map-append, take_all}
@@ -36,6 +36,7 @@ unsaid_so read path text file fault (faults.Text name told) h held is =
 unsaid_so read path text file fault (faults.Step n f) h held is = absurd h
 unsaid_so read path text file fault faults.NoPackage h held is = absurd h
 unsaid_so read path text file fault (faults.Store device why) h held is = absurd h
+unsaid_so read path text file fault (faults.Unkept device) h held is = absurd h
 unsaid_so read path text file fault (faults.Socket device) h held is = absurd h
 unsaid_so read path text file fault faults.Tty h held is = absurd h
 unsaid_so read path text file fault faults.Trace h held is = absurd h

@@ -45,20 +45,6 @@ fn start_all(agent: &mut ServedAgent<'_>, number: usize, eids: &[u8]) -> Result<
     Ok(())
 }
 
-/// The agent of a process that is to begin: its network, its devices, and what keeps what it
-/// keeps over a restart.
-#[derive(Drop)]
-struct Beginner<'p, 'e, K: AgentKeeper + Drop> {
-    /// The network, with the agent's endpoint.
-    network: Network,
-    /// The agent, at time 0.
-    agent: ServedAgent<'p>,
-    /// The endpoint identifiers of its devices.
-    eids: &'e [u8],
-    /// The keeper.
-    keeper: K,
-}
-
 /// The fault of an agent's process whose keeper failed.
 fn unkept(eid: u8, fault: KeepFault) -> JobFault
     ensures unwritable { fault ≡ KeepFault.Unwritable → result ≡ JobFault.Unkept eid }
@@ -73,7 +59,6 @@ fn unkept(eid: u8, fault: KeepFault) -> JobFault
 /// Serves an agent as a process, from the unit that a clock shows, with an update of each device.
 fn serve_started<
     'p,
-    'e,
     K: AgentKeeper + Drop,
     L: Line + Drop,
     O: PacketObserver + Drop,
@@ -81,19 +66,16 @@ fn serve_started<
 >(
     alloc: Global,
     job: &fwupd_words::AgentProcess<'_>,
-    beginner: Beginner<'p, 'e, K>,
+    setup: &AgentSetup<'_>,
+    agent: ServedAgent<'p>,
+    keeper: K,
     joined: &mut Joined<ObservedLine<L, O>, C>,
 ) -> Result<AgentProcess<'p, K>, JobFault>
-    requires { beginner.agent.now ≡ 0 }
-    ensures { IfOk result (λ last. ServesStarted K.keeps job.now.number beginner.entry.eids.now beginner.entry.agent last) }
+    requires { agent.now ≡ 0 }
+    ensures { IfOk result (λ last. ServesStarted K.keeps job.now.number setup.now.eids.now agent.entry last) }
 {
-    let Beginner {
-        network,
-        mut agent,
-        eids,
-        keeper,
-    } = beginner;
-    let eid = network.endpoint.eid;
+    let mut agent = agent;
+    let (eid, eids) = (setup.network.endpoint.eid, setup.eids);
     let shown = joined.clock.wait_past(0);
     agent.miss(shown);
     joined.line.begin(shown);
@@ -214,38 +196,45 @@ fn end_observed<H: Parts>(
 }
 
 /// An agent as a process that is observed.
-fn observed(network: Network, number: usize, eids: &[u8]) -> Observed<'_> {
+fn observed<'e>(setup: &AgentSetup<'e>, number: usize) -> Observed<'e> {
+    let eids = setup.eids;
     Observed {
-        unit: network.unit,
-        node: TracedNode::Agent(network.endpoint.eid),
+        unit: setup.network.unit,
+        node: TracedNode::Agent(setup.network.endpoint.eid),
         starts: Starts { number, eids },
     }
 }
 
-/// Serves an agent as a process.
-fn serve_agent<'p, 'e, K: AgentKeeper + Drop, H: Parts>(
+/// Serves an agent as a process, with a keeper of what it keeps over a restart.
+fn serve_agent<'p, K: AgentKeeper + Drop, H: Parts>(
     alloc: Global,
     job: &fwupd_words::AgentProcess<'_>,
-    beginner: Beginner<'p, 'e, K>,
+    setup: &AgentSetup<'_>,
+    agent: ServedAgent<'p>,
+    keeper: K,
     host: &mut Host<H>,
 ) -> Result<(), JobFault>
-    requires { beginner.agent.now ≡ 0 }
-    ensures runs { OnOk result (RunsServed K.keeps job.now beginner.entry.agent beginner.entry.eids.now
+    requires { agent.now ≡ 0 }
+    ensures runs { OnOk result (RunsServed K.keeps job.now agent.entry setup.now.eids.now
         host.old.output host.new.output) }
     ensures untouched { host.new.watch ≡ host.old.watch }
 {
-    let (network, eids) = (beginner.network, beginner.eids);
-    let observed = observed(network, job.number, eids);
-    let watch = match host.wiring.watch(alloc, observed, job.watching) {
+    let watch = match host
+        .wiring
+        .watch(alloc, observed(setup, job.number), job.watching)
+    {
         Ok(watch) => watch,
         Err(fault) => return Err(fault),
     };
-    let joined = match host.wiring.agent(alloc, network, eids, job.serving) {
+    let joined = match host
+        .wiring
+        .agent(alloc, &setup.network, setup.eids, job.serving)
+    {
         Ok(joined) => joined,
         Err(fault) => return Err(fault),
     };
     let mut joined = observe(joined, watch);
-    let served = serve_started(alloc, job, beginner, &mut joined);
+    let served = serve_started(alloc, job, setup, agent, keeper, &mut joined);
     let watched = joined.line.end();
     let process = match served {
         Ok(process) => process,
@@ -255,47 +244,41 @@ fn serve_agent<'p, 'e, K: AgentKeeper + Drop, H: Parts>(
 }
 
 /// Serves a new agent, of which nothing is kept.
-fn serve_new<H: Parts>(
+fn serve_new<'p, H: Parts>(
     alloc: Global,
     job: &fwupd_words::AgentProcess<'_>,
-    setup: AgentSetup<'_>,
-    packages: &[Package<'_>],
+    setup: &AgentSetup<'_>,
+    packages: &'p [Package<'p>],
     host: &mut Host<H>,
 ) -> Result<(), JobFault>
-    requires devices { length setup.eids.now ≤ 16 }
-    ensures runs { OnOk result (RunsServed keeps_nothing job.now (new_served_agent setup.entry.network.unit
-        setup.entry.network.endpoint setup.entry.eids.now packages.now) setup.entry.eids.now
+    requires devices { length setup.now.eids.now ≤ 16 }
+    ensures runs { OnOk result (RunsServed keeps_nothing job.now (new_served_agent setup.now.network.unit
+        setup.now.network.endpoint setup.now.eids.now packages.now) setup.now.eids.now
         host.old.output host.new.output) }
     ensures untouched { host.new.watch ≡ host.old.watch }
 {
-    let AgentSetup { network, eids, .. } = setup;
-    let Ok(agent) = ServedAgent::new(alloc, network.unit, network.endpoint, eids, packages) else {
+    let (unit, endpoint) = (setup.network.unit, setup.network.endpoint);
+    let Ok(agent) = ServedAgent::new(alloc, unit, endpoint, setup.eids, packages) else {
         return Err(JobFault::Memory);
     };
-    let beginner = Beginner {
-        network,
-        agent,
-        eids,
-        keeper: NoKeeper,
-    };
-    serve_agent(alloc, job, beginner, host)
+    serve_agent(alloc, job, setup, agent, NoKeeper, host)
 }
 
 /// Serves the agent that goes on with what a folder of stores keeps, and keeps it there.
-fn serve_kept<H: Parts>(
+fn serve_kept<'p, H: Parts>(
     alloc: Global,
     job: &fwupd_words::AgentProcess<'_>,
     root: &str,
-    setup: (AgentSetup<'_>, &[Package<'_>]),
+    setup: &AgentSetup<'_>,
+    packages: &'p [Package<'p>],
     host: &mut Host<H>,
 ) -> Result<(), JobFault>
-    requires devices { length setup.0.eids.now ≤ 16 }
+    requires devices { length setup.now.eids.now ≤ 16 }
     ensures runs { OnOk result (RunsKept job.now (agent_store_in (H.Stores.is_known host.old.stores)
-        (H.Stores.agent_files host.old.stores) root.now) (agent_setup_seen setup.entry.0)
-        setup.entry.1.now host.old.output host.new.output) }
+        (H.Stores.agent_files host.old.stores) root.now) (agent_setup_seen setup.now)
+        packages.now host.old.output host.new.output) }
     ensures untouched { host.new.watch ≡ host.old.watch }
 {
-    let (setup, packages) = setup;
     let (node, keeper) = match open_agent(alloc, &host.stores, root, setup) {
         Ok(opened) => opened,
         Err(fault) => return Err(fault),
@@ -303,32 +286,26 @@ fn serve_kept<H: Parts>(
     let Ok(agent) = ServedAgent::of_node(alloc, node, packages) else {
         return Err(JobFault::Memory);
     };
-    let beginner = Beginner {
-        network: setup.network,
-        agent,
-        eids: setup.eids,
-        keeper,
-    };
-    serve_agent(alloc, job, beginner, host)
+    serve_agent(alloc, job, setup, agent, keeper, host)
 }
 
 /// Serves an agent, which goes on with what a folder of stores keeps, if one is given.
-fn serve_setup<H: Parts>(
+fn serve_setup<'p, H: Parts>(
     alloc: Global,
     job: &fwupd_words::AgentProcess<'_>,
-    setup: AgentSetup<'_>,
-    packages: &[Package<'_>],
+    setup: &AgentSetup<'_>,
+    packages: &'p [Package<'p>],
     host: &mut Host<H>,
 ) -> Result<(), JobFault>
-    requires devices { length setup.eids.now ≤ 16 }
+    requires devices { length setup.now.eids.now ≤ 16 }
     ensures runs { OnOk result (RunsAgentSetup job.now (agent_store_in (H.Stores.is_known host.old.stores)
-        (H.Stores.agent_files host.old.stores)) (agent_setup_seen setup.entry) packages.now
+        (H.Stores.agent_files host.old.stores)) (agent_setup_seen setup.now) packages.now
         host.old.output host.new.output) }
     ensures untouched { host.new.watch ≡ host.old.watch }
 {
     match job.store {
         None => serve_new(alloc, job, setup, packages, host),
-        Some(root) => serve_kept(alloc, job, root, (setup, packages), host),
+        Some(root) => serve_kept(alloc, job, root, setup, packages, host),
     }
 }
 
@@ -364,7 +341,7 @@ fn serve_packages<H: Parts>(
         eids: eids.as_slice(),
         contents,
     };
-    serve_setup(alloc, job, setup, packages.as_slice(), host)
+    serve_setup(alloc, job, &setup, packages.as_slice(), host)
 }
 
 /// Serves the agent of the configuration in a file as a process of its own: it starts the update of

@@ -49,12 +49,12 @@ fn unclaimed(eid: u8, fault: ClaimFault) -> JobFault {
 fn node_in<F: Folder>(
     alloc: Global,
     folder: &F,
-    network: Network,
+    network: &Network,
     eids: &[u8],
 ) -> Result<AgentNode, OpenFault>
     requires { length eids.now ≤ 16 }
     ensures { IfOk result (λ n. F.is_known folder.now ≡ true
-        → IsAgentNode (F.files folder.now) network.unit network.endpoint eids.now n) }
+        → IsAgentNode (F.files folder.now) network.now.unit network.now.endpoint eids.now n) }
 {
     let found = match agent_in(alloc, folder) {
         Ok(found) => found,
@@ -83,12 +83,12 @@ pub fn open_agent<F: Folder + Drop, T: Stores<F>>(
     alloc: Global,
     stores: &T,
     root: &str,
-    setup: AgentSetup<'_>,
+    setup: &AgentSetup<'_>,
 ) -> Result<(AgentNode, FolderKeeper<F>), JobFault>
-    requires { length setup.eids.now ≤ 16 }
+    requires { length setup.now.eids.now ≤ 16 }
     ensures { IfOk result (λ opened. IfSome (agent_store_in (T.is_known stores.now)
         (T.agent_files stores.now) root.now) (λ files. BeginsWithStore files
-        (agent_setup_seen setup.entry) opened.0)) }
+        (agent_setup_seen setup.now) opened.0)) }
 {
     let eid = setup.network.endpoint.eid;
     let mut folder = match stores.make_agent(alloc, root) {
@@ -99,7 +99,7 @@ pub fn open_agent<F: Folder + Drop, T: Stores<F>>(
         Ok(()) => {}
         Err(fault) => return Err(unclaimed(eid, fault)),
     }
-    match node_in(alloc, &folder, setup.network, setup.eids) {
+    match node_in(alloc, &folder, &setup.network, setup.eids) {
         Ok(node) => Ok((node, FolderKeeper::new(alloc, folder))),
         Err(fault) => Err(unopened(eid, fault)),
     }

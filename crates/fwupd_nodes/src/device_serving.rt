@@ -75,7 +75,7 @@ fn report_served<B: Bank + Drop, W: Write + Drop>(
 }
 
 /// A device as a process that is observed.
-fn observed(network: Network) -> Observed<'static> {
+fn observed(network: &Network) -> Observed<'static> {
     Observed {
         unit: network.unit,
         node: TracedNode::Device(network.endpoint.eid),
@@ -98,11 +98,11 @@ fn serve_device<B: Bank + Drop, H: Parts>(
     ensures runs { OnOk result (RunsNode node host.old.output host.new.output) }
     ensures untouched { host.new.watch ≡ host.old.watch }
 {
-    let watch = match host.wiring.watch(alloc, observed(network), job.watching) {
+    let watch = match host.wiring.watch(alloc, observed(&network), job.watching) {
         Ok(watch) => watch,
         Err(fault) => return Err(fault),
     };
-    let joined = match host.wiring.device(alloc, network, job) {
+    let joined = match host.wiring.device(alloc, &network, job) {
         Ok(joined) => joined,
         Err(fault) => return Err(fault),
     };

@@ -68,7 +68,7 @@ pub trait Wiring {
     fn device(
         &mut self,
         alloc: Global,
-        network: Network,
+        network: &Network,
         job: &DeviceProcess<'_>,
     ) -> Result<Joined<Self::Device, Self::Clock>, JobFault>;
 
@@ -79,7 +79,7 @@ pub trait Wiring {
     fn agent(
         &mut self,
         alloc: Global,
-        network: Network,
+        network: &Network,
         eids: &[u8],
         serving: Serving<'_>,
     ) -> Result<Joined<Self::Agent, Self::Clock>, JobFault>;

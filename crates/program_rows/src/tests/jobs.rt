@@ -341,7 +341,7 @@ impl Wiring for Lonely {
     fn device(
         &mut self,
         _alloc: Global,
-        _network: Network,
+        _network: &Network,
         job: &DeviceProcess<'_>,
     ) -> Result<Joined<Silence, Hasty>, JobFault> {
         match job.serving.wire {
@@ -357,7 +357,7 @@ impl Wiring for Lonely {
     fn agent(
         &mut self,
         _alloc: Global,
-        _network: Network,
+        _network: &Network,
         _eids: &[u8],
         serving: Serving<'_>,
     ) -> Result<Joined<Silence, Hasty>, JobFault> {
