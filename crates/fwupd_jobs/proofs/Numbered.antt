@@ -14,7 +14,7 @@ use Rattle.fwupd_watch.specs.Running.{ObserverOf, ShowOf}
 use Rattle.fwupd_watch.specs.declared.faults.JobFault.{JobFault}
 use Rattle.fwupd_watch.specs.declared.faults.JobFault.TheVariants as faults
 use Rattle.fwupd_nodes.specs.Setups.{AreDevices, ArePackages, IsSetup, Says, SourceOf}
-use Rattle.fwupd_nodes.proofs.Packed.{as_many, as_named, set_up}
+use Rattle.fwupd_nodes.proofs.Packed.{as_many, as_named}
 use Rattle.fwupd_jobs.specs.Updated.{IsNumberedSetup, IsObservedSetup, LacksTrace}
 
 -- The world of a configuration with these packages, one of which has this number.
@@ -35,14 +35,29 @@ named_up files source number config w s is counted there = record {
   is = ap (λ k. k.packages) is;
 }
 
+-- a world of a configuration with its packages, and with the images in the stores of its devices
+world_made : (files : List ℕ → FileOf) (source : SourceOf) (config : Config) (ps packs : List PackageText) (devices : List DeviceConfigOf) (w : WorldOf)
+    → Says config_of (files source.path) (config_seen config) → ArePackages files (map (λ p. string_bytes p) config.packages.items) ps
+    → AreDevices source.stores (map device_of config.devices.items) devices → packs ≡ ps
+    → w ≡ new_world config.agent (nodes_made config.unit config.agent.eid devices) packs → IsSetup files source w
+world_made files source config ps packs devices w says are stocked lent is = record {
+  config = config_seen config;
+  packages = ps;
+  devices = devices;
+  says = says;
+  are = are;
+  stocked = stocked;
+  world = is ∙ ap (λ q. new_world config.agent (nodes_made config.unit config.agent.eid devices) q) lent;
+}
+
 pub named_with : (files : List ℕ → FileOf) (source : SourceOf) (number : ℕ) (config : Config) (ps packs : List PackageText) (devices : List DeviceConfigOf) (w : WorldOf)
     → Says config_of (files source.path) (config_seen config) → ArePackages files (map (λ p. string_bytes p) config.packages.items) ps
     → AreDevices source.stores (map device_of config.devices.items) devices → packs ≡ ps
     → w ≡ new_world config.agent (nodes_made config.unit config.agent.eid devices) packs → 1 ≤ number → number ≤ config.packages.len
     → NamedWith files source number w (map (λ p. string_bytes p) config.packages.items)
-unfolding set_up
+unfolding world_made
 named_with files source number config ps packs devices w says are stocked lent is counted there =
-    named_up files source number config w (set_up files source config ps packs devices w says are stocked lent is) refl counted there
+    named_up files source number config w (world_made files source config ps packs devices w says are stocked lent is) refl counted there
 
 same_paths : (files : List ℕ → FileOf) (source : SourceOf) (number : ℕ) (w : WorldOf) (named : IsNumberedSetup files source number w) (path : List ℕ) (names : List (List ℕ)) → source.path ≡ path
     → named.setup.config.packages ≡ names → source.path ∷ named.setup.config.packages ≡ path ∷ names

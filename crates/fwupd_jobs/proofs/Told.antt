@@ -1,5 +1,5 @@
 -- The faults of a job on a world.
-use Rattle.std.proofs.Common.{◌++◌, ◌∷◌, [], arith, sym, take, true, ◌≡◌, ◌⊎◌, ◌<◌, ◌+◌, ℕ, Bool, List, Option, None, Some, inl, inr, length, refl, ap, subst}
+use Rattle.std.proofs.Common.{◌++◌, ◌∷◌, arith, sym, take, true, ◌≡◌, ◌⊎◌, ◌<◌, ◌+◌, ℕ, Bool, List, Option, None, Some, inl, inr, length, refl, ap, subst}
 use Rattle.std.specs.Prelude.{IfSome}
 use Rattle.std.proofs.lemmas.List.{take_all}
 use Rattle.fw_json.specs.Forms.{report_in}

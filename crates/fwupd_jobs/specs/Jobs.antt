@@ -74,6 +74,7 @@ found_on_system input output =
     record {
       files = λ path. any_file;
       stores = λ root. any_stores;
+      agent_store = λ root. None;
       lacks = λ folder device. true;
       refuses = λ trace. true;
       input = input;

@@ -1,15 +1,16 @@
 //! The files that are written of a process while it runs, and its progress on a terminal.
 
 use fwupd_nodes::Observed;
-use fwupd_traces::{NodeRecord, PacketTrace, TracedNode};
+use fwupd_traces::{NodeRecord, PacketObserver, PacketTrace, ProcessWatch, TracedNode, WatchFault};
 use fwupd_watch::{JobFault, PacketProgress, process_fault};
 use fwupd_words::Watching;
+use mctp_wire::RawPacket;
 use std::alloc::Global;
 use std::fs::File;
 use std::io::IsTerminal;
 
 /// Makes the trace of a process, if it is requested.
-pub(crate) fn open_trace(
+fn open_trace(
     rt: &HostRuntime,
     alloc: Global,
     observed: Observed<'_>,
@@ -29,7 +30,7 @@ pub(crate) fn open_trace(
 }
 
 /// Makes the record of a process, if it is requested.
-pub(crate) fn open_record(
+fn open_record(
     rt: &HostRuntime,
     alloc: Global,
     observed: Observed<'_>,
@@ -48,7 +49,7 @@ pub(crate) fn open_record(
 }
 
 /// The progress of a process, where standard error is a terminal.
-pub(crate) fn open_progress<'a>(
+fn open_progress<'a>(
     rt: &'a HostRuntime,
     observed: Observed<'_>,
 ) -> Result<Option<PacketProgress<'a>>, JobFault> {
@@ -62,5 +63,62 @@ pub(crate) fn open_progress<'a>(
     match PacketProgress::new(rt, all) {
         Ok(progress) => Ok(Some(progress)),
         Err(_) => Err(JobFault::Memory),
+    }
+}
+
+/// What observes a process of the system. Nothing is known of what its files hold.
+#[derive(Drop)]
+pub(crate) struct SystemWatch<'a> {
+    watch: ProcessWatch<File, PacketProgress<'a>>,
+}
+
+/// Makes the files that are written of a process while it runs, and its progress.
+pub(crate) fn open_watch<'a>(
+    rt: &'a HostRuntime,
+    alloc: Global,
+    observed: Observed<'_>,
+    watching: Watching<'_>,
+) -> Result<SystemWatch<'a>, JobFault> {
+    let trace = open_trace(rt, alloc, observed, watching)?;
+    let record = open_record(rt, alloc, observed, watching)?;
+    let progress = open_progress(rt, observed)?;
+    Ok(SystemWatch {
+        watch: ProcessWatch {
+            trace,
+            record,
+            progress,
+        },
+    })
+}
+
+impl<'a> PacketObserver for SystemWatch<'a> {
+    ghost receives = { λ s p t. Prim.Unit {0} };
+
+    ghost sends = { λ s p t. Prim.Unit {0} };
+
+    ghost begins = { λ s unit t. Prim.Unit {0} };
+
+    ghost begins_round = { λ s unit t. Prim.Unit {0} };
+
+    ghost ends = { λ s t. Prim.Unit {0} };
+
+    fn begin(&mut self, unit: u32) {
+        self.watch.begin(unit);
+    }
+
+    fn begin_round(&mut self, unit: u32) {
+        self.watch.begin_round(unit);
+    }
+
+    fn receive(&mut self, stamp: u32, packet: &RawPacket) {
+        self.watch.receive(stamp, packet);
+    }
+
+    fn send(&mut self, unit: u32, packet: &RawPacket) {
+        self.watch.send(unit, packet);
+    }
+
+    fn end(&mut self) -> Result<(), WatchFault> {
+        self.watch.end()
     }
 }

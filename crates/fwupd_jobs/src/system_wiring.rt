@@ -1,17 +1,15 @@
 //! The system's sockets and serial lines, and its clock.
 
-use crate::process_files::{open_progress, open_record, open_trace};
+use crate::process_files::{SystemWatch, open_watch};
 use crate::sockets::{explain_socket, socket_path};
 use fwupd_nodes::{Joined, Network, Observed, Wiring};
-use fwupd_traces::ProcessWatch;
-use fwupd_watch::{JobFault, PacketProgress, explains};
+use fwupd_watch::{JobFault, explains};
 use fwupd_wires::{
     AgentSockets, AgentWire, DeviceSockets, DeviceWire, Front, FrontedLine, MachineClock, Port,
     SerialLine,
 };
 use fwupd_words::{DeviceProcess, Serving, Watching, Wire};
 use std::alloc::Global;
-use std::fs::File;
 use std::io;
 
 /// The front of a node over sockets, if it is requested.
@@ -97,22 +95,15 @@ impl<'a> Wiring for SystemWiring<'a> {
 
     type Clock = MachineClock<'a>;
 
-    type Watch = ProcessWatch<File, PacketProgress<'a>>;
+    type Watch = SystemWatch<'a>;
 
     fn watch(
         &mut self,
         alloc: Global,
         observed: Observed<'_>,
         watching: Watching<'_>,
-    ) -> Result<ProcessWatch<File, PacketProgress<'a>>, JobFault> {
-        let trace = open_trace(self.rt, alloc, observed, watching)?;
-        let record = open_record(self.rt, alloc, observed, watching)?;
-        let progress = open_progress(self.rt, observed)?;
-        Ok(ProcessWatch {
-            trace,
-            record,
-            progress,
-        })
+    ) -> Result<SystemWatch<'a>, JobFault> {
+        open_watch(self.rt, alloc, observed, watching)
     }
 
     fn device(
