@@ -13,9 +13,10 @@ use fw_world::{Step, World};
 use fwupd_base::{Form, Roughness};
 use fwupd_jobs::{
     Beginning, DeviceProcess, FileFault, FileIdentity, Files, Host, JobFault, Joined, Network,
-    Observed, Observer, ObserverFault, Order, Output, PacketTrace, Parts, Serving, Show, TraceForm,
-    Update, Watching, WholeFiles, Wire, Wires, Wiring, plan_file, update_checked,
+    Observer, ObserverFault, Order, Output, PacketTrace, Parts, Serving, Show, TraceForm, Update,
+    Watching, WholeFiles, Wire, Wires, Wiring, plan_file, update_checked,
 };
+use fwupd_nodes::Observed;
 use fwupd_watch::{SystemCalls, system_places};
 use mctp_wire::{RawPacket, Unit};
 use std::alloc::{AllocError, Global};
