@@ -1,10 +1,8 @@
 -- The text of packages, and claiming a folder for them.
 use Rattle.std.proofs.Common.{◌≡◌, ◌≢◌, ◌∙◌, ◌<◌, ◌+◌, ◌++◌, ◌⊎◌, inl, inr, ℕ, zero, suc, List, [], ◌∷◌, None, Option, Some, append_assoc, append-nil, ap, get_or, length, map, take, refl, sym, arith}
-use Rattle.std.specs.Prelude.{nat_eq}
-use Rattle.std.specs.List.{starts_with}
 use Rattle.std.proofs.lemmas.List.{take_all}
-use Rattle.fw_store.specs.Folders.{ChangesOnlyFile, Files, LeavesFiles, RenamesFile, WritesFile, active_name}
-use Rattle.agent_store.specs.Packages.{ClaimsFolder, FailsToClaim, LeavesOthers, MayPutPackages, PutsPackages, claim_fault, fault_by, new_packages_name, package_line, packages_name, packages_text}
+use Rattle.fw_store.specs.Folders.{ChangesOnlyFile, Files, LeavesFiles, RenamesFile, WritesFile}
+use Rattle.agent_store.specs.Packages.{MayPutPackages, PutsPackages, new_packages_name, package_line, packages_name, packages_text}
 
 -- THE TEXT
 

@@ -1,6 +1,6 @@
 -- A call of a keeper in a folder that fails.
-use Rattle.std.proofs.Common.{◌≡◌, ◌∙◌, ◌⊎◌, inl, inr, Bool, true, false, List, Option, Some, option_and_then, ap, refl}
-use Rattle.fw_store.specs.AgentKeeping.{KeepsAsBefore, KeepsEither, KeepsLines, agent_lines_in}
+use Rattle.std.proofs.Common.{◌≡◌, ◌∙◌, ◌⊎◌, inl, inr, Bool, true, false, List, Some, option_and_then, ap, refl}
+use Rattle.fw_store.specs.AgentKeeping.{KeepsAsBefore, KeepsEither, agent_lines_in}
 use Rattle.fw_store.specs.AgentText.{agent_lines_of}
 use Rattle.fw_store.specs.Folders.{Files}
 use Rattle.fw_store.specs.declared.kept_line.KeptLine.{KeptLine}

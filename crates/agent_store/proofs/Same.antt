@@ -1,12 +1,9 @@
 -- Lines that are equal by their comparison.
-use Rattle.std.proofs.Common.{◌≡◌, ◌∙◌, ◌==◌, ◌&&◌, ℕ, true, false, Bool, List, [], ◌∷◌, Option, Some, None, IsSomeAnd, nat_eq, ap, refl, sym}
+use Rattle.std.proofs.Common.{◌≡◌, ◌∙◌, ◌==◌, ◌&&◌, ℕ, true, false, Bool, List, [], ◌∷◌, Option, Some, None, nat_eq, ap, refl, sym}
 use Rattle.std.specs.Cmp.Lexicographic.{pointwise}
 use Rattle.std.specs.Option.{option_eq}
 use Rattle.std.specs.contracts.prelude.BoolPartialEq.TheImpl as flag_comparison
 use Rattle.std.proofs.lemmas.Bool.{and_parts, eqb-true}
-use Rattle.sel_core.specs.declared.log.resuming.LogSettings.{LogSettings}
-use Rattle.sel_core.specs.declared.records.LogRecord.{LogRecord}
-use Rattle.ua_core.specs.declared.planned.Recorded.{Recorded}
 use Rattle.fw_store.specs.declared.kept_line.KeptLine.{KeptLine}
 use Rattle.fw_store.specs.declared.kept_line.KeptLine.TheVariants as lines
 use Rattle.fw_store.specs.contracts.kept_line.KeptLinePartialEq.TheImpl as comparison

@@ -1,8 +1,7 @@
 //! A keeper that is called only if something changed.
 
-ghost use Rattle.std.specs.Prelude.{◌≡◌, IfSome};
+ghost use Rattle.std.specs.Prelude.{◌≡◌, IsSomeAnd, true};
 
-use crate::folder_keeper::are_last;
 use crate::keeper::{AgentKeeper, KeepFault};
 use crate::writing::agent_lines;
 use fw_node::AgentNode;
@@ -46,6 +45,16 @@ impl<K: AgentKeeper + Drop> ChangeKeeper<K> {
         ensures { result.now ≡ self.now }
     {
         &self.keeper
+    }
+}
+
+/// Whether these are the last lines.
+fn are_last(last: &Option<Vec<KeptLine>>, lines: &[KeptLine]) -> bool
+    ensures { result ≡ true → IsSomeAnd last.now (λ v. v.items ≡ lines.now) }
+{
+    match last {
+        Some(kept) => kept.as_slice() == lines,
+        None => false,
     }
 }
 

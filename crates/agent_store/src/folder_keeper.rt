@@ -1,48 +1,51 @@
 //! A keeper in a folder.
 
-ghost use Rattle.std.specs.Prelude.{◌≡◌, IsSomeAnd, true};
+ghost use Rattle.std.specs.Prelude.{◌≡◌, ◌⊎◌, List, OnErr, OnOk, Some, true};
+ghost use Rattle.agent_store.specs.Kept.{kept_lines};
+ghost use Rattle.agent_store.specs.Packages.{packages_name};
 ghost use Rattle.fw_store.specs.AgentKeeping.{agent_lines_in};
+ghost use Rattle.fw_store.specs.declared.kept_line.KeptLine.{KeptLine};
 
 use crate::keeper::{AgentKeeper, KeepFault};
 use crate::writing::agent_lines;
 use fw_node::AgentNode;
-use fw_store::{Folder, KeptLine, put_agent};
+use fw_store::{Folder, put_agent};
 use std::alloc::Global;
 use std::marker::Model;
 
-/// A keeper that keeps what the agent keeps in a folder. It writes nothing if the folder keeps it
-/// already.
+/// A keeper that writes what the agent keeps into a folder.
 #[derive(Drop)]
 pub struct FolderKeeper<F: Folder + Drop> {
     alloc: Global,
     folder: F,
-    /// The lines that the folder keeps, if the keeper kept them.
-    last: Option<Vec<KeptLine>>,
 }
 
 impl<F: Folder + Drop> Model for FolderKeeper<F> {
-    ghost use Rattle.std.specs.Prelude.{◌≡◌, IfSome, Some, true};
-    ghost use Rattle.fw_store.specs.AgentKeeping.{agent_lines_in};
     ghost use Rattle.agent_store.specs.Keepers.{FolderKeeperOf};
+    ghost use Rattle.agent_store.specs.Packages.{packages_name};
+    ghost use Rattle.fw_store.specs.AgentKeeping.{agent_lines_in};
 
     ghost Value = { FolderKeeperOf };
 
-    ghost view = { λ k. record { is_known = F.is_known k.folder; kept = agent_lines_in (F.files k.folder) } };
-
-    ghost invariant = { λ k. IfSome k.last (λ v. F.is_known k.folder ≡ true
-        → agent_lines_in (F.files k.folder) ≡ Some v.items) };
+    ghost view = { λ k. record {
+      is_known = F.is_known k.folder;
+      packages = F.files k.folder packages_name;
+      kept = agent_lines_in (F.files k.folder);
+      lasting = agent_lines_in (F.lasting k.folder);
+    } };
 }
 
 impl<F: Folder + Drop> FolderKeeper<F> {
     /// Creates a keeper in a folder.
     pub fn new(alloc: Global, folder: F) -> FolderKeeper<F>
-        ensures { result ≡ record { is_known = F.is_known folder; kept = agent_lines_in (F.files folder) } }
+        ensures { result ≡ record {
+          is_known = F.is_known folder;
+          packages = F.files folder packages_name;
+          kept = agent_lines_in (F.files folder);
+          lasting = agent_lines_in (F.lasting folder);
+        } }
     {
-        FolderKeeper {
-            alloc,
-            folder,
-            last: None,
-        }
+        FolderKeeper { alloc, folder }
     }
 
     /// Returns the folder.
@@ -54,35 +57,26 @@ impl<F: Folder + Drop> FolderKeeper<F> {
     }
 }
 
-/// Whether these are the last lines.
-pub(crate) fn are_last(last: &Option<Vec<KeptLine>>, lines: &[KeptLine]) -> bool
-    ensures { result ≡ true → IsSomeAnd last.now (λ v. v.items ≡ lines.now) }
-{
-    match last {
-        Some(kept) => kept.as_slice() == lines,
-        None => false,
-    }
-}
-
 impl<F: Folder + Drop> AgentKeeper for FolderKeeper<F> {
     ghost use Rattle.std.specs.Prelude.{◌≡◌, Some, true};
 
     ghost keeps = { λ k ls. k.is_known ≡ true → k.kept ≡ Some ls };
 
     #[tactic(auto, using(crate::proofs::Keeping::keeping))]
-    fn keep(&mut self, agent: &AgentNode) -> Result<(), KeepFault> {
+    fn keep(&mut self, agent: &AgentNode) -> Result<(), KeepFault>
+        ensures kept { OnOk result (self.new.is_known ≡ true → self.new.kept ≡ Some (kept_lines agent.now)) }
+        ensures either { OnErr result ((ls : List KeptLine)
+            → (self.old.is_known ≡ true → self.old.kept ≡ Some ls)
+            → (self.new.is_known ≡ true → self.new.kept ≡ Some ls)
+            ⊎ (self.new.is_known ≡ true → self.new.kept ≡ Some (kept_lines agent.now))) }
+        ensures lasts { OnOk result (self.old.is_known ≡ true → self.new.lasting ≡ Some (kept_lines agent.now)) }
+    {
         let Ok(lines) = agent_lines(self.alloc, agent) else {
             return Err(KeepFault::Memory);
         };
-        if are_last(&self.last, &lines) {
-            return Ok(());
-        }
-        self.last = None;
         match put_agent(self.alloc, &mut self.folder, &lines) {
-            Ok(()) => {}
-            Err(_) => return Err(KeepFault::Unwritable),
+            Ok(()) => Ok(()),
+            Err(_) => Err(KeepFault::Unwritable),
         }
-        self.last = Some(lines);
-        Ok(())
     }
 }

@@ -79,6 +79,7 @@ fn has_text<F: Folder>(alloc: Global, folder: &F, text: &[u8]) -> Result<bool, O
         → F.is_known folder.now ≡ true
         → claim_fault (F.files folder.now) text.now ≡ Some OpenFault.Damaged) }
     ensures unread { IfErr result (λ e. e ≡ OpenFault.Unreadable → F.may_fail folder.now ≡ true) }
+    ensures memory { IfErr result (λ e. e ≢ OpenFault.Memory) }
 {
     let found = match folder.read(alloc, PACKAGES) {
         Ok(found) => found,
@@ -103,6 +104,7 @@ fn put_packages<F: Folder>(folder: &mut F, text: &[u8]) -> Result<(), RenameFaul
     ensures known { F.is_known folder.new ≡ F.is_known folder.old }
     ensures ok { OnOk result (F.is_known folder.old ≡ true
         → PutsPackages text.now (F.files folder.old) (F.files folder.new)) }
+    ensures lasts { OnOk result (F.is_known folder.old ≡ true → F.lasting folder.new packages_name ≡ Some text.now) }
     ensures err { OnErr result (F.is_known folder.old ≡ true
         → MayPutPackages text.now (F.files folder.old) (F.files folder.new)) }
 {

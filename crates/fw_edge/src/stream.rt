@@ -1,23 +1,24 @@
 //! A link over a byte stream.
 
-ghost use Rattle.std.specs.Prelude.{◌≡◌, ◌≢◌, ◌+◌, IfErr, IfOk, IfSome, None, Ok, OnErr, OnOk, false, is_some, true};
-ghost use Rattle.std.specs.Io.KnownBytes.{Keeps};
-ghost use Rattle.fw_edge.specs.Frames.{ReadStops, WriteStops};
+ghost use Rattle.std.specs.Prelude.{[], ◌≡◌, ◌≢◌, ◌+◌, ◌∷◌, IfErr, IfOk, IfSome, None, Ok, OnErr, OnOk, false, is_some, length, true};
+ghost use Rattle.std.specs.Io.KnownBytes.{Consumes, Keeps};
+ghost use Rattle.fw_edge.specs.Frames.{IsSize, ReadStops, WriteStops, frames_of};
 ghost use Rattle.fw_edge.specs.Links.{AsksForFrame, FailsCall, ReadsFrameAt, SendsPacket, WritesFrameAt};
 
 use crate::frame::{Frame, FrameFault, read_frame_into, write_frame_from};
+use crate::held_back::HeldBack;
 use crate::link::Link;
 use crate::tally::Tally;
 use fw_world::Side;
 use mctp_wire::{RawPacket, Unit};
-use std::io::{Read, Write};
+use std::io::Read;
 
 /// A link whose ends are byte streams, such as sockets: a frame written at one end is read at the
 /// other. It reads only if a frame that it wrote is still on the way, so it never blocks on an
-/// empty stream. Before a read it flushes the other end's stream, so a stream may buffer many
+/// empty stream. Before a read it flushes the other end's stream, so a stream may hold back many
 /// frames.
 #[derive(Drop)]
-pub struct StreamLink<S: Read + Write + Drop> {
+pub struct StreamLink<S: Read + HeldBack + Drop> {
     unit: Unit,
     agent: S,
     device: S,
@@ -31,17 +32,34 @@ pub struct StreamLink<S: Read + Write + Drop> {
 }
 
 /// Flushes a stream.
-fn flush<S: Write>(stream: &mut S) -> Result<(), FrameFault>
+fn flush<S: HeldBack>(stream: &mut S) -> Result<(), FrameFault>
+    ensures out { OnOk result (S.held stream.new ≡ []) }
     ensures kept { Keeps (S.contents stream.old) (S.contents stream.new) }
     ensures fault { IfErr result (λ e. e ≡ FrameFault.Io) }
 {
-    match stream.flush() {
+    match stream.push_out() {
         Ok(()) => Ok(()),
         Err(_) => Err(FrameFault::Io),
     }
 }
 
-impl<S: Read + Write + Drop> StreamLink<S> {
+/// Reads a frame as `read_frame_into` does, from the stream at one end of a link. `_other` is the
+/// stream at the other end, and must hold nothing back: the frame may else never come.
+fn read_flushed<S: Read + HeldBack>(
+    unit: Unit,
+    stream: &mut S,
+    _other: &S,
+    packet: &mut RawPacket,
+) -> Result<(), FrameFault>
+    requires out { S.held _other.now ≡ [] }
+    ensures ok { OnOk result (Consumes (S.remaining stream.old) (S.remaining stream.new) (frames_of (packet.new.items ∷ []))) }
+    ensures size { OnOk result (IsSize unit (length packet.new.items)) }
+    ensures fault { IfErr result (λ e. ReadStops unit e (S.remaining stream.old) (S.remaining stream.new)) }
+{
+    read_frame_into(unit, stream, packet)
+}
+
+impl<S: Read + HeldBack + Drop> StreamLink<S> {
     /// Creates the link between these two ends, with no frame on the way, in a network with this
     /// transmission unit.
     pub fn new(unit: Unit, agent: S, device: S) -> StreamLink<S>
@@ -143,7 +161,7 @@ impl<S: Read + Write + Drop> StreamLink<S> {
                 };
                 self.up = left;
                 flush(&mut self.device)?;
-                read_frame_into(self.unit, &mut self.agent, packet)?;
+                read_flushed(self.unit, &mut self.agent, &self.device, packet)?;
             }
             Side::Device => {
                 let Some(left) = self.down.checked_sub(1) else {
@@ -151,14 +169,14 @@ impl<S: Read + Write + Drop> StreamLink<S> {
                 };
                 self.down = left;
                 flush(&mut self.agent)?;
-                read_frame_into(self.unit, &mut self.device, packet)?;
+                read_flushed(self.unit, &mut self.device, &self.agent, packet)?;
             }
         }
         Ok(true)
     }
 }
 
-impl<S: Read + Write + Drop> Link for StreamLink<S> {
+impl<S: Read + HeldBack + Drop> Link for StreamLink<S> {
     ghost tally = { λ l. l.tally };
 
     fn send(&mut self, side: Side, packet: &RawPacket) -> Result<(), FrameFault>

@@ -1,7 +1,8 @@
 -- A node as a process of its own. It counts the units of a clock that all processes of a machine
 -- share. What it does is a function of the units that the clock showed it, and of the packets that
 -- came over its line, each with a stamp: the unit in which it was sent.
-use Rattle.std.specs.Prelude.{ℕ, suc, zero, ◌≡◌, ◌+◌, ◌-◌, ◌^◌, ◌++◌, ◌∷◌, [], nat_le, if◌then◌else◌, List, Option, Some, None}
+use Rattle.std.specs.Prelude.{ℕ, suc, zero, ◌≡◌, ◌≤◌, ◌+◌, ◌-◌, ◌^◌, ◌++◌, ◌∷◌, [], length, map, nat_le, if◌then◌else◌, List, Option, Some, None}
+use Rattle.std.specs.List.{AllByRecursion}
 use Rattle.std.specs.Option.{option_map}
 use Rattle.exch_lane.specs.Lanes.{Sent}
 use Rattle.exch_lane.specs.Steps.{sent_at}
@@ -69,11 +70,6 @@ abbrev pub rounds_deeds : (unit : ℕ) → List RoundOf → List Deed
 rounds_deeds unit [] = []
 rounds_deeds unit (r ∷ rs) = round_deeds unit r ++ rounds_deeds (unit_after_deeds unit (round_deeds unit r)) rs
 
--- all packets that came in rounds
-abbrev pub came_in : List RoundOf → List Sent
-came_in [] = []
-came_in (r ∷ rs) = r.came ++ came_in rs
-
 -- PROCESSES
 
 -- `does s d t sent`: a process `s` does a deed, is `t` afterwards, and sends packets. A packet that
@@ -90,42 +86,79 @@ DoesAll {P} does s (d ∷ ds) t sent =
 
 -- THE LINE
 
--- All packets that came over a line, and all that were sent over it, if the line knows them. What
--- is sent may be lost.
+-- What a process does with its line besides sending: it begins a round in a unit, takes a packet
+-- that came, or finds that none is left.
+pub data LineCall : Type 0 where
+  Begins : (unit : ℕ) → LineCall
+  Takes : (packet : Sent) → LineCall
+  FindsNone : LineCall
+
+-- All such calls of a line, and all packets that were sent over it, if the line knows them. What is
+-- sent may be lost.
 pub record LineOf : Type 0 where
-  pub came : Option (List Sent)
+  pub calls : Option (List LineCall)
   pub sent : Option (List Sent)
 
 abbrev pub none_known : LineOf
-none_known = record { came = None; sent = None }
+none_known = record { calls = None; sent = None }
 
-abbrev pub line_with : LineOf → (came sent : List Sent) → LineOf
-line_with l came sent = record { came = option_map (λ ps. ps ++ came) l.came; sent = option_map (λ ps. ps ++ sent) l.sent }
+abbrev pub line_with : LineOf → (calls : List LineCall) → (sent : List Sent) → LineOf
+line_with l calls sent = record { calls = option_map (λ cs. cs ++ calls) l.calls; sent = option_map (λ ps. ps ++ sent) l.sent }
 
--- the packet that came, if one did
-abbrev pub packet_come : (stamp : Option ℕ) → (bytes : List ℕ) → List Sent
-packet_come None bytes = []
-packet_come (Some stamp) bytes = sent_at stamp bytes ∷ []
+-- a call that receives: the packet that came has a stamp
+abbrev pub receive_call : (stamp : Option ℕ) → (bytes : List ℕ) → LineCall
+receive_call None bytes = LineCall.FindsNone
+receive_call (Some stamp) bytes = LineCall.Takes (sent_at stamp bytes)
+
+-- A round takes at most 1,024 packets. If it takes fewer, it finds that none is left.
+abbrev pub taking : List Sent → List LineCall
+taking ps = map (λ p. LineCall.Takes p) ps ++ (if nat_le 1024 (length ps) then [] else LineCall.FindsNone ∷ [])
+
+-- A round begins once the process is in the unit that the clock shows, and then takes packets.
+abbrev pub round_calls : (unit : ℕ) → RoundOf → List LineCall
+round_calls unit r = LineCall.Begins (unit_after_deeds unit (deeds_to unit r.shown)) ∷ taking r.came
+
+abbrev pub rounds_calls : (unit : ℕ) → List RoundOf → List LineCall
+rounds_calls unit [] = []
+rounds_calls unit (r ∷ rs) = round_calls unit r ++ rounds_calls (unit_after_deeds unit (round_deeds unit r)) rs
+
+-- THE CLOCK
+
+-- all units that a clock showed, if it knows them, and more
+abbrev pub shows : Option (List ℕ) → (units : List ℕ) → Option (List ℕ)
+shows shown units = option_map (λ us. us ++ units) shown
+
+-- What surrounds a process: its line, and what the clock showed.
+pub record AroundOf : Type 0 where
+  pub line : LineOf
+  pub shown : Option (List ℕ)
 
 -- SERVICE
 
--- A process, while these packets come over its line, does deeds, and sends over the line what they
--- send, in order. `unit` is the unit of a process.
-pub record Serves {P : Type 0} (does : P → Deed → P → List Sent → Type 0) (unit : P → ℕ) (came : List Sent) (deeds : List Deed) (s : P) (before : LineOf) (t : P) (after : LineOf) : Type 0 where
+-- A process makes these calls of its line, does deeds, and sends over the line what they send, in
+-- order. `unit` is the unit of a process.
+pub record Serves {P : Type 0} (does : P → Deed → P → List Sent → Type 0) (unit : P → ℕ) (calls : List LineCall) (deeds : List Deed) (s : P) (before : LineOf) (t : P) (after : LineOf) : Type 0 where
   pub sent : List Sent
   pub done : DoesAll does s deeds t sent
   pub counted : unit t ≡ unit_after_deeds (unit s) deeds
-  pub line : after ≡ line_with before came sent
+  pub line : after ≡ line_with before calls sent
 
--- It does the deeds that follow from the packets that come.
-pub record ServesCome {P : Type 0} (does : P → Deed → P → List Sent → Type 0) (unit : P → ℕ) (deeds : List Sent → List Deed) (s : P) (before : LineOf) (t : P) (after : LineOf) : Type 0 where
+-- It takes at most 1,024 packets. Its calls and its deeds follow from those that come.
+pub record ServesCome {P : Type 0} (does : P → Deed → P → List Sent → Type 0) (unit : P → ℕ) (calls : List Sent → List LineCall) (deeds : List Sent → List Deed) (s : P) (before : LineOf) (t : P) (after : LineOf) : Type 0 where
   pub came : List Sent
-  pub serves : Serves does unit came (deeds came) s before t after
+  pub most : length came ≤ 1024
+  pub serves : Serves does unit (calls came) (deeds came) s before t after
 
--- It serves rounds.
-pub record ServesRounds {P : Type 0} (does : P → Deed → P → List Sent → Type 0) (unit : P → ℕ) (s : P) (before : LineOf) (t : P) (after : LineOf) : Type 0 where
+-- a round of at most 1,024 packets
+abbrev pub IsRound : RoundOf → Type 0
+IsRound r = length r.came ≤ 1024
+
+-- It serves rounds, each in a unit that the clock shows.
+pub record ServesRounds {P : Type 0} (does : P → Deed → P → List Sent → Type 0) (unit : P → ℕ) (s : P) (before : AroundOf) (t : P) (after : AroundOf) : Type 0 where
   pub rounds : List RoundOf
-  pub serves : Serves does unit (came_in rounds) (rounds_deeds (unit s) rounds) s before t after
+  pub are : AllByRecursion IsRound rounds
+  pub shown : after.shown ≡ shows before.shown (map (λ r. r.shown) rounds)
+  pub serves : Serves does unit (rounds_calls (unit s) rounds) (rounds_deeds (unit s) rounds) s before.line t after.line
 
 -- FAILURE
 
@@ -137,11 +170,11 @@ pub record FailsAt {P : Type 0} (fails : P → Deed → P → Type 0) (deed : De
 -- A process does deeds, and sends over the line what they send, in order. Then a deed fails, and
 -- nothing of it is sent.
 pub record ServesUntil {P : Type 0} (does : P → Deed → P → List Sent → Type 0) (fails : P → Deed → P → Type 0) (s : P) (before : LineOf) (t : P) (after : LineOf) : Type 0 where
-  pub came : List Sent
+  pub calls : List LineCall
   pub deeds : List Deed
   pub last : P
   pub sent : List Sent
   pub done : DoesAll does s deeds last sent
-  pub line : after ≡ line_with before came sent
+  pub line : after ≡ line_with before calls sent
   pub failed : Deed
   pub leaves : fails last failed t

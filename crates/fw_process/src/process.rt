@@ -3,7 +3,7 @@
 ghost use Rattle.std.specs.Prelude.{[], ◌≡◌, ◌≤◌, ◌<◌, ◌+◌, ◌-◌, ◌^◌, ◌∷◌, ◌⊎◌, Bool, List, OnErr, OnOk, map, true, ℕ};
 ghost use Rattle.exch_lane.specs.Lanes.{Sent};
 ghost use Rattle.exch_lane.specs.Steps.{sent_at};
-ghost use Rattle.fw_process.specs.Processes.{Deed, FailsAt, Serves, ServesCome, ServesRounds, ServesUntil, deed_with, deeds_for, deeds_for_all, deeds_to, round_deeds, turns};
+ghost use Rattle.fw_process.specs.Processes.{Deed, FailsAt, LineCall, Serves, ServesCome, ServesRounds, ServesUntil, deed_with, deeds_for, deeds_for_all, deeds_to, round_calls, round_deeds, taking, turns, unit_after_deeds};
 
 use crate::wire::{Clock, Line};
 use mctp_wire::RawPacket;
@@ -167,27 +167,49 @@ fn accept<P: ProcessNode, L: Line>(
 }
 
 /// Takes the packets that came, at most 1,024.
-#[tactic(auto, using(crate::proofs::Rounds::serves_packet))]
+#[tactic(auto, using(crate::proofs::Rounds::takes_none, crate::proofs::Rounds::takes_packet, crate::proofs::Rounds::takes_fewer, crate::proofs::Rounds::takes_most))]
 fn accept_all<P: ProcessNode, L: Line>(
     process: &mut P,
     line: &mut L,
     packet: &mut RawPacket,
 ) -> Result<(), AllocError>
-    ensures served { OnOk result (ServesCome P.does P.unit (deeds_for_all (P.unit process.old)) process.old
-        (L.known line.old) process.new (L.known line.new)) }
+    ensures served { OnOk result (ServesCome P.does P.unit taking (deeds_for_all (P.unit process.old))
+        process.old (L.known line.old) process.new (L.known line.new)) }
     ensures stopped { OnErr result (ServesUntil P.does P.fails process.old (L.known line.old)
         process.new (L.known line.new)) }
     ensures later { OnOk result (P.unit process.old ≤ P.unit process.new) }
 {
     for _taken in 0..MOST_PACKETS {
         let Some(stamp) = line.receive(packet) else {
-            break;
+            return Ok(());
         };
         match accept(process, line, stamp, packet) {
             Ok(()) => {}
             Err(error) => return Err(error),
         }
     }
+    Ok(())
+}
+
+/// The clock shows a unit: the process goes on to it, and a round begins.
+#[tactic(auto, using(crate::proofs::Rounds::serves_begun))]
+fn begin_round<P: ProcessNode, L: Line>(
+    process: &mut P,
+    line: &mut L,
+    shown: u32,
+) -> Result<(), AllocError>
+    ensures served { OnOk result (Serves P.does P.unit
+        (LineCall.Begins (unit_after_deeds (P.unit process.old) (deeds_to (P.unit process.old) shown)) ∷ [])
+        (deeds_to (P.unit process.old) shown) process.old (L.known line.old) process.new (L.known line.new)) }
+    ensures stopped { OnErr result (ServesUntil P.does P.fails process.old (L.known line.old)
+        process.new (L.known line.new)) }
+    ensures there { OnOk result (shown ≤ P.unit process.new) }
+{
+    match advance(process, line, shown) {
+        Ok(()) => {}
+        Err(error) => return Err(error),
+    }
+    line.begin_round(process.unit());
     Ok(())
 }
 
@@ -199,17 +221,18 @@ fn round<P: ProcessNode, L: Line>(
     shown: u32,
     packet: &mut RawPacket,
 ) -> Result<(), AllocError>
-    ensures served { OnOk result (ServesCome P.does P.unit (λ came. round_deeds (P.unit process.old) (record { shown = shown; came = came }))
+    ensures served { OnOk result (ServesCome P.does P.unit
+        (λ came. round_calls (P.unit process.old) (record { shown = shown; came = came }))
+        (λ came. round_deeds (P.unit process.old) (record { shown = shown; came = came }))
         process.old (L.known line.old) process.new (L.known line.new)) }
     ensures stopped { OnErr result (ServesUntil P.does P.fails process.old (L.known line.old)
         process.new (L.known line.new)) }
     ensures there { OnOk result (shown ≤ P.unit process.new) }
 {
-    match advance(process, line, shown) {
+    match begin_round(process, line, shown) {
         Ok(()) => {}
         Err(error) => return Err(error),
     }
-    line.begin_round(process.unit());
     accept_all(process, line, packet)
 }
 
@@ -225,11 +248,13 @@ pub fn serve_process<P: ProcessNode, L: Line, C: Clock>(
     clock: &mut C,
     end: u32,
 ) -> Result<(), AllocError>
-    ensures served { OnOk result (ServesRounds P.does P.unit process.old
-        (L.known line.old) process.new (L.known line.new)) }
+    ensures served { OnOk result (ServesRounds P.does P.unit
+        process.old (record { line = L.known line.old; shown = C.shown clock.old })
+        process.new (record { line = L.known line.new; shown = C.shown clock.new })) }
     ensures stopped { OnErr result (ServesUntil P.does P.fails process.old (L.known line.old)
         process.new (L.known line.new)) }
     ensures ends { OnOk result ((P.is_over process.new ≡ true) ⊎ (end ≤ P.unit process.new)) }
+    ensures rests { (P.is_over process.old ≡ true) ⊎ (end ≤ P.unit process.old) → process.new ≡ process.old }
 {
     let mut packet = RawPacket::new();
     while !process.is_over() && process.unit() < end {

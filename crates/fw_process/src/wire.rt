@@ -1,22 +1,23 @@
 //! What joins a process to its peers, and the clock of a machine.
 
-ghost use Rattle.std.specs.Prelude.{[], ◌≡◌, ◌<◌, ◌-◌, ◌^◌, ◌∷◌, map, ℕ};
+ghost use Rattle.std.specs.Prelude.{[], ◌≡◌, ◌<◌, ◌-◌, ◌^◌, ◌∷◌, List, None, Option, map, ℕ};
 ghost use Rattle.exch_lane.specs.Lanes.{Sent};
 ghost use Rattle.exch_lane.specs.Steps.{sent_at};
-ghost use Rattle.fw_process.specs.Processes.{LineOf, line_with, none_known, packet_come};
+ghost use Rattle.fw_process.specs.Processes.{LineCall, LineOf, line_with, none_known, receive_call, shows};
 
 use fw_node::Outbox;
 use mctp_wire::RawPacket;
 
 /// What joins a process to its peers: packets come over it, each with its stamp, the unit in which
-/// it was sent, and packets are sent. What is sent may be lost.
+/// it was sent, and packets are sent. What is sent may be lost. In contracts, `known l` is what a
+/// process did with a line `l`, if the line knows it.
 pub trait Line {
     ghost known: { Self → LineOf } = { λ _. none_known };
 
     /// Puts the next packet that came into `packet`, and returns its stamp. `None` if nothing is
     /// there now; it doesn't wait.
     fn receive(&mut self, packet: &mut RawPacket) -> Option<u32>
-        ensures { known self.new ≡ line_with (known self.old) (packet_come result packet.new.items) [] };
+        ensures { known self.new ≡ line_with (known self.old) (receive_call result packet.new.items ∷ []) [] };
 
     /// Sends a packet in a unit.
     fn send(&mut self, unit: u32, packet: &RawPacket)
@@ -24,15 +25,19 @@ pub trait Line {
 
     /// Begins a round in a unit: what comes next is asked for in this unit.
     fn begin_round(&mut self, unit: u32)
-        ensures { known self.new ≡ known self.old };
+        ensures { known self.new ≡ line_with (known self.old) (LineCall.Begins unit ∷ []) [] };
 }
 
-/// The clock of a machine, which all its processes share. It counts units from 0 to 2^32 - 1.
+/// The clock of a machine, which all its processes share. It counts units from 0 to 2^32 - 1. In
+/// contracts, `shown c` is the list of the units that a clock `c` showed, if it knows it.
 pub trait Clock {
+    ghost shown: { Self → Option (List ℕ) } = { λ _. None };
+
     /// Waits until the clock shows a unit past this one, and returns the unit that it shows.
     fn wait_past(&mut self, unit: u32) -> u32
         requires { unit < 2 ^ 32 - 1 }
-        ensures { unit < result };
+        ensures past { unit < result }
+        ensures shown { shown self.new ≡ shows (shown self.old) (result ∷ []) };
 }
 
 /// Sends all packets of a call, in the unit of the call. None are left.

@@ -2,6 +2,7 @@
 
 ghost use Rattle.std.specs.Prelude.{◌≡◌, IfErr, IfOk, OnOk, length, map, string_bytes};
 ghost use Rattle.std.specs.List.{list_any};
+ghost use Rattle.std.specs.Result.{result_map_both};
 ghost use Rattle.fw_script.specs.Faults.{AnswersUnlessMemory, ReadsAs};
 ghost use Rattle.fw_script.specs.Configs.{after_line, agent_line, draft_with_device, component_line, config_of, descriptor_line, device_line, directive_of as directive_named, devices_of, device_with_component_words, config_of_draft, in_device, is_bare, is_device as has_device, draft_after_directive, may_choose, node_of, empty_draft, package_line, path_of, unit_line, unit_or, uses_eid};
 ghost use Rattle.fw_script.specs.Seen.{config_seen, device_of};
@@ -62,16 +63,26 @@ fn read_node(eid_word: &[u8], uuid_word: &[u8]) -> Result<Endpoint, ScriptCause>
     }
 }
 
+/// The path that a word is.
+fn path_text(word: &[u8]) -> Result<&str, ScriptCause>
+    ensures { result_map_both (λ p. p.now) (λ e. e) result ≡ path_of word.now }
+{
+    match str::from_utf8(word) {
+        Ok(path) => Ok(path),
+        Err(_) => Err(ScriptCause::Number),
+    }
+}
+
 /// A file's path.
 pub(crate) fn read_path(alloc: Global, word: &[u8]) -> Result<String, ScriptCause>
     ensures { AnswersUnlessMemory (λ path. string_bytes path) result (path_of word.now) }
 {
-    match str::from_utf8(word) {
+    match path_text(word) {
         Ok(path) => match String::from_str(alloc, path) {
             Ok(path) => Ok(path),
             Err(_) => Err(ScriptCause::Memory),
         },
-        Err(_) => Err(ScriptCause::Number),
+        Err(cause) => Err(cause),
     }
 }
 
@@ -180,7 +191,7 @@ impl Draft {
 
     /// Applies the agent's line.
     fn set_agent(&mut self, fields: &[&[u8]]) -> Result<(), ScriptCause>
-        ensures { AnswersUnlessMemory (λ _. self.new) result (agent_line self.old (map (λ f. f.now) fields.now)) }
+        ensures { result_map_both (λ _. self.new) (λ e. e) result ≡ agent_line self.old (map (λ f. f.now) fields.now) }
     {
         let [eid, uuid] = fields else {
             return Err(ScriptCause::Fields);
@@ -209,7 +220,7 @@ impl Draft {
 
     /// Applies the unit's line.
     fn set_unit(&mut self, fields: &[&[u8]]) -> Result<(), ScriptCause>
-        ensures { AnswersUnlessMemory (λ _. self.new) result (unit_line self.old (map (λ f. f.now) fields.now)) }
+        ensures { result_map_both (λ _. self.new) (λ e. e) result ≡ unit_line self.old (map (λ f. f.now) fields.now) }
     {
         let [bytes] = fields else {
             return Err(ScriptCause::Fields);

@@ -4,7 +4,7 @@ ghost use Rattle.std.specs.Prelude.{◌≡◌, ◌≢◌, ◌≤◌, ◌<◌, �
 ghost use Rattle.std.specs.List.{repeat};
 ghost use Rattle.fw_script.specs.Faults.{AnswersUnlessMemory, ReadsAs};
 ghost use Rattle.fw_script.specs.ScheduleLines.{all_steps, line_steps, steps_if_any};
-ghost use Rattle.fw_script.specs.Schedules.{delivery as delivery_of, directive_of as directive_named, eids_from, has_twice as stands_twice, only_eid_of, place_of as place_in, script_of, step_of, steps_named, steps_of, steps_of_directive, ticks_of, verdict_of, with_eid as with_eid_of, with_line};
+ghost use Rattle.fw_script.specs.Schedules.{delivery as delivery_of, directive_of as directive_named, eids_from, has_twice as stands_twice, only_eid_of, place_of as place_in, request_step as step_of_request, script_of, step_of, steps_named, steps_of, steps_of_directive, ticks_of, verdict_of, with_eid as with_eid_of, with_line};
 ghost use Rattle.fw_script.specs.Lines.{fields_in, words_from};
 ghost use Rattle.fw_script.specs.Seen.{seen_eids};
 ghost use Rattle.fw_steps.specs.Worlds.{full_tick};
@@ -231,6 +231,18 @@ fn miss(fields: &[&[u8]]) -> Result<Step, ScriptCause>
     }
 }
 
+/// The step of an event log request with these bytes.
+fn request_step(bytes: &[u8]) -> Result<Step, ScriptCause>
+    ensures { result ≡ step_of_request (Ok bytes.now) }
+{
+    if bytes.len() > MAX_REQUEST {
+        return Err(ScriptCause::Limit);
+    }
+    let mut request = LogRequest::new();
+    let _ = request.try_extend_from_slice(bytes);
+    Ok(Step::Sel(request))
+}
+
 /// The step of an event log request.
 fn sel(alloc: Global, fields: &[&[u8]]) -> Result<Step, ScriptCause>
     ensures { AnswersUnlessMemory (λ s. s) result (step_of Directive.Sel (map (λ f. f.now) fields.now)) }
@@ -238,13 +250,10 @@ fn sel(alloc: Global, fields: &[&[u8]]) -> Result<Step, ScriptCause>
     let [digits] = fields else {
         return Err(ScriptCause::Fields);
     };
-    let bytes = bytes(alloc, digits)?;
-    if bytes.len() > MAX_REQUEST {
-        return Err(ScriptCause::Limit);
+    match bytes(alloc, digits) {
+        Ok(bytes) => request_step(&bytes),
+        Err(cause) => Err(cause),
     }
-    let mut request = LogRequest::new();
-    let _ = request.try_extend_from_slice(&bytes);
-    Ok(Step::Sel(request))
 }
 
 /// Parses the fields of a line that is a single step, of a directive other than `Tick`.

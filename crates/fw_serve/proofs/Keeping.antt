@@ -6,7 +6,7 @@ use Rattle.fw_node.specs.Agents.{AgentOf, agent_restarts}
 use Rattle.fw_node.specs.Cores.{session_core}
 use Rattle.fw_node.specs.Halves.{HalfOf, half_restarts}
 use Rattle.fw_package.specs.Package.{PackageText}
-use Rattle.fw_process.specs.Processes.{Deed, Does, DoesAll, FailsAt, LineOf, Serves, ServesRounds, ServesUntil, came_in, line_with, rounds_deeds}
+use Rattle.fw_process.specs.Processes.{AroundOf, Deed, Does, DoesAll, FailsAt, LineOf, Serves, ServesRounds, ServesUntil, line_with, rounds_calls, rounds_deeds}
 use Rattle.fw_process.proofs.Rounds.{serves_one}
 use Rattle.fw_script.specs.declared.reports.SentCount.{SentCount}
 use Rattle.fw_steps.specs.Alone.{AgentCall}
@@ -129,9 +129,11 @@ pub agent_deeds : {K : Type 0} (keeps : K → List KeptLine → Type 0) (s t : K
 agent_deeds {K} keeps s t [] a h = (ap (λ (x : KeepingAgentOf K). x.agent) h.0, h.1)
 agent_deeds keeps s t (d ∷ ds) a (mid, first, rest, h, more, is) = (mid.agent, first, rest, agent_deed keeps s mid d first h, agent_deeds keeps mid t ds rest more, is)
 
-pub agent_rounds : {K : Type 0} (keeps : K → List KeptLine → Type 0) (s t : KeepingAgentOf K) (l m : LineOf) → ServesRounds (DoesKept keeps) keeping_unit s l t m → ServesRounds AgentDoes agent_unit s.agent l t.agent m
-agent_rounds keeps s t l m h = record {
+pub agent_rounds : {K : Type 0} (keeps : K → List KeptLine → Type 0) (s t : KeepingAgentOf K) (a b : AroundOf) → ServesRounds (DoesKept keeps) keeping_unit s a t b → ServesRounds AgentDoes agent_unit s.agent a t.agent b
+agent_rounds keeps s t a b h = record {
   rounds = h.rounds;
+  are = h.are;
+  shown = h.shown;
   serves = record {
     sent = h.serves.sent;
     done = agent_deeds keeps s t (rounds_deeds s.agent.now h.rounds) h.serves.sent h.serves.done;
@@ -142,9 +144,9 @@ agent_rounds keeps s t l m h = record {
 
 -- SERVICE
 
-pub rounds_kept : {K : Type 0} (keeps : K → List KeptLine → Type 0) (s t : KeepingAgentOf K) (l m : LineOf) → ServesRounds (DoesKept keeps) keeping_unit s l t m → ServesKept keeps s l m
-rounds_kept keeps s t l m h =
-    record { came = came_in h.rounds; deeds = rounds_deeds s.agent.now h.rounds; last = t; sent = h.serves.sent; done = h.serves.done; line = h.serves.line }
+pub rounds_kept : {K : Type 0} (keeps : K → List KeptLine → Type 0) (s t : KeepingAgentOf K) (a b : AroundOf) → ServesRounds (DoesKept keeps) keeping_unit s a t b → ServesKept keeps s a.line b.line
+rounds_kept keeps s t a b h =
+    record { calls = rounds_calls s.agent.now h.rounds; deeds = rounds_deeds s.agent.now h.rounds; last = t; sent = h.serves.sent; done = h.serves.done; line = h.serves.line }
 
 pub until_kept : {K : Type 0} (keeps : K → List KeptLine → Type 0) (s t : KeepingAgentOf K) (l m : LineOf) → ServesUntil (DoesKept keeps) (FailsKept keeps) s l t m → ServesKept keeps s l m
-until_kept keeps s t l m h = record { came = h.came; deeds = h.deeds; last = h.last; sent = h.sent; done = h.done; line = h.line }
+until_kept keeps s t l m h = record { calls = h.calls; deeds = h.deeds; last = h.last; sent = h.sent; done = h.done; line = h.line }

@@ -6,7 +6,7 @@ use Rattle.agent_store.specs.Kept.{kept_lines}
 use Rattle.agent_store.specs.declared.keeper.KeepFault.{KeepFault}
 use Rattle.exch_lane.specs.Lanes.{Sent}
 use Rattle.fw_node.specs.Agents.{AgentOf}
-use Rattle.fw_process.specs.Processes.{Deed, DoesAll, LineOf, line_with}
+use Rattle.fw_process.specs.Processes.{Deed, DoesAll, LineCall, LineOf, line_with}
 use Rattle.fw_serve.specs.Agents.{ServedAgentOf}
 use Rattle.fw_serve.specs.Processes.{AgentDoes}
 use Rattle.fw_store.specs.declared.kept_line.KeptLine.{KeptLine}
@@ -53,9 +53,9 @@ pub record FailsKept {K : Type 0} (keeps : K → List KeptLine → Type 0) (s : 
 -- All packets that were sent are those of deeds, one after another, after each of which it is kept
 -- what the agent keeps. An end by a fault sends nothing more.
 pub record ServesKept {K : Type 0} (keeps : K → List KeptLine → Type 0) (s : KeepingAgentOf K) (before after : LineOf) : Type 0 where
-  pub came : List Sent
+  pub calls : List LineCall
   pub deeds : List Deed
   pub last : KeepingAgentOf K
   pub sent : List Sent
   pub done : DoesAll (DoesKept keeps) s deeds last sent
-  pub line : after ≡ line_with before came sent
+  pub line : after ≡ line_with before calls sent

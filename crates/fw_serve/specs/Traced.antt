@@ -16,7 +16,7 @@ use Rattle.exch_lane.specs.Lanes.{Sent}
 use Rattle.exch_lane.specs.Steps.{sent_at}
 use Rattle.fw_package.specs.Package.{PackageText}
 use Rattle.fw_node.specs.Agents.{any_packet}
-use Rattle.fw_process.specs.Processes.{Deed, DoesAll, LineOf, RoundOf, ServesRounds, rounds_deeds, unit_after_deed}
+use Rattle.fw_process.specs.Processes.{AroundOf, Deed, DoesAll, RoundOf, ServesRounds, rounds_deeds, unit_after_deed}
 use Rattle.fw_steps.specs.Alone.{is_for}
 use Rattle.fw_steps.specs.Opening.{IsOpeningWorld}
 use Rattle.fw_steps.specs.Plays.{AgentMayCall, AgentProcess, DeviceMayCall, DeviceProcess}
@@ -152,9 +152,9 @@ pub record DeviceService (q : DeviceProcess) : Type 0 where
   pub before : List Sent
   pub begins : device_process_after_acts q earlier ≡ device_process_of first before
   pub last : DeviceProcessOf
-  pub line : LineOf
-  pub line_after : LineOf
-  pub serves : ServesRounds DeviceDoes (λ s. s.unit) first line last line_after
+  pub around : AroundOf
+  pub around_after : AroundOf
+  pub serves : ServesRounds DeviceDoes (λ s. s.unit) first around last around_after
 
 pub record AgentService (packages : List PackageText) (p : AgentProcess) : Type 0 where
   pub earlier : List AgentAct
@@ -164,9 +164,9 @@ pub record AgentService (packages : List PackageText) (p : AgentProcess) : Type 
   pub begins : agent_process_after_acts packages p earlier ≡ agent_process_of first before
   pub packaged : first.packages ≡ packages
   pub last : ServedAgentOf
-  pub line : LineOf
-  pub line_after : LineOf
-  pub serves : ServesRounds AgentDoes (λ s. s.now) first line last line_after
+  pub around : AroundOf
+  pub around_after : AroundOf
+  pub serves : ServesRounds AgentDoes (λ s. s.now) first around last around_after
   pub clock : last.now ≤ 2 ^ 32 - 1
 
 -- These are the acts of a process that is served: the earlier ones, and then acts of the rounds.

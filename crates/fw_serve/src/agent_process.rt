@@ -222,10 +222,12 @@ pub fn serve_agent_process<'p, K: AgentKeeper + Drop, L: Line, C: Clock>(
     clock: &mut C,
     end: u32,
 ) -> Result<(), KeepFault>
-    ensures served { OnOk result (ServesRounds (DoesKept K.keeps) keeping_unit process.old
-        (L.known line.old) process.new (L.known line.new)) }
-    ensures agent { OnOk result (ServesRounds AgentDoes (λ s. s.now) process.old.agent
-        (L.known line.old) process.new.agent (L.known line.new)) }
+    ensures served { OnOk result (ServesRounds (DoesKept K.keeps) keeping_unit
+        process.old (record { line = L.known line.old; shown = C.shown clock.old })
+        process.new (record { line = L.known line.new; shown = C.shown clock.new })) }
+    ensures agent { OnOk result (ServesRounds AgentDoes (λ s. s.now)
+        process.old.agent (record { line = L.known line.old; shown = C.shown clock.old })
+        process.new.agent (record { line = L.known line.new; shown = C.shown clock.new })) }
     ensures kept { ServesKept K.keeps process.old (L.known line.old) (L.known line.new) }
     ensures stopped { OnErr result (ServesUntil (DoesKept K.keeps) (FailsKept K.keeps) process.old
         (L.known line.old) process.new (L.known line.new)) }

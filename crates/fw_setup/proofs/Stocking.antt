@@ -20,6 +20,11 @@ use Rattle.fw_setup.specs.Nodes.{row_made}
 use Rattle.fw_setup.specs.Stocks.{HaveStoredImages, CanOpen, IsFaulty, HasStoredImages, IsUnmade, IsUnopened, StoresOf, image_configured, images_configured, component_with_kept, stocked_by, stocked_device}
 use Rattle.fw_setup.specs.declared.stores.Unopened.{Unopened}
 
+-- one more at the end
+pub all_end : {X : Type 0} (P : X → Type 0) (xs : List X) (x : X) → AllByRecursion P xs → P x → AllByRecursion P (xs ++ x ∷ [])
+all_end P [] x all here = (here, tt)
+all_end P (y ∷ ys) x all here = (all.0, all_end P ys x all.1 here)
+
 -- the image of a component is found at the first place of its key, and not before
 pub image_here : (ks : List KeptOf) (i : ℕ) (d : KeptOf) (key : Key) → i < length ks → same_key (get_or ks i d).key key ≡ true → image_for (drop i ks) key ≡ Some (get_or ks i d).image
 image_here ks i d key below is = rw (drop_more ks i d below, is) refl

@@ -8,6 +8,7 @@ ghost use Rattle.fw_script.specs.Whole.{AreNew, keys_of};
 ghost use Rattle.fw_setup.specs.Nodes.{row_made};
 ghost use Rattle.fw_setup.specs.Stocks.{image_configured, images_configured};
 ghost use Rattle.fw_store.specs.Opening.{IsUntouched};
+ghost use Rattle.fw_store.specs.Strays.{RemovesStrays};
 
 use crate::banks::{Banks, BanksFault, mem_bank};
 use crate::stocks::component_keys;
@@ -84,11 +85,15 @@ fn swept<F: Folder + Drop>(store: FolderStore<F>) -> Result<FolderStore<F>, Allo
     ensures kept { IfOk result (λ s. s.memory.images.items ≡ store.memory.images.items) }
     ensures untouched { IfOk result (λ s. F.is_known store.folder ≡ true
         → IsUntouched store.entries.items (F.files store.folder) (F.files s.folder)) }
+    ensures gone { IfOk result (λ s. F.is_known store.folder ≡ true
+        → F.may_fail store.folder ≡ false
+        → RemovesStrays store.entries.items (F.files store.folder) (F.files s.folder)) }
+    ensures rest { IfOk result (λ s. (s.is_sure ≡ store.is_sure) × ((s.next ≡ store.next) × (s.entries ≡ store.entries))) }
 {
     let mut store = store;
     match store.sweep() {
-        Err(OpenFault::Memory) => Err(AllocError),
-        _ => Ok(store),
+        Ok(()) | Err(OpenFault::Unreadable) => Ok(store),
+        Err(_) => Err(AllocError),
     }
 }
 
@@ -131,6 +136,11 @@ impl<F: Folder + Drop> Banks<KeptBank<FolderStore<F>>> for StoreBanks<F> {
         ensures fault { IfErr result (λ e. (e ≡ BanksFault.Memory) ⊎ (e ≡ BanksFault.Device device)) }
         ensures device { IfErr result (λ e. e ≡ BanksFault.Device device
             → ¬ IsSomeAnd (slice_get self.old.stores.items 0)
+            (λ s. (s.device ≡ device)
+            × (s.store.memory.images.items
+            ≡ images_configured (map component_of components.now)))) }
+        ensures memory { IfErr result (λ e. e ≡ BanksFault.Memory
+            → IsSomeAnd (slice_get self.old.stores.items 0)
             (λ s. (s.device ≡ device)
             × (s.store.memory.images.items
             ≡ images_configured (map component_of components.now)))) }

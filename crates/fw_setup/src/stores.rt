@@ -1,6 +1,7 @@
 //! The stores of devices, each in its own folder.
 
 ghost use Rattle.std.specs.Prelude.{◌≡◌, ◌⊎◌, Bool, Err, IfErr, IfOk, List, None, Ok, OnOk, false, map, string_bytes, true, ℕ};
+ghost use Rattle.std.specs.List.{AllByRecursion};
 ghost use Rattle.fw_script.specs.Seen.{component_of, device_of};
 ghost use Rattle.fw_script.specs.Whole.{AreWhole, eids_of};
 ghost use Rattle.fw_setup.specs.Paths.{agent_path, store_path};
@@ -147,6 +148,7 @@ fn open_over<F: Folder + Drop>(
         → F.is_known folder ≡ true
         → found_in (images_configured (map component_of components.now)) (F.files folder)
         ≡ Err OpenFault.Foreign) }
+    ensures unread { IfErr result (λ e. e ≡ OpenFault.Unreadable → F.may_fail folder ≡ true) }
 {
     match configured_images(alloc, components) {
         Ok(images) => open_store(alloc, folder, images.as_slice()),
@@ -172,6 +174,7 @@ fn read_over<F: Folder + Drop>(
         → F.is_known folder.now ≡ true
         → found_in (images_configured (map component_of components.now)) (F.files folder.now)
         ≡ Err OpenFault.Foreign) }
+    ensures unread { IfErr result (λ e. e ≡ OpenFault.Unreadable → F.may_fail folder.now ≡ true) }
 {
     match configured_images(alloc, components) {
         Ok(images) => read_store(alloc, folder, images.as_slice()),
@@ -269,6 +272,8 @@ pub fn open_stores<F: Folder + Drop, S: Stores<F>>(
         → AreWhole agent (map device_of devices.old)
         → AreWhole agent (map device_of devices.new)) }
     ensures order { IfOk result (λ b. map (λ s. s.device) b.stores.items ≡ eids_of (map device_of devices.old)) }
+    ensures folders { IfOk result (λ b. S.is_known stores.now ≡ true → AllByRecursion
+        (λ s. F.files s.store.folder ≡ S.files stores.now root.now s.device) b.stores.items) }
     ensures fault { IfErr result (IsUnopened (stores_in (S.is_known stores.now) (S.files stores.now)
         root.now) (map device_of devices.old)) }
 {

@@ -1,5 +1,11 @@
 mod Checked
 mod Counting
 mod Coursing
+mod Meeting
+mod Openings
+mod Overs
+mod Placing
+mod Soaks
 mod Sole
 mod Summing
+mod Upsetting

@@ -22,7 +22,7 @@ summed_more f cs c = sum_by-append f cs (c ∷ []) ∙ ap (λ n. sum_by f cs + n
 total_more : (f : CourseOf → ℕ) (cs : List CourseOf) (c : CourseOf) (total : ℕ) → total ≡ capped_count (sum_by f cs) → capped_count (total + f c) ≡ capped_count (sum_by f (cs ++ c ∷ []))
 total_more f cs c total h = ap (λ t. capped_count (t + f c)) h ∙ counted_more (sum_by f cs) (f c) ∙ ap capped_count (sym (summed_more f cs c))
 
-length_more : (cs : List CourseOf) (c : CourseOf) → length (cs ++ c ∷ []) ≡ length cs + 1
+pub length_more : (cs : List CourseOf) (c : CourseOf) → length (cs ++ c ∷ []) ≡ length cs + 1
 length_more [] c = refl
 length_more (x ∷ cs) c = let e = length_more cs c in omega arith
 
@@ -40,7 +40,7 @@ first_if : (b clean : Bool) (x c : CourseOf) (before after : Option (List Step))
 first_if true clean x c before after h = h
 first_if false clean x c before after h = refl
 
-first_more : (s : SetupOf) (cs : List CourseOf) (c : CourseOf) → first_violation s (cs ++ c ∷ []) ≡ first_kept_with (ends_clean s c) (first_violation s cs) c
+pub first_more : (s : SetupOf) (cs : List CourseOf) (c : CourseOf) → first_violation s (cs ++ c ∷ []) ≡ first_kept_with (ends_clean s c) (first_violation s cs) c
 first_more s [] c = refl
 first_more s (x ∷ cs) c = first_if (ends_clean s x) (ends_clean s c) x c (first_violation s cs) (first_violation s (cs ++ c ∷ [])) (first_more s cs c)
 
@@ -59,44 +59,43 @@ none_wrong s (c ∷ cs) e =
 pub soaked_clean : (s : SetupOf) (n : ℕ) (sum : Summary) (kept : Option (List Step)) → SoakOk s n sum kept → kept ≡ None → sum.violations ≡ 0
 soaked_clean s n sum kept h e = h.summed.violations ∙ ap capped_count (none_wrong s h.courses (sym h.first ∙ e))
 
+pub summed_none : (s : SetupOf) → AreSummed s [] no_runs
+summed_none s = record {
+  each = tt;
+  runs = refl;
+  activations = refl;
+  losses = refl;
+  restarts = refl;
+  longest = refl;
+  violations = refl;
+}
+
 pub soaked_none : (s : SetupOf) → SoakOk s 0 no_runs None
-soaked_none s = record {
-  courses = [];
-  made = refl;
-  summed = record {
-    each = tt;
-    runs = refl;
-    activations = refl;
-    losses = refl;
-    restarts = refl;
-    longest = refl;
-    violations = refl;
-  };
-  first = refl;
+soaked_none s = record { courses = []; made = refl; summed = summed_none s; first = refl }
+
+pub summed_next : (s : SetupOf) (cs : List CourseOf) (sum : Summary) (c : CourseOf) → AreSummed s cs sum → IsCourse s c → AreSummed s (cs ++ c ∷ []) (with_run (ends_clean s c) sum c)
+summed_next s cs sum c t k = record {
+  each = all_more (IsCourse s) cs c t.each k;
+  runs = ap (λ m. capped_count (m + 1)) t.runs ∙ counted_more (length cs) 1 ∙ ap capped_count (sym (length_more cs c));
+  activations = total_more (λ x. activations_in x.world.history) cs c sum.activations t.activations;
+  losses =
+      ap (λ m. capped_count (m + capped_count (losses_in c))) t.losses ∙ counted_both (sum_by losses_in cs) (losses_in c)
+      ∙ ap capped_count (sym (summed_more losses_in cs c));
+  restarts = total_more (λ x. restarts_in x.steps) cs c sum.restarts t.restarts;
+  longest =
+      ap (λ m. greater m (longest_in c)) t.longest ∙ sym (greatest_more 0 (map longest_in cs) (longest_in c))
+      ∙ ap (greatest 0) (sym (map-append longest_in cs (c ∷ [])));
+  violations = total_more (violation_count s) cs c sum.violations t.violations;
 }
 
 pub soaked_more : (s : SetupOf) (n : ℕ) (sum : Summary) (kept : Option (List Step)) (c : CourseOf) → SoakOk s n sum kept → IsCourse s c
     → SoakOk s (n + 1) (with_run (ends_clean s c) sum c) (first_kept_with (ends_clean s c) kept c)
-soaked_more s n sum kept c h k =
-    let t = h.summed in
-    record {
-      courses = h.courses ++ c ∷ [];
-      made = length_more h.courses c ∙ ap (λ m. m + 1) h.made;
-      summed = record {
-        each = all_more (IsCourse s) h.courses c t.each k;
-        runs = ap (λ m. capped_count (m + 1)) t.runs ∙ counted_more (length h.courses) 1 ∙ ap capped_count (sym (length_more h.courses c));
-        activations = total_more (λ x. activations_in x.world.history) h.courses c sum.activations t.activations;
-        losses =
-            ap (λ m. capped_count (m + capped_count (losses_in c))) t.losses ∙ counted_both (sum_by losses_in h.courses) (losses_in c)
-            ∙ ap capped_count (sym (summed_more losses_in h.courses c));
-        restarts = total_more (λ x. restarts_in x.steps) h.courses c sum.restarts t.restarts;
-        longest =
-            ap (λ m. greater m (longest_in c)) t.longest ∙ sym (greatest_more 0 (map longest_in h.courses) (longest_in c))
-            ∙ ap (greatest 0) (sym (map-append longest_in h.courses (c ∷ [])));
-        violations = total_more (violation_count s) h.courses c sum.violations t.violations;
-      };
-      first = ap (λ o. first_kept_with (ends_clean s c) o c) h.first ∙ sym (first_more s h.courses c);
-    }
+soaked_more s n sum kept c h k = record {
+  courses = h.courses ++ c ∷ [];
+  made = length_more h.courses c ∙ ap (λ m. m + 1) h.made;
+  summed = summed_next s h.courses sum c h.summed k;
+  first = ap (λ o. first_kept_with (ends_clean s c) o c) h.first ∙ sym (first_more s h.courses c);
+}
 
 pub soaked_next : (s : SetupOf) (n : ℕ) (sum after : Summary) (kept kept_after : Option (List Step)) (c : CourseOf) (clean : Bool) → SoakOk s n sum kept → IsCourse s c
     → clean ≡ ends_clean s c → after ≡ with_run clean sum c → kept_after ≡ first_kept_with clean kept c → SoakOk s (n + 1) after kept_after

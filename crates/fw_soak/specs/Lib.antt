@@ -3,7 +3,9 @@ pub mod Checking
 pub mod Checks
 pub mod Counts
 pub mod Courses
+pub mod Looks
 pub mod Naming
 pub mod Setups
 pub mod Summaries
 pub mod SummaryTexts
+pub mod Turns

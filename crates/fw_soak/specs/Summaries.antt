@@ -1,10 +1,12 @@
 -- The totals of many runs.
-use Rattle.std.specs.Prelude.{ℕ, ◌≡◌, ◌+◌, Bool, if◌then◌else◌, List, [], ◌∷◌, Option, Some, None, length, map}
+use Rattle.std.specs.Prelude.{ℕ, ◌≡◌, ◌+◌, Bool, if◌then◌else◌, IfSome, List, [], ◌∷◌, Option, Some, None, length, map}
 use Rattle.std.specs.List.{AllByRecursion, sum_by}
+use Rattle.fwupd_base.specs.declared.roughness.Roughness.{Roughness}
 use Rattle.fw_steps.specs.declared.step.Step.{Step}
 use Rattle.fw_soak.specs.Checking.{is_clean}
 use Rattle.fw_soak.specs.Counts.{activations_in, capped_count, greater, greatest, longest_in, losses_in, restarts_in}
 use Rattle.fw_soak.specs.Courses.{CourseOf, IsCourse, SetupOf}
+use Rattle.fw_soak.specs.Turns.{AreSoakRuns}
 use Rattle.fw_soak.specs.declared.summary.Summary.{Summary}
 
 -- the checker finds the last world of a run clean
@@ -58,3 +60,22 @@ pub record SoakOk (s : SetupOf) (runs : ℕ) (sum : Summary) (kept : Option (Lis
   pub made : length courses ≡ runs
   pub summed : AreSummed s courses sum
   pub first : kept ≡ first_violation s courses
+
+-- the totals after more runs
+abbrev pub totals_after : SetupOf → Summary → List CourseOf → Summary
+totals_after s sum [] = sum
+totals_after s sum (c ∷ cs) = totals_after s (with_run (ends_clean s c) sum c) cs
+
+-- what an observer has seen, the latest first, after it saw the totals after each of these runs
+abbrev pub seen_after : SetupOf → Summary → (seen : List Summary) → List CourseOf → List Summary
+seen_after s sum seen [] = seen
+seen_after s sum seen (c ∷ cs) = seen_after s (with_run (ends_clean s c) sum c) (with_run (ends_clean s c) sum c ∷ seen) cs
+
+-- As `SoakOk`. Course `k` is run `k` with this roughness, from 0; and the observer observed the
+-- totals after each run, the last time the result. `old` and `new` are what it had seen before and
+-- after, if that is known.
+pub record SoaksRuns (s : SetupOf) (r : Roughness) (runs : ℕ) (sum : Summary) (kept : Option (List Step)) (old new : Option (List Summary)) : Type 0 where
+  pub ok : SoakOk s runs sum kept
+  pub drawn : AreSoakRuns s r 0 ok.courses
+  pub totals : sum ≡ totals_after s no_runs ok.courses
+  pub seen : IfSome old (λ seen. new ≡ Some (seen_after s no_runs seen ok.courses))

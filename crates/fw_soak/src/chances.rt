@@ -1,6 +1,6 @@
 //! The random numbers of a run, which a seed reproduces.
 
-ghost use Rattle.std.specs.Prelude.{◌≡◌, ◌<◌, ◌==◌, ◌%◌};
+ghost use Rattle.std.specs.Prelude.{◌≡◌, ◌<◌, ◌==◌, ◌%◌, IfOk};
 ghost use Rattle.fw_edge.specs.Fates.{word_after, word_of};
 ghost use Rattle.fw_soak.specs.Chances.{drawn_fate, generator_after_fate, generator_of};
 
@@ -8,6 +8,7 @@ use fw_edge::Fate;
 use fwupd_base::Roughness;
 use rand_core::utils::NextWord;
 use rand_pcg::Pcg32;
+use std::alloc::AllocError;
 
 /// The random numbers of a run.
 #[derive(Drop)]
@@ -22,6 +23,19 @@ impl Chances {
     {
         Chances {
             generator: Pcg32::new(seed, run),
+        }
+    }
+
+    /// A copy, which gives the same numbers.
+    ///
+    /// # Errors
+    /// `AllocError` if memory is refused.
+    pub(crate) fn copy(&self) -> Result<Chances, AllocError>
+        ensures { IfOk result (λ c. c.generator ≡ self.now.generator) }
+    {
+        match self.generator.clone() {
+            Ok(generator) => Ok(Chances { generator }),
+            Err(fault) => Err(fault),
         }
     }
 

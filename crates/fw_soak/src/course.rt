@@ -1,8 +1,9 @@
 //! A run: its steps, and the world after them.
 
-ghost use Rattle.std.specs.Prelude.{[], ◌≡◌, IfOk, OnErr, OnOk, map};
+ghost use Rattle.std.specs.Prelude.{[], ◌*◌, ◌≡◌, IfOk, OnErr, OnOk, length, map};
 ghost use Rattle.fw_script.specs.Seen.{device_of};
 ghost use Rattle.fw_script.specs.Whole.{AreWhole};
+ghost use Rattle.fw_soak.specs.Chances.{generator_past};
 ghost use Rattle.fw_soak.specs.Courses.{ContinuesRun, TriesStep, opening_of};
 ghost use Rattle.fw_soak.specs.Setups.{setup_of};
 
@@ -41,6 +42,9 @@ impl<'a> SoakCourse<'a> {
         requires { AreWhole setup.now.agent.eid (map device_of setup.now.devices.now) }
         ensures none { IfOk result (λ c. c.steps ≡ []) }
         ensures opens { IfOk result (λ c. c.world ≡ opening_of (setup_of setup.now)) }
+        ensures is { IfOk result (λ c. c ≡ record { steps = []; world = opening_of (setup_of setup.now) }) }
+        ensures after { IfOk result (λ c. chances.new.generator
+            ≡ generator_past (2 * length setup.now.devices.now) chances.old.generator) }
     {
         let world = opening(alloc, setup, chances)?;
         Ok(SoakCourse {

@@ -1,8 +1,11 @@
 //! The setup of the runs.
 
-ghost use Rattle.std.specs.Prelude.{◌≡◌, IfOk, map};
-ghost use Rattle.fw_script.specs.Seen.{device_of};
-ghost use Rattle.fw_script.specs.Whole.{AreWhole};
+ghost use Rattle.std.specs.Prelude.{[], ◌*◌, ◌≡◌, IfErr, IfOk, OnOk, length, map};
+ghost use Rattle.fd_core.specs.Banks.{HaveKeysOnce};
+ghost use Rattle.fd_core.specs.Images.{key_of};
+ghost use Rattle.fw_script.specs.Seen.{component_of, device_of};
+ghost use Rattle.fw_script.specs.Whole.{AreNew, AreWhole, keys_of};
+ghost use Rattle.fw_setup.specs.Nodes.{row_made};
 ghost use Rattle.fw_steps.specs.Opening.{IsOpeningWorld};
 ghost use Rattle.fw_soak.specs.Chances.{failing_call, generator_past};
 ghost use Rattle.fw_soak.specs.Courses.{opening_of};
@@ -50,7 +53,15 @@ impl Banks<FailBank> for Chances {
         alloc: Global,
         _device: u8,
         components: &[ComponentConfig],
-    ) -> Result<FailBank, BanksFault> {
+    ) -> Result<FailBank, BanksFault>
+        requires new { AreNew [] (keys_of (map component_of components.now)) }
+        ensures rows { IfOk result (λ b. b.bank.rows ≡ map row_made (map component_of components.now)) }
+        ensures apart { IfOk result (λ b. HaveKeysOnce (map key_of b.bank.rows)) }
+        ensures faults { IfOk result (λ b. b.faults ≡ 0) }
+        ensures left { IfOk result (λ b. b.left ≡ failing_call self.old.generator) }
+        ensures after { OnOk result (self.new.generator ≡ generator_past 2 self.old.generator) }
+        ensures memory { IfErr result (λ e. e ≡ BanksFault.Memory) }
+    {
         let Ok(bank) = mem_bank(alloc, components) else {
             return Err(BanksFault::Memory);
         };
@@ -58,8 +69,18 @@ impl Banks<FailBank> for Chances {
     }
 }
 
+/// Draws the numbers of the banks of `devices` devices.
+fn pass_banks(devices: usize, chances: &mut Chances)
+    ensures { chances.new.generator ≡ generator_past (2 * devices) chances.old.generator }
+{
+    for count in 0..devices {
+        let _ = failing_drawn(chances);
+    }
+}
+
 /// Creates the world before the first step of a run. At random, one call of each device's bank
-/// fails, or none.
+/// fails, or none. The banks draw their numbers from a copy of the generator, so that their number
+/// is known.
 ///
 /// # Errors
 /// `AllocError` if memory is refused.
@@ -71,14 +92,18 @@ pub(crate) fn opening<'a>(
     requires { AreWhole setup.now.agent.eid (map device_of setup.now.devices.now) }
     ensures made { IfOk result (λ w. w ≡ opening_of (setup_of setup.now)) }
     ensures opens { IfOk result (λ w. IsOpeningWorld w) }
+    ensures after { OnOk result (chances.new.generator
+        ≡ generator_past (2 * length setup.now.devices.now) chances.old.generator) }
 {
+    let mut banks = chances.copy()?;
+    pass_banks(setup.devices.len(), chances);
     match opening_world_over(
         alloc,
         setup.unit,
         setup.agent,
         setup.devices,
         setup.packages,
-        chances,
+        &mut banks,
     ) {
         Ok(world) => Ok(world),
         Err(_) => Err(AllocError),

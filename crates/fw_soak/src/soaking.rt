@@ -1,10 +1,11 @@
 //! Many runs over rough links, each checked.
 
-ghost use Rattle.std.specs.Prelude.{◌≡◌, IfOk, None, OnOk, map, option_map};
+ghost use Rattle.std.specs.Prelude.{◌∷◌, ◌≡◌, IfOk, IfSome, List, None, OnOk, Option, Some, map, option_map};
 ghost use Rattle.fw_script.specs.Seen.{device_of};
 ghost use Rattle.fw_script.specs.Whole.{AreWhole};
 ghost use Rattle.fw_soak.specs.Setups.{setup_of};
-ghost use Rattle.fw_soak.specs.Summaries.{SoakOk, first_kept_with, no_runs, with_run};
+ghost use Rattle.fw_soak.specs.Summaries.{SoakOk, SoaksRuns, first_kept_with, no_runs, with_run};
+ghost use Rattle.fw_soak.specs.declared.summary.Summary.{Summary};
 
 use crate::checker::is_clean;
 use crate::counts::{activations, longest, losses, restarts};
@@ -27,8 +28,12 @@ pub struct Soaked {
 
 /// An observer of the runs.
 pub trait SoakObserver {
+    /// The totals that it has observed, the latest first, if that is known.
+    ghost seen: { Self → Option (List Summary) } = { λ _. None };
+
     /// Observes the totals of the runs so far.
-    fn see(&mut self, summary: &Summary);
+    fn see(&mut self, summary: &Summary)
+        ensures { IfSome (seen self.old) (λ before. seen self.new ≡ Some (summary.now ∷ before)) };
 }
 
 /// The totals with one more run, which ended clean or not.
@@ -115,6 +120,8 @@ pub fn soak<V: SoakObserver>(
     requires { AreWhole setup.now.agent.eid (map device_of setup.now.devices.now) }
     ensures soaked { IfOk result (λ s. SoakOk (setup_of setup.now) runs s.summary (option_map (λ k. k.items) s.kept)) }
     ensures none { IfOk result (λ s. s.kept ≡ None → s.summary.violations ≡ 0) }
+    ensures runs { IfOk result (λ s. SoaksRuns (setup_of setup.now) roughness runs s.summary
+        (option_map (λ k. k.items) s.kept) (V.seen observer.old) (V.seen observer.new)) }
 {
     let mut soaked = Soaked::new();
     for number in 0..runs {

@@ -1,7 +1,10 @@
 //! The packets of a run, and their fates.
 
-ghost use Rattle.std.specs.Prelude.{[], ◌∷◌, ◌++◌, ◌+◌, ◌-◌, ◌^◌, ◌≡◌, ◌≢◌, OnOk, min};
+ghost use Rattle.std.specs.Prelude.{[], ◌∷◌, ◌++◌, ◌+◌, ◌-◌, ◌^◌, ◌≡◌, ◌≢◌, ◌<◌, IfOk, IfSome, OnOk, filter, length, min, replicate, slice_get};
 ghost use Rattle.fw_soak.specs.Courses.{ContinuesRun, TriesStep};
+ghost use Rattle.fw_soak.specs.Looks.{next_arrival};
+ghost use Rattle.fw_soak.specs.declared.chances.Chances.{Chances};
+ghost use Rattle.fw_soak.specs.Turns.{EachIn, Exchanges, MeetsNext, MeetsPacket, MeetsRound, MeetsRounds, Sends, TriesIf, TriesLate, generator_after_repeat, is_due, is_held, repeat_at, soaking};
 
 use crate::chances::Chances;
 use crate::course::SoakCourse;
@@ -10,7 +13,6 @@ use fd_core::FailBank;
 use fw_world::{Step, World};
 use fwupd_base::Roughness;
 use std::alloc::{AllocError, Global};
-use std::collections::VecDeque;
 
 /// The most rounds of a turn; two nodes need far fewer to finish an exchange.
 const ROUNDS: u16 = 1024;
@@ -37,14 +39,23 @@ pub(crate) struct Traffic {
     roughness: Roughness,
     /// The number of packets of each pair that have a fate, in configured order.
     met: Vec<usize>,
-    late: VecDeque<Late>,
+    late: Vec<Late>,
 }
 
 /// The packet of the pair at `place` after the first `met`.
-fn next_of(world: &World<'_, FailBank>, place: usize, met: usize) -> Option<Arrival> {
-    let device = world.device_at(place)?.eid();
-    let packets = world.packets_at(place)?;
-    let packet = packets.get(met)?;
+fn next_of(world: &World<'_, FailBank>, place: usize, met: usize) -> Option<Arrival>
+    ensures { result ≡ next_arrival world.now place met }
+{
+    let Some(node) = world.device_at(place) else {
+        return None;
+    };
+    let device = node.eid();
+    let Some(packets) = world.packets_at(place) else {
+        return None;
+    };
+    let Some(packet) = packets.get(met) else {
+        return None;
+    };
     let agent = world.agent().eid();
     let node = match packet.bytes.get(1) {
         Some(dest) if *dest == agent => agent,
@@ -57,6 +68,14 @@ fn next_of(world: &World<'_, FailBank>, place: usize, met: usize) -> Option<Arri
     })
 }
 
+/// The count at a place.
+fn count_at(counts: &[usize], place: usize) -> Option<usize>
+    ensures value { result ≡ slice_get counts.now place }
+    ensures within { IfSome result (λ count. place < length counts.now) }
+{
+    counts.get(place).copied()
+}
+
 /// Delivers a packet, if it is allowed.
 #[tactic(auto, using(crate::proofs::Coursing::going))]
 fn arrive(course: &mut SoakCourse<'_>, arrival: Arrival) -> Result<(), AllocError>
@@ -65,6 +84,30 @@ fn arrive(course: &mut SoakCourse<'_>, arrival: Arrival) -> Result<(), AllocErro
 {
     course.take(Step::Deliver(arrival.pair, arrival.number, arrival.node))?;
     Ok(())
+}
+
+/// Delivers the packets that are due at `now`.
+#[tactic(auto, using(crate::proofs::Coursing::going))]
+fn deliver_due(course: &mut SoakCourse<'_>, late: &[Late], now: u32) -> Result<(), AllocError>
+    ensures goes { ContinuesRun course.old course.new }
+    ensures due { OnOk result (EachIn TriesLate (filter (is_due now) late.now) course.old course.new) }
+{
+    for held in late {
+        if held.due <= now {
+            match arrive(course, held.arrival) {
+                Ok(()) => {}
+                Err(fault) => return Err(fault),
+            }
+        }
+    }
+    Ok(())
+}
+
+/// Removes the packets that are due at `now`.
+fn keep_held(late: &mut Vec<Late>, now: u32)
+    ensures { late.new.items ≡ filter (is_held now) late.old.items }
+{
+    late.retain(|held| held.due > now);
 }
 
 impl Traffic {
@@ -76,13 +119,17 @@ impl Traffic {
         alloc: Global,
         roughness: Roughness,
         devices: usize,
-    ) -> Result<Traffic, AllocError> {
+    ) -> Result<Traffic, AllocError>
+        ensures met { IfOk result (λ t. t.met.items ≡ replicate devices 0) }
+        ensures late { IfOk result (λ t. t.late.items ≡ []) }
+        ensures roughness { IfOk result (λ t. t.roughness ≡ roughness) }
+    {
         let mut met = Vec::new(alloc);
         met.resize(devices, 0)?;
         Ok(Traffic {
             roughness,
             met,
-            late: VecDeque::new(alloc),
+            late: Vec::new(alloc),
         })
     }
 
@@ -103,14 +150,36 @@ impl Traffic {
             × (self.new.late.items ≡ self.old.late.items
             ++ record { arrival = arrival; due = min (course.old.world.now + wait) (2 ^ 32 - 1) } ∷ [])) }
         ensures met { self.new.met ≡ self.old.met }
+        ensures roughness { self.new.roughness ≡ self.old.roughness }
     {
         if wait == 0 {
             return arrive(course, arrival);
         }
         let due = course.world().now().saturating_add(wait);
-        let Ok(()) = self.late.push_back(Late { arrival, due }) else {
+        let Ok(()) = self.late.push(Late { arrival, due }) else {
             return Err(AllocError);
         };
+        Ok(())
+    }
+
+    /// Delivers the copies of a packet with these delays.
+    #[tactic(auto, using(crate::proofs::Coursing::going))]
+    fn send_each(
+        &mut self,
+        course: &mut SoakCourse<'_>,
+        arrival: Arrival,
+        delays: &[u32],
+    ) -> Result<(), AllocError>
+        ensures goes { ContinuesRun course.old course.new }
+        ensures sends { OnOk result ((g : Chances) → EachIn (Sends arrival) delays.now
+            (soaking course.old self.old g) (soaking course.new self.new g)) }
+    {
+        for wait in delays {
+            match self.send(course, arrival, *wait) {
+                Ok(()) => {}
+                Err(fault) => return Err(fault),
+            }
+        }
         Ok(())
     }
 
@@ -122,11 +191,13 @@ impl Traffic {
         arrival: Arrival,
         chances: &mut Chances,
     ) -> Result<(), AllocError>
-        ensures { ContinuesRun course.old course.new }
+        ensures goes { ContinuesRun course.old course.new }
+        ensures meets { OnOk result (MeetsPacket arrival (soaking course.old self.old chances.old) (soaking course.new self.new chances.new)) }
     {
         let delays = delays(chances.fate(self.roughness));
-        for wait in &delays {
-            self.send(course, arrival, *wait)?;
+        match self.send_each(course, arrival, delays.as_slice()) {
+            Ok(()) => {}
+            Err(fault) => return Err(fault),
         }
         Ok(())
     }
@@ -139,16 +210,21 @@ impl Traffic {
         place: usize,
         chances: &mut Chances,
     ) -> Result<bool, AllocError>
-        ensures { ContinuesRun course.old course.new }
+        ensures goes { ContinuesRun course.old course.new }
+        ensures next { IfOk result (λ any. MeetsNext place (soaking course.old self.old chances.old)
+            (soaking course.new self.new chances.new) any) }
     {
-        let Some(met) = self.met.get_mut(place) else {
+        let Some(met) = count_at(self.met.as_slice(), place) else {
             return Ok(false);
         };
-        let Some(arrival) = next_of(course.world(), place, *met) else {
+        let Some(arrival) = next_of(course.world(), place, met) else {
             return Ok(false);
         };
-        *met = met.saturating_add(1);
-        self.meet(course, arrival, chances)?;
+        self.met[place] = arrival.number;
+        match self.meet(course, arrival, chances) {
+            Ok(()) => {}
+            Err(fault) => return Err(fault),
+        }
         Ok(true)
     }
 
@@ -159,12 +235,15 @@ impl Traffic {
         course: &mut SoakCourse<'_>,
         chances: &mut Chances,
     ) -> Result<bool, AllocError>
-        ensures { ContinuesRun course.old course.new }
+        ensures goes { ContinuesRun course.old course.new }
+        ensures round { IfOk result (λ any. MeetsRound (soaking course.old self.old chances.old)
+            (soaking course.new self.new chances.new) any) }
     {
         let mut any = false;
         for place in 0..self.met.len() {
-            if self.meet_next(course, place, chances)? {
-                any = true;
+            match self.meet_next(course, place, chances) {
+                Ok(here) => any = any || here,
+                Err(fault) => return Err(fault),
             }
         }
         Ok(any)
@@ -173,19 +252,38 @@ impl Traffic {
     /// Delivers the held-back packets that are due.
     #[tactic(auto, using(crate::proofs::Coursing::going))]
     fn release(&mut self, course: &mut SoakCourse<'_>) -> Result<(), AllocError>
-        ensures { ContinuesRun course.old course.new }
+        ensures goes { ContinuesRun course.old course.new }
+        ensures due { OnOk result (EachIn TriesLate
+            (filter (is_due course.old.world.now) self.old.late.items) course.old course.new) }
+        ensures held { OnOk result (self.new.late.items ≡ filter (is_held course.old.world.now) self.old.late.items) }
+        ensures met { self.new.met ≡ self.old.met }
+        ensures roughness { self.new.roughness ≡ self.old.roughness }
     {
         let now = course.world().now();
-        for _ in 0..self.late.len() {
-            let Some(late) = self.late.pop_front() else {
-                return Ok(());
-            };
-            if late.due <= now {
-                arrive(course, late.arrival)?;
-            } else {
-                let Ok(()) = self.late.push_back(late) else {
-                    return Err(AllocError);
-                };
+        match deliver_due(course, self.late.as_slice(), now) {
+            Ok(()) => {}
+            Err(fault) => return Err(fault),
+        }
+        keep_held(&mut self.late, now);
+        Ok(())
+    }
+
+    /// Gives sent packets their fate, until nothing more is sent.
+    #[tactic(auto, using(crate::proofs::Coursing::going))]
+    fn meet_rounds(
+        &mut self,
+        course: &mut SoakCourse<'_>,
+        chances: &mut Chances,
+    ) -> Result<(), AllocError>
+        ensures goes { ContinuesRun course.old course.new }
+        ensures rounds { OnOk result (MeetsRounds (soaking course.old self.old chances.old)
+            (soaking course.new self.new chances.new)) }
+    {
+        for count in 0..ROUNDS {
+            match self.meet_round(course, chances) {
+                Ok(true) => {}
+                Ok(false) => return Ok(()),
+                Err(fault) => return Err(fault),
             }
         }
         Ok(())
@@ -202,13 +300,17 @@ impl Traffic {
         course: &mut SoakCourse<'_>,
         chances: &mut Chances,
     ) -> Result<(), AllocError>
-        ensures { ContinuesRun course.old course.new }
+        ensures goes { ContinuesRun course.old course.new }
+        ensures packets { OnOk result (Exchanges (soaking course.old self.old chances.old)
+            (soaking course.new self.new chances.new)) }
     {
-        self.release(course)?;
-        for _ in 0..ROUNDS {
-            if !self.meet_round(course, chances)? {
-                return Ok(());
-            }
+        match self.release(course) {
+            Ok(()) => {}
+            Err(fault) => return Err(fault),
+        }
+        match self.meet_rounds(course, chances) {
+            Ok(()) => {}
+            Err(fault) => return Err(fault),
         }
         Ok(())
     }
@@ -224,9 +326,13 @@ impl Traffic {
         place: usize,
         chances: &mut Chances,
     ) -> Result<(), AllocError>
-        ensures { ContinuesRun course.old course.new }
+        ensures goes { ContinuesRun course.old course.new }
+        ensures tried { OnOk result (TriesIf (repeat_at course.old.world place
+            (slice_get self.now.met.items place) chances.old.generator) course.old course.new) }
+        ensures after { OnOk result (chances.new.generator
+            ≡ generator_after_repeat (slice_get self.now.met.items place) chances.old.generator) }
     {
-        let Some(met) = self.met.get(place) else {
+        let Some(met) = self.met.get(place).copied() else {
             return Ok(());
         };
         let back = chances.below(16) as usize;

@@ -5,7 +5,7 @@ use Rattle.std.specs.Str.{bytes_eq}
 use Rattle.std.proofs.lemmas.Bool.{cases_Bool, or_parts}
 use Rattle.std.proofs.lemmas.List.{drop_more, map-append, take_more}
 use Rattle.fw_store.specs.Active.{ImageEntryOf, IsImageEntry, image_name, number_from}
-use Rattle.fw_store.specs.Folders.{Files, IsBefore, IsMoment, ChangesOnlyFile, NamesFiles, PassesStates, RemovesFile, active_name, has_name, image_by, images_of, lines_by, stored_in, with_image}
+use Rattle.fw_store.specs.Folders.{Files, IsBefore, IsMoment, ChangesOnlyFile, LeavesFiles, NamesFiles, PassesStates, RemovesFile, active_name, has_name, image_by, images_of, lines_by, stored_in, with_image}
 use Rattle.fw_store.specs.Keeping.{IsSettledIfKnown}
 use Rattle.fw_store.specs.Kept.{KeptOf}
 use Rattle.fw_store.specs.Opening.{IsUntouched, is_ours}
@@ -231,7 +231,19 @@ pub passes_cleaned : (known sure : Bool) (next : ℕ) (f : Files) (es : List Ima
     → known ≡ true → sure ≡ true → PassesStates (IsBefore f) past now
 passes_cleaned known sure next f es past now passes settled k s = passes_before f es past now (settled.when k s).lines (passes k)
 
-pub ruleset opening = (settled_swept, untouched_self)
+-- what is settled is so wherever the files are the same
+all_same : (es : List ImageEntryOf) (f g : Files) → LeavesFiles f g → AllByRecursion (λ e. g (image_name e.key e.number) ≡ f (image_name e.key e.number)) es
+all_same [] f g same = tt
+all_same (e ∷ es) f g same = (same.all (image_name e.key e.number), all_same es f g same)
+
+pub untouched_same : (es : List ImageEntryOf) (f g : Files) → LeavesFiles f g → IsUntouched es f g
+untouched_same es f g same = record { active = same.all active_name; named = all_same es f g same; others = λ name ours active. same.all name }
+
+pub settled_same : (known : Bool) (next : ℕ) (f g : Files) (es : List ImageEntryOf) → AllByRecursion IsImageEntry es → AllByRecursion (λ e. e.number < next) es
+    → (known ≡ true → lines_by (f active_name) ≡ Some es) → (known ≡ true → is_some (images_of f es) ≡ true) → LeavesFiles f g → IsSettledIfKnown known true next g es
+settled_same known next f g es are below lines there same = settled_swept known next f g es are below lines there (λ k. untouched_same es f g same)
+
+pub ruleset opening = (settled_swept, settled_same, untouched_self)
 
 pub ruleset cleaning = (only_self, sweeps_all, settled_cleaned, before_cleaned, passes_cleaned, before_self, passes_self, untouched_self, passes_none)
 

@@ -1,6 +1,6 @@
 //! A bank whose images persist.
 
-ghost use Rattle.std.specs.Prelude.{◌≡◌, ◌++◌, Err, IfOk, None, OnErr, OnOk, map, option_map};
+ghost use Rattle.std.specs.Prelude.{◌≡◌, ◌++◌, Err, IfErr, IfOk, None, OnErr, OnOk, map, option_map};
 ghost use Rattle.fd_core.specs.Banks.{HaveKeysOnce, CountsFailure};
 ghost use Rattle.fd_core.specs.Images.{key_of, rows_after_switch};
 ghost use Rattle.fw_store.specs.Kept.{all_applied, all_running, kept_after, one_applied};
@@ -136,6 +136,17 @@ impl<S: Store + Drop> Bank for KeptBank<S> {
     }
 }
 
+/// Keeps images in a store.
+fn kept_in<S: Store>(store: &mut S, images: &[Kept<'_>]) -> Result<(), BankFault>
+    ensures ok { OnOk result (S.kept store.new ≡ kept_after (S.kept store.old) images.now) }
+    ensures fault { IfErr result (λ e. (e ≡ BankFault.Device) × (S.kept store.new ≡ S.kept store.old)) }
+{
+    match store.keep(images) {
+        Ok(()) => Ok(()),
+        Err(_) => Err(BankFault::Device),
+    }
+}
+
 /// Keeps the applied images of components with these keys, in a store that keeps the active ones.
 fn keep_applied<S: Store>(
     alloc: Global,
@@ -151,10 +162,7 @@ fn keep_applied<S: Store>(
     let Ok(images) = applied_images(alloc, bank, keys) else {
         return Err(BankFault::Memory);
     };
-    match store.keep(images.as_slice()) {
-        Ok(()) => Ok(()),
-        Err(_) => Err(BankFault::Device),
-    }
+    kept_in(store, images.as_slice())
 }
 
 /// Appends the applied image of a component, if there is one.

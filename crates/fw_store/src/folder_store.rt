@@ -1,8 +1,9 @@
 //! A store in a folder.
 
-ghost use Rattle.std.specs.Prelude.{◌≡◌, ◌⊎◌, ◌+◌, IfErr, OnErr, OnOk, false, true};
-ghost use Rattle.fw_store.specs.Folders.{IsAfter, IsBefore, IsBeforeOrAfter, PassesStates};
-ghost use Rattle.fw_store.specs.Keeping.{IsSettledIfKnown};
+ghost use Rattle.std.specs.Prelude.{◌≡◌, ◌⊎◌, ◌+◌, IfErr, IfOk, OnErr, OnOk, false, map, true};
+ghost use Rattle.fw_store.specs.Active.{active_text};
+ghost use Rattle.fw_store.specs.Folders.{IsAfter, IsBefore, IsBeforeOrAfter, NamesFiles, PassesStates};
+ghost use Rattle.fw_store.specs.Keeping.{HoldsText, IsSettledIfKnown, entries_after};
 ghost use Rattle.fw_store.specs.Kept.{kept_after};
 ghost use Rattle.fw_store.specs.Opening.{IsUntouched};
 ghost use Rattle.fw_store.specs.Strays.{ChangesOnlyStrays, RemovesStrays};
@@ -81,6 +82,18 @@ impl<F: Folder + Drop> FolderStore<F> {
         self.memory.images()
     }
 
+    /// Returns the names of the folder's files.
+    fn names(&self) -> Result<Vec<Vec<u8>>, OpenFault>
+        ensures names { IfOk result (λ names. F.is_known self.now.folder ≡ true
+            → NamesFiles (map (λ name. name.items) names.items) (F.files self.now.folder)) }
+        ensures fault { IfErr result (λ e. (e ≡ OpenFault.Unreadable) × (F.may_fail self.now.folder ≡ true)) }
+    {
+        match self.folder.names(self.alloc) {
+            Ok(names) => Ok(names),
+            Err(_) => Err(OpenFault::Unreadable),
+        }
+    }
+
     /// Removes the files of a store that `active` doesn't name, which a crash may leave. A file
     /// that can't be removed stays.
     ///
@@ -123,8 +136,9 @@ impl<F: Folder + Drop> FolderStore<F> {
             → (self.new ≡ self.old) × (F.may_fail self.old.folder ≡ true)) }
         ensures fault { IfErr result (λ e. (e ≡ OpenFault.Unreadable) ⊎ (e ≡ OpenFault.Memory)) }
     {
-        let Ok(names) = self.folder.names(self.alloc) else {
-            return Err(OpenFault::Unreadable);
+        let names = match self.names() {
+            Ok(names) => names,
+            Err(fault) => return Err(fault),
         };
         match sweep(
             self.alloc,
@@ -171,6 +185,11 @@ impl<F: Folder + Drop> FolderStore<F> {
             → F.is_known self.old.folder ≡ true
             → self.new.is_sure ≡ true
             → IsBefore (F.files self.old.folder) (F.files self.new.folder)) }
+        ensures unsure { OnErr result (self.old.is_sure ≡ true
+            → self.new.is_sure ≡ false
+            → F.is_known self.old.folder ≡ true
+            → HoldsText (active_text (entries_after self.old.next images.now self.old.entries.items))
+            (F.files self.new.folder)) }
         ensures moments { IsSettledIfKnown (F.is_known self.old.folder) self.old.is_sure
             self.old.next (F.files self.old.folder) self.old.entries.items
             → F.is_known self.old.folder ≡ true
@@ -214,7 +233,19 @@ impl<F: Folder + Drop> FolderStore<F> {
 impl<F: Folder + Drop> Store for FolderStore<F> {
     ghost kept = { λ s. s.memory.images.items };
 
-    fn keep(&mut self, images: &[Kept<'_>]) -> Result<(), StoreFault> {
+    fn keep(&mut self, images: &[Kept<'_>]) -> Result<(), StoreFault>
+        ensures ok { OnOk result (self.new.memory.images.items ≡ kept_after self.old.memory.images.items images.now) }
+        ensures err { OnErr result (self.new.memory.images.items ≡ self.old.memory.images.items) }
+        ensures found { OnOk result (IsSettledIfKnown (F.is_known self.old.folder) self.old.is_sure
+            self.old.next (F.files self.old.folder) self.old.entries.items
+            → F.is_known self.old.folder ≡ true
+            → IsAfter images.now (F.files self.old.folder) (F.files self.new.folder)) }
+        ensures lasts { OnOk result (IsSettledIfKnown (F.is_known self.old.folder) self.old.is_sure
+            self.old.next (F.stored self.old.folder) self.old.entries.items
+            → F.is_known self.old.folder ≡ true
+            → IsAfter images.now (F.stored self.old.folder) (F.lasting self.new.folder)) }
+        ensures next { OnOk result (self.new.next ≡ self.old.next + 1) }
+    {
         self.put(images)
     }
 }

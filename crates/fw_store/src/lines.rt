@@ -1,6 +1,6 @@
 //! The lines of images that are written to a folder.
 
-ghost use Rattle.std.specs.Prelude.{◌≡◌, ◌++◌, ◌<◌, ◌^◌, ℕ, get_or, IfOk, IfSome, None, OnOk, map, true};
+ghost use Rattle.std.specs.Prelude.{◌≡◌, ◌++◌, ◌<◌, ◌≤◌, ◌^◌, ℕ, get_or, IfNone, IfOk, IfSome, None, OnOk, length, map, true};
 ghost use Rattle.std.specs.List.{AllByRecursion};
 ghost use Rattle.fd_core.specs.Banks.{HaveKeysOnce};
 ghost use Rattle.fw_store.specs.Active.{IsImageEntry};
@@ -26,7 +26,8 @@ pub(crate) fn are_apart(images: &[Kept<'_>]) -> bool
 
 /// Returns the line of an image in a file with this number, if its size fits four bytes.
 fn line_of(number: u32, image: &Kept<'_>) -> Option<ImageEntry>
-    ensures { IfSome result (λ e. e ≡ line_for number image.now) }
+    ensures line { IfSome result (λ e. e ≡ line_for number image.now) }
+    ensures large { IfNone result (2 ^ 32 ≤ length image.now.image.bytes) }
 {
     match u32::try_from(image.bytes.len()) {
         Ok(size) => Some(ImageEntry {

@@ -17,6 +17,18 @@ use crate::writing::image_name;
 use fw_package::crc32;
 use std::alloc::{AllocError, Global};
 
+/// Returns the text of a folder's `active`, if there is such a file.
+fn active_in<F: Folder>(alloc: Global, folder: &F) -> Result<Option<Vec<u8>>, OpenFault>
+    ensures ok { IfOk result (λ r. F.is_known folder.now ≡ true
+        → option_map (λ v. v.items) r ≡ F.files folder.now active_name) }
+    ensures fault { IfErr result (λ e. (e ≡ OpenFault.Unreadable) × (F.may_fail folder.now ≡ true)) }
+{
+    match folder.read(alloc, ACTIVE) {
+        Ok(found) => Ok(found),
+        Err(_) => Err(OpenFault::Unreadable),
+    }
+}
+
 /// Returns the lines of a folder's `active`, if it is the text of lines; no lines if there is no
 /// such file.
 fn lines<F: Folder>(alloc: Global, folder: &F) -> Result<Option<Vec<ImageEntry>>, OpenFault>
@@ -25,9 +37,9 @@ fn lines<F: Folder>(alloc: Global, folder: &F) -> Result<Option<Vec<ImageEntry>>
     ensures err { IfErr result (λ e. (e ≡ OpenFault.Unreadable) ⊎ (e ≡ OpenFault.Memory)) }
     ensures unread { IfErr result (λ e. e ≡ OpenFault.Unreadable → F.may_fail folder.now ≡ true) }
 {
-    let found = match folder.read(alloc, ACTIVE) {
+    let found = match active_in(alloc, folder) {
         Ok(found) => found,
-        Err(_) => return Err(OpenFault::Unreadable),
+        Err(fault) => return Err(fault),
     };
     let Some(text) = found else {
         return Ok(Some(Vec::new(alloc)));

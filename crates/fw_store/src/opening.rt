@@ -3,6 +3,7 @@
 ghost use Rattle.std.specs.Prelude.{◌≡◌, ◌<◌, Err, IfErr, IfOk, Ok, OnOk, true};
 ghost use Rattle.std.specs.List.{AllByRecursion};
 ghost use Rattle.fw_store.specs.Active.{next_number};
+ghost use Rattle.fw_store.specs.Folders.{LeavesFiles};
 ghost use Rattle.fw_store.specs.Keeping.{IsSettledIfKnown};
 ghost use Rattle.fw_store.specs.Opening.{found_in};
 
@@ -29,7 +30,8 @@ fn next_after(entries: &[ImageEntry]) -> u64
 
 /// Opens the store of a folder over a configuration's images. A component's configured image is
 /// active if the folder keeps none of it. The folder is only read: `FolderStore::sweep` removes
-/// files left in it. Nothing is written before the first images are kept.
+/// files left in it. Nothing is written before the first images are kept. If all that the folder
+/// has is on the disk, as after a start of the machine, what is kept in it stays there.
 ///
 /// # Errors
 /// `Damaged` and `Foreign` as `found_in` defines them; `Unreadable` if the folder can't be read;
@@ -45,6 +47,9 @@ pub fn open_store<F: Folder + Drop>(
     ensures sure { IfOk result (λ s. s.is_sure ≡ true) }
     ensures settled { IfOk result (λ s. IsSettledIfKnown (F.is_known s.folder) s.is_sure s.next
         (F.files s.folder) s.entries.items) }
+    ensures stored { IfOk result (λ s. LeavesFiles (F.files folder) (F.stored folder)
+        → IsSettledIfKnown (F.is_known s.folder) s.is_sure s.next (F.stored s.folder)
+        s.entries.items) }
     ensures next { IfOk result (λ s. s.next ≡ next_number s.entries.items) }
     ensures untouched { IfOk result (λ s. s.folder ≡ folder) }
     ensures damaged { IfErr result (λ e. e ≡ OpenFault.Damaged

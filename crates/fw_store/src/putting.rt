@@ -2,7 +2,7 @@
 
 ghost use Rattle.std.specs.Prelude.{◌≡◌, ◌⊎◌, ◌^◌, ◌<◌, IfErr, IfOk, OnErr, OnOk, map, true};
 ghost use Rattle.fd_core.specs.Banks.{HaveKeysOnce};
-ghost use Rattle.fw_store.specs.Active.{image_name as name_of};
+ghost use Rattle.fw_store.specs.Active.{active_text as text_of, image_name as name_of};
 ghost use Rattle.fw_store.specs.Folders.{LeavesFiles, PassesStates};
 ghost use Rattle.fw_store.specs.Keeping.{HoldsText, LeavesLowerFiles, WritesImages, IsKey, IsStoring, ReplacesActive, ReplacesOnDisk, IsStopped, FailsToReplaceActive, IsWriting, MayHaveReplaced};
 
@@ -118,6 +118,9 @@ pub(crate) fn put_images<F: Folder>(
     ensures unsure { IfErr result (λ e. e ≡ RenameFault.Unsure
         → F.is_known folder.old ≡ true
         → MayHaveReplaced number images.now entries.now (F.files folder.old) (F.files folder.new)) }
+    ensures whole { IfErr result (λ e. e ≡ RenameFault.Unsure
+        → F.is_known folder.old ≡ true
+        → HoldsText (text_of entries.now) (F.files folder.new)) }
     ensures moments { F.is_known folder.old ≡ true
         → PassesStates (MayHaveReplaced number images.now entries.now (F.files folder.old))
         (F.moments folder.old) (F.moments folder.new) }

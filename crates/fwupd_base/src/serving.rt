@@ -1,7 +1,7 @@
 //! Lines in, lines out: a server of lines behind any reader and writer.
 
-ghost use Rattle.std.specs.Prelude.{[], Bool, true, false, ◌≡◌, ◌≢◌, ◌≤◌, ◌<◌, ◌+◌, ◌*◌, ◌-◌, ◌^◌, ◌++◌, IfErr, List, OnErr, OnOk, Option, length, vec_capacity, ℕ};
-ghost use Rattle.std.specs.Io.KnownBytes.{Keeps};
+ghost use Rattle.std.specs.Prelude.{[], Bool, true, false, ◌≡◌, ◌≢◌, ◌≤◌, ◌<◌, ◌+◌, ◌*◌, ◌-◌, ◌^◌, ◌++◌, IfErr, IfOk, List, OnErr, OnOk, Option, length, take, vec_capacity, ℕ};
+ghost use Rattle.std.specs.Io.KnownBytes.{Consumes, IsAtEnd, Keeps};
 ghost use Rattle.fwupd_base.specs.Stream.{LacksDigitRoom};
 ghost use Rattle.fwupd_base.specs.Serving.{BreaksOffLine, BreaksOffText, HasServedLines, ServeErr, ServeOk, ServesText, ServeWriteErr, StopsAtLine, WritesLine};
 
@@ -110,6 +110,38 @@ fn make_room(held: &mut Vec<u8>, bytes: &mut Vec<u8>, most: usize) -> Result<(),
         return Err(AnswerFault::Memory);
     };
     Ok(())
+}
+
+/// Reads a piece, of at most `most` bytes, into the front of `buffer`, and reserves room to hold
+/// and decode it. Returns the number of bytes; 0 is the end.
+fn read_piece<R: Read>(
+    reader: &mut R,
+    held: &mut Vec<u8>,
+    bytes: &mut Vec<u8>,
+    buffer: &mut [u8],
+    most: usize,
+) -> Result<usize, AnswerFault>
+    requires room { most ≤ length buffer.old }
+    ensures same { held.new.items ≡ held.old.items }
+    ensures size { length buffer.new ≡ length buffer.old }
+    ensures holds { OnOk result (length held.new.items + most ≤ vec_capacity held.new) }
+    ensures decodes { OnOk result (length held.new.items + most ≤ 2 * vec_capacity bytes.new) }
+    ensures within { IfOk result (λ n. n ≤ most) }
+    ensures bytes { IfOk result (λ n. Consumes (R.remaining reader.old) (R.remaining reader.new) (take n buffer.new)) }
+    ensures end { IfOk result (λ n. n ≡ 0 → 0 < most → IsAtEnd (R.remaining reader.new)) }
+    ensures kept { OnErr result (Keeps (R.remaining reader.old) (R.remaining reader.new)) }
+    ensures fault { IfErr result (λ e. e ≢ AnswerFault.Write) }
+    ensures memory { IfErr result (λ e. e ≡ AnswerFault.Memory → LacksDigitRoom
+        (length held.old.items) most (vec_capacity held.old) (vec_capacity bytes.old)) }
+{
+    match make_room(held, bytes, most) {
+        Ok(()) => {}
+        Err(fault) => return Err(fault),
+    }
+    match read_some(reader, buffer, most) {
+        Ok(read) => Ok(read),
+        Err(_) => Err(AnswerFault::Read),
+    }
 }
 
 /// Serves the line made of the held bytes and then `bytes`; afterwards no bytes are held.
@@ -262,14 +294,10 @@ pub fn serve_stream<R: Read, W: Write, S: LineServer>(
     let mut count = 0;
     while count <= limit {
         let most = PIECE.min(limit + 1 - count);
-        match make_room(&mut held, &mut buffers.bytes, most) {
-            Ok(()) => {}
-            Err(fault) => return Err(fault),
-        }
-        let read = match read_some(reader, buffer, most) {
+        let read = match read_piece(reader, &mut held, &mut buffers.bytes, buffer, most) {
             Ok(0) => return finish(server, &held, &mut buffers, writer),
             Ok(read) => read,
-            Err(_) => return Err(AnswerFault::Read),
+            Err(fault) => return Err(fault),
         };
         let within = read.min(limit - count);
         match serve_piece(server, &mut held, &buffer[..within], &mut buffers, writer) {

@@ -8,6 +8,7 @@ mod Linked
 mod Named
 mod Names
 mod Numbered
+mod Performed
 mod Recorded
 mod Seen
 mod Soakings

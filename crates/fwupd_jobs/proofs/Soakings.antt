@@ -1,7 +1,7 @@
 -- A soak of the devices of a configuration, and its result.
-use Rattle.std.proofs.Common.{◌≡◌, ◌∙◌, ◌∷◌, ℕ, Bool, List, Ok, Option, None, Some, ap, inl, inr, map, refl, subst, Vec, String, Global}
+use Rattle.std.proofs.Common.{◌≡◌, ◌∙◌, ◌∷◌, ℕ, Bool, Err, IfErr, List, Ok, Option, Result, None, Some, ap, inl, inr, map, refl, subst, Vec, String, Global}
 use Rattle.std.specs.List.{AllByRecursion}
-use Rattle.std.specs.Prelude.{IfSome, option_map, string_bytes}
+use Rattle.std.specs.Prelude.{IfSome, IsSomeAnd, option_map, string_bytes}
 use Rattle.fw_package.specs.Package.{PackageText}
 use Rattle.fw_package.specs.Reading.{package_of}
 use Rattle.fw_script.specs.Configs.{config_of}
@@ -15,11 +15,16 @@ use Rattle.fw_steps.specs.declared.step.Step.{Step}
 use Rattle.fwupd_words.specs.declared.asked.SoakOrder.{SoakOrder}
 use Rattle.fwupd_watch.specs.Outputs.{FailsToWriteOutput, OutputOf, WritesOutput}
 use Rattle.fwupd_nodes.specs.Setups.{ArePacked, Says}
-use Rattle.fwupd_watch.specs.Files.{FileOf, IsApartFrom}
-use Rattle.fwupd_jobs.specs.Soaked.{ReportsViolation, SoakEnds, Soaks, SoaksClean, setup_of_config}
+use Rattle.fwupd_watch.specs.Files.{FileOf, IsApartFrom, IsOverOne}
+use Rattle.fwupd_jobs.specs.Soaked.{ReportsViolation, SoakEnds, Soaks, SoaksClean, WouldWriteOver, setup_of_config}
 use Rattle.fwupd_watch.specs.declared.faults.JobFault.{JobFault}
 use Rattle.fwupd_watch.specs.declared.faults.JobFault.TheVariants as faults
 use Rattle.fwupd_nodes.proofs.Packed.{packages_so, through}
+
+-- both hold of a fault
+pub both_of : {A E : Type 0} (r : Result A E) (P Q : E → Type 0) → IfErr r P → IfErr r Q → IfErr r (λ e. P e × Q e)
+both_of (Ok x) P Q p q = tt
+both_of (Err e) P Q p q = (p, q)
 
 -- the runs of a configuration in a file
 pub soaks_so : (files : List ℕ → FileOf) (path : List ℕ) (config : Config) (names : List (String Global)) (contents slice : List (Vec ℕ Global)) (ps packs : List PackageText)
@@ -39,6 +44,22 @@ soaks_so files path config names contents slice ps packs devices file runs sum k
   soaked =
       subst (λ qs. SoakOk (setup_of_config (config_seen config) qs) runs sum kept) lent
       (subst (λ ds. SoakOk (record { agent = config.agent; unit = config.unit; devices = map device_of ds; packages = packs }) runs sum kept) all soaked);
+}
+
+-- the packages of a configuration, and the file for the steps, which overwrites an input
+pub written_over : (files : List ℕ → FileOf) (path : List ℕ) (config : Config) (names : List (String Global)) (contents slice : List (Vec ℕ Global)) (ps : List PackageText) (file : Option (List ℕ)) (told : JobFault) → told ≡ faults.Record
+    → Says config_of (files path) (config_seen config) → names ≡ config.packages.items → ArePacked files (map (λ p. string_bytes p) names) (map (λ f. f.items) contents) → slice ≡ contents
+    → map (λ p. Ok p) ps ≡ map (λ f. package_of f.items) slice → IsSomeAnd file (λ p. IsOverOne files p (path ∷ map (λ s. string_bytes s) config.packages.items)) → WouldWriteOver files path file told
+written_over files path config names contents slice ps file told is says named packed same read over = record {
+  is = is;
+  config = config_seen config;
+  says = says;
+  packages = ps;
+  are =
+      packages_so files (map (λ p. string_bytes p) config.packages.items) (map (λ f. f.items) contents) ps
+      (subst (λ ns. ArePacked files (map (λ p. string_bytes p) ns) (map (λ f. f.items) contents)) named packed)
+      (read ∙ ap (map (λ f. package_of f.items)) same ∙ through contents);
+  over = over;
 }
 
 -- an optional value is none if its image is

@@ -1,5 +1,9 @@
 -- The result of each job that arguments request.
-use Rattle.std.specs.Prelude.{ℕ, ◌≡◌, ◌⊎◌, true, false, List, None, Option, option_map}
+use Rattle.std.specs.Prelude.{ℕ, ◌≡◌, ◌≢◌, ◌⊎◌, true, false, Err, List, None, Ok, Option, option_map}
+use Rattle.clap.specs.Values.{kind_of}
+use Rattle.clap.specs.Words.{App}
+use Rattle.clap.specs.declared.error.Error.{Error}
+use Rattle.clap.specs.declared.error.kind.ErrorKind.TheVariants as kinds
 use Rattle.fwupd_watch.specs.Answering.{AnswerEnds, AnswersAll}
 use Rattle.fwupd_nodes.specs.Alone.{AgentEnds, DeviceEnds, ServesAgent, ServesDevice, streams_found, streams_left}
 use Rattle.fwupd_nodes.specs.Answered.{AnswersSerial, SerialEnds}
@@ -10,16 +14,19 @@ use Rattle.fwupd_jobs.specs.Inspected.{InspectEnds, Inspects}
 use Rattle.fwupd_jobs.specs.Logs.{LogEnds, ReportsLog}
 use Rattle.fwupd_watch.specs.Outputs.{OutputOf}
 use Rattle.fwupd_jobs.specs.Planned.{PlanEnds, Plans}
-use Rattle.fwupd_nodes.specs.Processes.{RunsAgent, RunsDevice}
+use Rattle.fwupd_nodes.specs.Processes.{AgentProcessEnds, DeviceProcessEnds, RunsAgent, RunsDevice}
 use Rattle.fwupd_jobs.specs.Replayed.{ReplayEnds, ReportsReplay}
 use Rattle.fwupd_watch.specs.Running.{ObserverOf, show_of}
 use Rattle.fwupd_watch.specs.Files.{any_file}
 use Rattle.fwupd_nodes.specs.Hosts.{FoundOf, LeftOf}
 use Rattle.fwupd_nodes.specs.Setups.{any_stores, source_of}
 use Rattle.fwupd_jobs.specs.Soaked.{SoakEnds, SoaksClean}
+use Rattle.fwupd_words.specs.CommandLine.{IsCommandLine}
+use Rattle.fwupd_words.specs.Reading.{ReadsWords}
 use Rattle.fwupd_words.specs.declared.asked.Job.{Job}
 use Rattle.fwupd_words.specs.declared.asked.Job.TheVariants as jobs
 use Rattle.fwupd_watch.specs.declared.faults.JobFault.{JobFault}
+use Rattle.fwupd_watch.specs.declared.faults.JobFault.TheVariants as faults
 
 -- A job is done: its output is written.
 abbrev pub IsDone : Job → FoundOf → LeftOf → Type 0
@@ -36,7 +43,7 @@ IsDone (jobs.Soak s) h l = SoaksClean h.files s.config.now s.order (option_map (
 IsDone (jobs.Device d) h l = ServesDevice d h l
 IsDone (jobs.Agent a) h l = ServesAgent a h l
 IsDone (jobs.DeviceProcess d) h l = RunsDevice d h.files h.stores h.output l.output
-IsDone (jobs.AgentProcess a) h l = RunsAgent a h.files h.agent_store h.output l.output
+IsDone (jobs.AgentProcess a) h l = RunsAgent a h.files h.agent_store h.output (record { is_known = h.is_known; held = l.held; output = l.output })
 IsDone (jobs.Decode file unit form) h l = Decodes h.files (option_map (λ p. p.now) file) unit form h.input l.input h.output l.output
 IsDone (jobs.Plan config number form) h l = Plans h.files config.now number form h.output l.output
 
@@ -49,13 +56,14 @@ JobEnds (jobs.Replay r) told h l =
     ReplayEnds h.files (source_of h.stores (option_map (λ p. p.now) r.show.store) r.config.now) r.schedule.now (show_of r.show) h.refuses told l.watched h.output l.output
 JobEnds (jobs.Run u) told h l =
     CheckedEnds h.files (source_of h.stores (option_map (λ p. p.now) u.show.store) u.config.now) u.order (show_of u.show) h.refuses (h.lacks u.folder.now) told l.watched h.output l.output
-JobEnds (jobs.Build spec file) told h l = BuildEnds h.files spec.now told × (l.output ≡ h.output)
+JobEnds (jobs.Build spec file) told h l = BuildEnds h.files spec.now told × ((l.held ≡ h.held) × (l.output ≡ h.output))
 JobEnds (jobs.Sel path) told h l = LogEnds h.files path.now told h.output l.output
-JobEnds (jobs.Soak s) told h l = SoakEnds h.files s.config.now s.order (option_map (λ p. p.now) s.record) told h.is_known l.held h.output l.output
+JobEnds (jobs.Soak s) told h l =
+    SoakEnds h.files s.config.now s.order (option_map (λ p. p.now) s.record) told h.is_known l.held h.output l.output × (told ≢ faults.Violation → l.held ≡ h.held)
 JobEnds (jobs.Device d) told h l = DeviceEnds d told h l
 JobEnds (jobs.Agent a) told h l = AgentEnds a told h l
-JobEnds (jobs.DeviceProcess d) told h l = Prim.Unit {0}
-JobEnds (jobs.AgentProcess a) told h l = Prim.Unit {0}
+JobEnds (jobs.DeviceProcess d) told h l = DeviceProcessEnds d told h.files h.output l.output
+JobEnds (jobs.AgentProcess a) told h l = AgentProcessEnds a told h.files h.output l.output
 JobEnds (jobs.Decode file unit form) told h l = DecodeEnds h.files (option_map (λ p. p.now) file) unit form h.input l.input told h.output l.output
 JobEnds (jobs.Plan config number form) told h l = PlanEnds h.files config.now number form told h.output l.output
 
@@ -93,3 +101,36 @@ pub record SystemSays (status : ℕ) (job : Job) (before now : OutputOf) : Type 
   pub left_input : Option (List ℕ)
   pub watched : ObserverOf
   pub says : StatusSays status job (found_on_system found_input before) (left_on_system left_input watched now)
+
+-- The arguments give a job, for which this holds on the system.
+pub record PerformsJob (words : List (List ℕ)) (status : ℕ) : Type 0 where
+  pub line : App
+  pub is : IsCommandLine line
+  pub job : Job
+  pub reads : ReadsWords line words (Ok job)
+  pub before : OutputOf
+  pub now : OutputOf
+  pub says : SystemSays status job before now
+
+-- The arguments give no job: memory was refused, help or the version is asked for, or they have a
+-- fault.
+pub record LacksJob (words : List (List ℕ)) (status : ℕ) : Type 0 where
+  pub line : App
+  pub is : IsCommandLine line
+  pub error : Error
+  pub reads : ReadsWords line words (Err error)
+  pub memory : kind_of error ≡ kinds.OutOfMemory → status ≡ 1
+  pub shown : (kind_of error ≡ kinds.DisplayHelp) ⊎ (kind_of error ≡ kinds.DisplayVersion) → (status ≡ 0) ⊎ (status ≡ 1)
+  pub mistake : kind_of error ≢ kinds.OutOfMemory → kind_of error ≢ kinds.DisplayHelp → kind_of error ≢ kinds.DisplayVersion → status ≡ 2
+
+-- The arguments give a job, and memory for its output was refused.
+pub record LacksOutput (words : List (List ℕ)) (status : ℕ) : Type 0 where
+  pub line : App
+  pub is : IsCommandLine line
+  pub job : Job
+  pub reads : ReadsWords line words (Ok job)
+  pub refused : status ≡ 1
+
+-- the exit status of the program with these arguments
+abbrev pub Performs : (words : List (List ℕ)) (status : ℕ) → Type 0
+Performs words status = PerformsJob words status ⊎ (LacksJob words status ⊎ LacksOutput words status)

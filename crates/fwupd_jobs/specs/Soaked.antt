@@ -62,11 +62,13 @@ pub record BreaksSoak (files : List ℕ → FileOf) (path : List ℕ) (order : S
   pub soaks : Soaks files path file order.runs sum kept
   pub begun : FailsToWriteOutput before now (summary_text sum)
 
--- The steps would overwrite an input.
+-- The steps would overwrite an input. The packages are read before.
 pub record WouldWriteOver (files : List ℕ → FileOf) (path : List ℕ) (file : Option (List ℕ)) (told : JobFault) : Type 0 where
   pub is : told ≡ faults.Record
   pub config : ConfigOf
   pub says : Says config_of (files path) config
+  pub packages : List PackageText
+  pub are : ArePackages files config.packages packages
   pub over : IsSomeAnd file (λ p. IsOverOne files p (path ∷ config.packages))
 
 -- The result of a soak that failed. In the other cases nothing is written.

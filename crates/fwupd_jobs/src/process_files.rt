@@ -66,7 +66,8 @@ fn open_progress<'a>(
     }
 }
 
-/// What observes a process of the system. Nothing is known of what its files hold.
+/// What observes a process of the system. Nothing is known of what its files hold, nor of what it
+/// shows on a terminal.
 #[derive(Drop)]
 pub(crate) struct SystemWatch<'a> {
     watch: ProcessWatch<File, PacketProgress<'a>>,
@@ -92,15 +93,26 @@ pub(crate) fn open_watch<'a>(
 }
 
 impl<'a> PacketObserver for SystemWatch<'a> {
-    ghost receives = { λ s p t. Prim.Unit {0} };
+    ghost use Rattle.std.specs.Prelude.{◌≡◌};
+    ghost use Rattle.fwupd_traces.specs.Records.{RecordsPacket, RecordsUnits};
+    ghost use Rattle.fwupd_traces.specs.Traces.{KeepsTrace, TracesPacket};
+    ghost use Rattle.fwupd_traces.specs.Watches.{EndsAll, Optional};
 
-    ghost sends = { λ s p t. Prim.Unit {0} };
+    ghost receives = { λ s p t. Optional TracesPacket s.watch.trace p t.watch.trace
+        × Optional RecordsPacket s.watch.record p t.watch.record };
 
-    ghost begins = { λ s unit t. Prim.Unit {0} };
+    ghost sends = { λ s p t. Optional TracesPacket s.watch.trace p t.watch.trace
+        × (t.watch.record ≡ s.watch.record) };
 
-    ghost begins_round = { λ s unit t. Prim.Unit {0} };
+    ghost begins = { λ s unit t. (t.watch.trace ≡ s.watch.trace)
+        × Optional (λ r u q. q ≡ record r { unit = u }) s.watch.record unit t.watch.record };
 
-    ghost ends = { λ s t. Prim.Unit {0} };
+    ghost begins_round = { λ s unit t. Optional (λ q u r. KeepsTrace q r) s.watch.trace unit t.watch.trace
+        × Optional RecordsUnits s.watch.record unit t.watch.record };
+
+    ghost ends = { λ s r t. EndsAll (λ q e u. Prim.Unit {0})
+        (record { trace = s.watch.trace; recorded = s.watch.record; progress = s.watch.progress })
+        r (record { trace = t.watch.trace; recorded = t.watch.record; progress = t.watch.progress }) };
 
     fn begin(&mut self, unit: u32) {
         self.watch.begin(unit);

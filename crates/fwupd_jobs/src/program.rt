@@ -1,13 +1,13 @@
 //! The program: reads its arguments, performs the job, and returns the exit status.
 
-ghost use Rattle.std.specs.Prelude.{◌≡◌, ◌≢◌, ◌⊎◌, ◌≤◌, IfErr, OnOk};
+ghost use Rattle.std.specs.Prelude.{◌≡◌, ◌≢◌, ◌⊎◌, ◌≤◌, IfErr, OnOk, map, string_bytes};
 ghost use Rattle.std.specs.IoError.{error_kind};
 ghost use Rattle.std.specs.Process.{exit_status};
 ghost use Rattle.clap.specs.Values.{kind_of};
 ghost use Rattle.clap.specs.declared.error.kind.ErrorKind.TheVariants.{DisplayHelp, DisplayVersion, OutOfMemory};
 ghost use Rattle.fw_setup.specs.Stocks.{stores_in};
 ghost use Rattle.fwupd_nodes.specs.Hosts.{FoundOf, LeftOf, agent_store_in};
-ghost use Rattle.fwupd_jobs.specs.Jobs.{StatusSays, SystemSays};
+ghost use Rattle.fwupd_jobs.specs.Jobs.{Performs, StatusSays, SystemSays};
 ghost use Rattle.fwupd_jobs.specs.Progress.{runs_of_job};
 
 use crate::explaining::explain;
@@ -195,16 +195,13 @@ fn no_job(rt: &HostRuntime, error: &clap::Error) -> ExitCode
     printed(rt, error, error.print(rt))
 }
 
-/// Performs the job that the command line's arguments request, and returns the exit status: 0; 1
-/// after printing a fault on standard error; 2 for a usage error.
-pub fn perform(rt: &HostRuntime) -> ExitCode
-    ensures { exit_status result ≤ 2 }
+/// Performs the job that arguments request, with the program's name first, and returns the exit
+/// status.
+fn perform_words(rt: &HostRuntime, words: &[String]) -> ExitCode
+    ensures known { exit_status result ≤ 2 }
+    ensures performs { Performs (map string_bytes words.now) (exit_status result) }
 {
-    let words = match words(rt) {
-        Ok(words) => words,
-        Err(status) => return status,
-    };
-    let job = match parse(rt.alloc(), words.as_slice()) {
+    let job = match parse(rt.alloc(), words) {
         Ok(job) => job,
         Err(error) => return no_job(rt, &error),
     };
@@ -213,4 +210,15 @@ pub fn perform(rt: &HostRuntime) -> ExitCode
         Err(fault) => return failed(rt, &fault),
     };
     run(rt, &job, rt.reader(), output).0
+}
+
+/// Performs the job that the command line's arguments request, and returns the exit status: 0; 1
+/// after printing a fault on standard error; 2 for a usage error.
+pub fn perform(rt: &HostRuntime) -> ExitCode
+    ensures { exit_status result ≤ 2 }
+{
+    match words(rt) {
+        Ok(words) => perform_words(rt, words.as_slice()),
+        Err(status) => status,
+    }
 }

@@ -4,6 +4,7 @@ ghost use Rattle.std.specs.Prelude.{◌≡◌, [], IfErr, IfOk};
 ghost use Rattle.std.specs.IoError.{error_kind};
 ghost use Rattle.std.specs.Io.Buffered.{reader_buffer, reader_inner, reader_remaining};
 
+use fw_edge::HeldBack;
 use std::alloc::Global;
 use std::io::{self, BufReader, ErrorKind, Read, Write};
 
@@ -45,5 +46,13 @@ impl<S: Read + Write + Drop> Write for ReadAhead<S> {
 
     fn flush(&mut self) -> io::Result<()> {
         self.reader.get_mut().flush()
+    }
+}
+
+impl<S: Read + HeldBack + Drop> HeldBack for ReadAhead<S> {
+    ghost held = { λ s. S.held (reader_inner s.reader) };
+
+    fn push_out(&mut self) -> io::Result<()> {
+        self.reader.get_mut().push_out()
     }
 }

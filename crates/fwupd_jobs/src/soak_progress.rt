@@ -1,15 +1,14 @@
 //! Shows the progress of a soak on a terminal.
 
+ghost use Rattle.std.specs.Io.KnownBytes.{Appends};
+ghost use Rattle.std.specs.Prelude.{◌≡◌, None, OnOk, is_some};
+ghost use Rattle.fwupd_watch.specs.Terminals.{erasure_of};
+
 use fw_soak::{SoakObserver, Summary};
+use fwupd_watch::{erase_line, is_due};
 use std::fmt::{self, Display};
-use std::io::{IsTerminal, Print};
-use std::time::{Duration, Instant};
-
-/// The least time between two updates of the display, in milliseconds.
-const PAUSE: u64 = 100;
-
-/// A blank line, which covers one that was shown.
-const BLANK: &str = "                                                ";
+use std::io::{self, IsTerminal, Print, Write};
+use std::time::Instant;
 
 /// The progress line of a soak. It overwrites the line before it.
 #[derive(Clone, Copy)]
@@ -33,6 +32,17 @@ impl Display for SoakLine {
     }
 }
 
+/// The progress line of a soak with these totals so far.
+fn line_of(summary: &Summary) -> SoakLine
+    ensures runs { result.runs ≡ summary.now.runs }
+    ensures violations { result.violations ≡ summary.now.violations }
+{
+    SoakLine {
+        runs: summary.runs,
+        violations: summary.violations,
+    }
+}
+
 /// Shows on standard error, if it is a terminal, the number of runs made, at most ten times a
 /// second, until all are made.
 #[derive(Drop)]
@@ -46,7 +56,10 @@ pub struct SoakProgress<'a> {
 
 impl<'a> SoakProgress<'a> {
     /// Creates the progress of `runs` runs, which shows nothing yet.
-    pub fn new(rt: &'a HostRuntime, runs: u64) -> SoakProgress<'a> {
+    pub fn new(rt: &'a HostRuntime, runs: u64) -> SoakProgress<'a>
+        ensures runs { result.runs ≡ runs }
+        ensures none { result.shown ≡ None }
+    {
         SoakProgress {
             rt,
             is_terminal: rt.stderr().is_terminal(),
@@ -60,20 +73,30 @@ impl<'a> SoakProgress<'a> {
         let Ok(now) = Instant::now(self.rt) else {
             return false;
         };
-        match self.shown {
-            Some(shown) if now.duration_since(shown) < Duration::from_millis(PAUSE) => false,
-            _ => {
-                self.shown = Some(now);
-                true
-            }
+        let passed = match self.shown {
+            Some(shown) => Some(now.duration_since(shown)),
+            None => None,
+        };
+        if !is_due(passed) {
+            return false;
         }
+        self.shown = Some(now);
+        true
+    }
+
+    /// Erases the progress line on a writer, if one is shown.
+    fn end_on<W: Write>(&mut self, writer: &mut W) -> io::Result<()>
+        ensures erased { OnOk result (Appends (W.contents writer.old) (W.contents writer.new) (erasure_of (is_some self.old.shown))) }
+        ensures none { self.new.shown ≡ None }
+    {
+        let was_shown = self.shown.take().is_some();
+        erase_line(writer, was_shown)
     }
 
     /// Erases the progress line.
     pub fn end(&mut self) {
-        if self.is_terminal && self.shown.take().is_some() {
-            let _ = eprint!(self.rt; "\r{BLANK}\r");
-        }
+        let rt = self.rt;
+        let _ = self.end_on(&mut rt.stderr());
     }
 }
 
@@ -84,10 +107,7 @@ impl<'a> SoakObserver for SoakProgress<'a> {
             return;
         }
         if self.is_terminal && self.is_due() {
-            let line = SoakLine {
-                runs: summary.runs,
-                violations: summary.violations,
-            };
+            let line = line_of(summary);
             let _ = eprint!(self.rt; "{line}");
         }
     }

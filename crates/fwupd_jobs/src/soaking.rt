@@ -65,6 +65,8 @@ fn judge<W: Write + Drop, P: OutputPlaces<W>>(
     ensures ok { OnOk result (option_map (λ k. k.items) kept ≡ None) }
     ensures fault { IfErr result (λ e. ReportsViolation (option_map (λ k. k.items) kept)
         (option_map (λ p. p.now) file.entry) e (P.is_known places.old) (P.held places.new)) }
+    ensures clean { OnOk result (P.held places.new ≡ P.held places.old) }
+    ensures kept { IfErr result (λ e. e ≢ JobFault.Violation → P.held places.new ≡ P.held places.old) }
     ensures left { P.is_begun places.old ≡ false → P.is_begun places.new ≡ false }
 {
     let Some(steps) = kept else {
@@ -94,6 +96,9 @@ pub fn soak_file<H: Parts>(alloc: Global, job: Soak<'_>, host: &mut Host<H>) -> 
         job.entry.config.now job.entry.order (option_map (λ p. p.now) job.entry.record) e
         (H.Places.is_known host.old.places) (H.Places.held host.new.places) host.old.output
         host.new.output) }
+    ensures clean { OnOk result (H.Places.held host.new.places ≡ H.Places.held host.old.places) }
+    ensures kept { IfErr result (λ e. e ≢ JobFault.Violation
+        → H.Places.held host.new.places ≡ H.Places.held host.old.places) }
     ensures left { H.Places.is_begun host.old.places ≡ false → H.Places.is_begun host.new.places ≡ false }
     ensures untouched { host.new.watch ≡ host.old.watch }
 {

@@ -1,5 +1,7 @@
 //! The system's sockets and serial lines, and its clock.
 
+ghost use Rattle.std.specs.Prelude.{◌≡◌, None, Some, if◌then◌else◌};
+
 use crate::process_files::{SystemWatch, open_watch};
 use crate::sockets::{explain_socket, socket_path};
 use fwupd_nodes::{Joined, Network, Observed, Wiring};
@@ -13,7 +15,9 @@ use std::alloc::Global;
 use std::io;
 
 /// The front of a node over sockets, if it is requested.
-fn front(network: &Network, serving: Serving<'_>) -> Option<Front> {
+fn front(network: &Network, serving: Serving<'_>) -> Option<Front>
+    ensures { result ≡ (if serving.entry.is_open then Some (record { network = network.now.unit; endpoint = network.now.endpoint }) else None) }
+{
     if !serving.is_open {
         return None;
     }

@@ -5,6 +5,7 @@ ghost use Rattle.std.specs.IoError.{error_kind};
 ghost use Rattle.std.specs.Io.Buffered.{writer_buffer, writer_contents, writer_inner};
 ghost use Rattle.std.specs.Io.KnownBytes.{Keeps};
 
+use fw_edge::HeldBack;
 use std::alloc::Global;
 use std::io::{self, BufWriter, ErrorKind, Read, Write};
 
@@ -49,5 +50,13 @@ impl<S: Read + Write + Drop> Write for WriteBehind<S> {
         ensures out { OnOk result (writer_buffer self.new.writer ≡ []) }
     {
         self.writer.flush()
+    }
+}
+
+impl<S: Read + Write + Drop> HeldBack for WriteBehind<S> {
+    ghost held = { λ s. writer_buffer s.writer };
+
+    fn push_out(&mut self) -> io::Result<()> {
+        self.flush()
     }
 }

@@ -1,5 +1,5 @@
--- The first session of a world that isn't Done.
-use Rattle.std.specs.Prelude.{◌≡◌, Bool, false, true, if◌then◌else◌, List, [], ◌∷◌, Option, None, Some, codes, ℕ}
+-- The first session that isn't Done.
+use Rattle.std.specs.Prelude.{◌≡◌, Bool, false, true, if◌then◌else◌, List, [], ◌∷◌, Option, None, Some, codes, map, ℕ}
 use Rattle.std.specs.List.{AllByRecursion}
 use Rattle.fw_node.specs.Agents.{AgentOf}
 use Rattle.fw_script.specs.Reports.{cause_name, session_name, session_of}
@@ -19,15 +19,18 @@ is_done (Some sessions.Done) = true
 is_done state = false
 
 -- the first of the devices whose session isn't Done
-abbrev pub first_undone : AgentOf → List SiteOf → Option Undone
+abbrev pub first_undone : AgentOf → (devices : List ℕ) → Option Undone
 first_undone a [] = None
-first_undone a (x ∷ xs) =
-    if is_done (session_of a x.node.endpoint.eid) then first_undone a xs
-    else Some (record { eid = x.node.endpoint.eid; state = session_of a x.node.endpoint.eid })
+first_undone a (device ∷ devices) =
+    if is_done (session_of a device) then first_undone a devices
+    else Some (record { eid = device; state = session_of a device })
 
 -- the first of a world, in configured order
+abbrev pub devices_at : List SiteOf → List ℕ
+devices_at sites = map (λ x. x.node.endpoint.eid) sites
+
 abbrev pub undone_in : WorldOf → Option Undone
-undone_in w = first_undone w.agent w.sites
+undone_in w = first_undone w.agent (devices_at w.sites)
 
 -- the name of the cause of a failed session, or of the state of another one; each device has a
 -- session

@@ -1,15 +1,16 @@
 //! The agent of a configuration as a process of its own.
 
-ghost use Rattle.std.specs.Prelude.{◌≡◌, ◌≤◌, IfOk, IsOk, OnOk, length, map};
+ghost use Rattle.std.specs.Prelude.{◌≡◌, ◌≤◌, ◌⊎◌, IfErr, IfOk, IfSome, IsOk, IsSome, IsSomeAnd, None, Ok, OnErr, OnOk, Some, length, map, true};
 ghost use Rattle.std.specs.List.{AllByRecursion};
 ghost use Rattle.fw_package.specs.Reading.{package_of};
 ghost use Rattle.fw_script.specs.Seen.{config_seen, device_of};
 ghost use Rattle.fw_script.specs.Whole.{AreWhole};
-ghost use Rattle.fwupd_watch.specs.Outputs.{WritesOutput};
 ghost use Rattle.fw_serve.specs.Agents.{new_served_agent};
+ghost use Rattle.fw_trace.specs.Records.{records_bytes};
 ghost use Rattle.fwupd_nodes.specs.Hosts.{agent_store_in};
 ghost use Rattle.fwupd_nodes.specs.AgentStores.{agent_setup_seen, keeps_nothing};
-ghost use Rattle.fwupd_nodes.specs.Processes.{RunsAgent, RunsKept, RunsPackages, RunsServed, RunsAgentSetup, ServesStarted, agent_report_in, agent_started};
+ghost use Rattle.fwupd_nodes.specs.Processes.{AgentProcessEnds, EndsServed, HasEnded, RunsAgent, RunsAgentSetup, RunsKept, RunsPackages, RunsServed, ServesStarted, agent_report_in, agent_started};
+ghost use Rattle.fwupd_nodes.specs.Sessions.{TellsUndone, first_undone};
 
 use crate::agent_stores::{AgentSetup, open_agent};
 use crate::alone::eids_of;
@@ -17,12 +18,13 @@ use crate::host::{Host, Parts};
 use crate::outputs::{ProcessOutputs, check_outputs};
 use crate::sessions::{Undone, is_done, undone_fault};
 use crate::setups::{configuration, package_files, packages_in};
-use crate::wiring::{Joined, Network, Observed, Wiring, end_of, observe};
+use crate::wiring::{Joined, Network, Observed, Wiring, begin, end_of, observe};
 use agent_store::{AgentKeeper, KeepFault, NoKeeper};
 use fw_json::agent_json;
+use fw_node::AgentNode;
 use fw_package::Package;
 use fw_process::{Clock, Line};
-use fw_script::{Config, session_of};
+use fw_script::{Config, SentCount, session_of};
 use fw_serve::{AgentProcess, CallFault, ServedAgent, serve_agent_process};
 use fw_trace::log_bytes;
 use fwupd_base::Form;
@@ -72,13 +74,12 @@ fn serve_started<
     joined: &mut Joined<ObservedLine<L, O>, C>,
 ) -> Result<AgentProcess<'p, K>, JobFault>
     requires { agent.now ≡ 0 }
-    ensures { IfOk result (λ last. ServesStarted K.keeps job.now.number setup.now.eids.now agent.entry last) }
+    ensures { IfOk result (λ last. ServesStarted K.keeps job.now setup.now.eids.now agent.entry last) }
 {
     let mut agent = agent;
     let (eid, eids) = (setup.network.endpoint.eid, setup.eids);
-    let shown = joined.clock.wait_past(0);
+    let shown = begin(joined);
     agent.miss(shown);
-    joined.line.begin(shown);
     match start_all(&mut agent, job.number, eids) {
         Ok(()) => {}
         Err(fault) => return Err(fault),
@@ -92,6 +93,32 @@ fn serve_started<
         Ok(()) => Ok(process),
         Err(fault) => Err(unkept(eid, fault)),
     }
+}
+
+/// The same, and then its observer ends, also if serving fails. Returns how it ended, too.
+fn serve_observed<
+    'p,
+    K: AgentKeeper + Drop,
+    L: Line + Drop,
+    O: PacketObserver + Drop,
+    C: Clock + Drop,
+>(
+    alloc: Global,
+    job: &fwupd_words::AgentProcess<'_>,
+    setup: &AgentSetup<'_>,
+    agent: ServedAgent<'p>,
+    keeper: K,
+    joined: &mut Joined<ObservedLine<L, O>, C>,
+) -> (
+    Result<AgentProcess<'p, K>, JobFault>,
+    Result<(), WatchFault>,
+)
+    requires { agent.now ≡ 0 }
+    ensures serves { IfOk result.0 (λ last. ServesStarted K.keeps job.now setup.now.eids.now agent.entry last) }
+    ensures ended { HasEnded O.ends result.1 joined.new.line.observer }
+{
+    let served = serve_started(alloc, job, setup, agent, keeper, joined);
+    (served, joined.line.end())
 }
 
 /// Returns the report of the agent in a form.
@@ -117,7 +144,12 @@ fn keep_log<W: Write + Drop, P: OutputPlaces<W>>(
     log: Option<&str>,
     agent: &ServedAgent<'_>,
     places: &mut P,
-) -> Result<(), JobFault> {
+) -> Result<(), JobFault>
+    ensures logged { OnOk result (P.is_known places.old ≡ true
+        → IfSome log.entry (λ p. P.held places.new p.now ≡ Some (records_bytes agent.now.agent.log.records))) }
+    ensures fault { IfErr result (λ e. (e ≡ JobFault.Memory) ⊎ ((e ≡ JobFault.Log) × IsSome log.entry)) }
+    ensures unmade { OnErr result (P.held places.new ≡ P.held places.old) }
+{
     let Some(path) = log else {
         return Ok(());
     };
@@ -131,18 +163,32 @@ fn keep_log<W: Write + Drop, P: OutputPlaces<W>>(
     }
 }
 
-/// The fault of the first session that isn't Done, if there is one.
-fn all_done(agent: &ServedAgent<'_>) -> Result<(), JobFault> {
-    for count in agent.counts() {
-        let state = session_of(agent.agent(), count.device);
+/// The first session of an agent that isn't Done, of those with the devices of these counts.
+fn first_undone(agent: &AgentNode, counts: &[SentCount]) -> Option<Undone>
+    ensures { result ≡ first_undone agent.now (map (λ c. c.device) counts.now) }
+{
+    for count in counts {
+        let state = session_of(agent, count.device);
         if !is_done(state) {
-            return Err(undone_fault(Undone {
+            return Some(Undone {
                 eid: count.device,
                 state,
-            }));
+            });
         }
     }
-    Ok(())
+    None
+}
+
+/// The fault of the first session that isn't Done, if there is one.
+fn all_done(agent: &ServedAgent<'_>) -> Result<(), JobFault>
+    ensures done { OnOk result (first_undone agent.now.agent (map (λ c. c.device) agent.now.counts) ≡ None) }
+    ensures undone { IfErr result (λ e. IsSomeAnd (first_undone agent.now.agent
+        (map (λ c. c.device) agent.now.counts)) (λ u. TellsUndone u e)) }
+{
+    match first_undone(agent.agent(), agent.counts()) {
+        None => Ok(()),
+        Some(undone) => Err(undone_fault(undone)),
+    }
 }
 
 /// Writes what is requested of an agent at the end: the records of its event log, and its report.
@@ -152,8 +198,11 @@ fn end_agent<H: Parts>(
     agent: &ServedAgent<'_>,
     host: &mut Host<H>,
 ) -> Result<(), JobFault>
-    ensures written { OnOk result (WritesOutput host.old.output host.new.output
-        (agent_report_in job.now.form agent.now)) }
+    ensures ended { OnOk result (EndsServed job.now agent.now host.old.output (record {
+      is_known = H.Places.is_known host.old.places;
+      held = H.Places.held host.new.places;
+      output = host.new.output;
+    })) }
     ensures untouched { host.new.watch ≡ host.old.watch }
 {
     match keep_log(alloc, job.log, agent, &mut host.places) {
@@ -181,8 +230,12 @@ fn end_observed<H: Parts>(
     watched: Result<(), WatchFault>,
     host: &mut Host<H>,
 ) -> Result<(), JobFault>
-    ensures written { OnOk result (WritesOutput host.old.output host.new.output
-        (agent_report_in job.now.form agent.now)) }
+    ensures ended { OnOk result (EndsServed job.now agent.now host.old.output (record {
+      is_known = H.Places.is_known host.old.places;
+      held = H.Places.held host.new.places;
+      output = host.new.output;
+    })) }
+    ensures watched { OnOk result (watched ≡ Ok tt) }
     ensures untouched { host.new.watch ≡ host.old.watch }
 {
     match end_agent(alloc, job, agent, host) {
@@ -196,7 +249,12 @@ fn end_observed<H: Parts>(
 }
 
 /// An agent as a process that is observed.
-fn observed<'e>(setup: &AgentSetup<'e>, number: usize) -> Observed<'e> {
+fn observed<'e>(setup: &AgentSetup<'e>, number: usize) -> Observed<'e>
+    ensures unit { result.unit ≡ setup.now.network.unit }
+    ensures node { result.node ≡ TracedNode.Agent setup.now.network.endpoint.eid }
+    ensures number { result.starts.number ≡ number }
+    ensures eids { result.starts.eids.now ≡ setup.now.eids.now }
+{
     let eids = setup.eids;
     Observed {
         unit: setup.network.unit,
@@ -216,7 +274,11 @@ fn serve_agent<'p, K: AgentKeeper + Drop, H: Parts>(
 ) -> Result<(), JobFault>
     requires { agent.now ≡ 0 }
     ensures runs { OnOk result (RunsServed K.keeps job.now agent.entry setup.now.eids.now
-        host.old.output host.new.output) }
+        host.old.output (record {
+          is_known = H.Places.is_known host.old.places;
+          held = H.Places.held host.new.places;
+          output = host.new.output;
+        })) }
     ensures untouched { host.new.watch ≡ host.old.watch }
 {
     let watch = match host
@@ -234,8 +296,7 @@ fn serve_agent<'p, K: AgentKeeper + Drop, H: Parts>(
         Err(fault) => return Err(fault),
     };
     let mut joined = observe(joined, watch);
-    let served = serve_started(alloc, job, setup, agent, keeper, &mut joined);
-    let watched = joined.line.end();
+    let (served, watched) = serve_observed(alloc, job, setup, agent, keeper, &mut joined);
     let process = match served {
         Ok(process) => process,
         Err(fault) => return Err(fault),
@@ -254,7 +315,11 @@ fn serve_new<'p, H: Parts>(
     requires devices { length setup.now.eids.now ≤ 16 }
     ensures runs { OnOk result (RunsServed keeps_nothing job.now (new_served_agent setup.now.network.unit
         setup.now.network.endpoint setup.now.eids.now packages.now) setup.now.eids.now
-        host.old.output host.new.output) }
+        host.old.output (record {
+          is_known = H.Places.is_known host.old.places;
+          held = H.Places.held host.new.places;
+          output = host.new.output;
+        })) }
     ensures untouched { host.new.watch ≡ host.old.watch }
 {
     let (unit, endpoint) = (setup.network.unit, setup.network.endpoint);
@@ -276,7 +341,11 @@ fn serve_kept<'p, H: Parts>(
     requires devices { length setup.now.eids.now ≤ 16 }
     ensures runs { OnOk result (RunsKept job.now (agent_store_in (H.Stores.is_known host.old.stores)
         (H.Stores.agent_files host.old.stores) root.now) (agent_setup_seen setup.now)
-        packages.now host.old.output host.new.output) }
+        packages.now host.old.output (record {
+          is_known = H.Places.is_known host.old.places;
+          held = H.Places.held host.new.places;
+          output = host.new.output;
+        })) }
     ensures untouched { host.new.watch ≡ host.old.watch }
 {
     let (node, keeper) = match open_agent(alloc, &host.stores, root, setup) {
@@ -300,7 +369,11 @@ fn serve_setup<'p, H: Parts>(
     requires devices { length setup.now.eids.now ≤ 16 }
     ensures runs { OnOk result (RunsAgentSetup job.now (agent_store_in (H.Stores.is_known host.old.stores)
         (H.Stores.agent_files host.old.stores)) (agent_setup_seen setup.now) packages.now
-        host.old.output host.new.output) }
+        host.old.output (record {
+          is_known = H.Places.is_known host.old.places;
+          held = H.Places.held host.new.places;
+          output = host.new.output;
+        })) }
     ensures untouched { host.new.watch ≡ host.old.watch }
 {
     match job.store {
@@ -321,7 +394,11 @@ fn serve_packages<H: Parts>(
     requires whole { AreWhole config.now.agent.eid (map device_of config.now.devices.items) }
     ensures runs { OnOk result (RunsPackages job.now (agent_store_in (H.Stores.is_known host.old.stores)
         (H.Stores.agent_files host.old.stores)) (config_seen config.now)
-        (map (λ f. f.items) contents.now) host.old.output host.new.output) }
+        (map (λ f. f.items) contents.now) host.old.output (record {
+          is_known = H.Places.is_known host.old.places;
+          held = H.Places.held host.new.places;
+          output = host.new.output;
+        })) }
     ensures untouched { host.new.watch ≡ host.old.watch }
 {
     let packages = match packages_in(alloc, contents) {
@@ -365,6 +442,12 @@ pub fn run_agent<H: Parts>(
 ) -> Result<(), JobFault>
     ensures runs { OnOk result (RunsAgent job.now (H.Files.holds host.old.files)
         (agent_store_in (H.Stores.is_known host.old.stores) (H.Stores.agent_files host.old.stores))
+        host.old.output (record {
+          is_known = H.Places.is_known host.old.places;
+          held = H.Places.held host.new.places;
+          output = host.new.output;
+        })) }
+    ensures fault { IfErr result (λ e. AgentProcessEnds job.now e (H.Files.holds host.old.files)
         host.old.output host.new.output) }
     ensures untouched { host.new.watch ≡ host.old.watch }
 {

@@ -1,7 +1,8 @@
 //! What the agent's process keeps in a folder of stores: opening it, and the node that goes on with
 //! it.
 
-ghost use Rattle.std.specs.Prelude.{◌≡◌, ◌≢◌, ◌≤◌, IfOk, IfSome, length, true};
+ghost use Rattle.std.specs.Prelude.{◌≡◌, ◌≢◌, ◌≤◌, IfErr, IfOk, IfSome, OnOk, Some, length, map, true};
+ghost use Rattle.agent_store.specs.Packages.{packages_name, packages_text};
 ghost use Rattle.fwupd_nodes.specs.Hosts.{agent_store_in};
 ghost use Rattle.fwupd_nodes.specs.AgentStores.{BeginsWithStore, IsAgentNode, agent_setup_seen};
 
@@ -37,7 +38,12 @@ fn unopened(eid: u8, why: OpenFault) -> JobFault
 }
 
 /// The fault of an agent's store that isn't claimed for its packages.
-fn unclaimed(eid: u8, fault: ClaimFault) -> JobFault {
+fn unclaimed(eid: u8, fault: ClaimFault) -> JobFault
+    ensures unwritable { fault ≡ ClaimFault.Unwritable → result ≡ JobFault.Unkept eid }
+    ensures memory { fault ≡ ClaimFault.Refused OpenFault.Memory → result ≡ JobFault.Memory }
+    ensures refused { (why : OpenFault) → fault ≡ ClaimFault.Refused why → why ≢ OpenFault.Memory
+        → result ≡ JobFault.Store eid why }
+{
     match fault {
         ClaimFault::Refused(why) => unopened(eid, why),
         ClaimFault::Unwritable => JobFault::Unkept(eid),
@@ -72,12 +78,41 @@ fn node_in<F: Folder>(
     }
 }
 
+/// The node that goes on with what a folder keeps, which is then claimed for the packages.
+///
+/// # Errors
+/// As for `open_agent`. The folder is unchanged then, but for `Unkept`.
+#[tactic(auto, using(crate::proofs::AgentStores::begins))]
+fn claimed_node<F: Folder>(
+    alloc: Global,
+    folder: &mut F,
+    setup: &AgentSetup<'_>,
+) -> Result<AgentNode, JobFault>
+    requires { length setup.now.eids.now ≤ 16 }
+    ensures known { F.is_known folder.new ≡ F.is_known folder.old }
+    ensures begins { IfOk result (λ n. F.is_known folder.old ≡ true
+        → BeginsWithStore (F.files folder.old) (agent_setup_seen setup.now) n) }
+    ensures claimed { OnOk result (F.is_known folder.old ≡ true → F.files folder.new packages_name
+        ≡ Some (packages_text (map (λ p. p.items) setup.now.contents.now))) }
+    ensures same { IfErr result (λ e. e ≢ JobFault.Unkept setup.now.network.endpoint.eid → folder.new ≡ folder.old) }
+{
+    let eid = setup.network.endpoint.eid;
+    let node = match node_in(alloc, folder, &setup.network, setup.eids) {
+        Ok(node) => node,
+        Err(fault) => return Err(unopened(eid, fault)),
+    };
+    match claim_packages(alloc, folder, setup.contents) {
+        Ok(()) => Ok(node),
+        Err(fault) => Err(unclaimed(eid, fault)),
+    }
+}
+
 /// Opens the folder of what the agent keeps, below `root`, for its packages. Returns the node that
 /// goes on with it, and its keeper there. The folder is made if it isn't there.
 ///
 /// # Errors
 /// `Store` if it can't be opened, or is of other packages or devices; `Unkept` if it can't be
-/// written; `Memory` if memory is refused.
+/// written; `Memory` if memory is refused. A folder that is refused is unchanged.
 #[tactic(auto, using(crate::proofs::AgentStores::begins))]
 pub fn open_agent<F: Folder + Drop, T: Stores<F>>(
     alloc: Global,
@@ -86,21 +121,20 @@ pub fn open_agent<F: Folder + Drop, T: Stores<F>>(
     setup: &AgentSetup<'_>,
 ) -> Result<(AgentNode, FolderKeeper<F>), JobFault>
     requires { length setup.now.eids.now ≤ 16 }
-    ensures { IfOk result (λ opened. IfSome (agent_store_in (T.is_known stores.now)
+    ensures begins { IfOk result (λ opened. IfSome (agent_store_in (T.is_known stores.now)
         (T.agent_files stores.now) root.now) (λ files. BeginsWithStore files
         (agent_setup_seen setup.now) opened.0)) }
+    ensures known { IfOk result (λ opened. T.is_known stores.now ≡ true → opened.1.is_known ≡ true) }
+    ensures claimed { IfOk result (λ opened. opened.1.is_known ≡ true → opened.1.packages
+        ≡ Some (packages_text (map (λ p. p.items) setup.now.contents.now))) }
 {
     let eid = setup.network.endpoint.eid;
     let mut folder = match stores.make_agent(alloc, root) {
         Ok(folder) => folder,
         Err(fault) => return Err(unopened(eid, fault)),
     };
-    match claim_packages(alloc, &mut folder, setup.contents) {
-        Ok(()) => {}
-        Err(fault) => return Err(unclaimed(eid, fault)),
-    }
-    match node_in(alloc, &folder, &setup.network, setup.eids) {
+    match claimed_node(alloc, &mut folder, setup) {
         Ok(node) => Ok((node, FolderKeeper::new(alloc, folder))),
-        Err(fault) => Err(unopened(eid, fault)),
+        Err(fault) => Err(fault),
     }
 }

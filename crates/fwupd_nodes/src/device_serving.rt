@@ -1,6 +1,6 @@
 //! A device of a configuration as a process of its own.
 
-ghost use Rattle.std.specs.Prelude.{◌≡◌, IfOk, None, OnOk, Some, length, map, option_map};
+ghost use Rattle.std.specs.Prelude.{[], ◌≡◌, IfErr, IfOk, None, Ok, OnOk, Some, length, map, option_map};
 ghost use Rattle.fd_core.specs.Components.{HasComponents};
 ghost use Rattle.fw_script.specs.Seen.{device_of};
 ghost use Rattle.fw_script.specs.Whole.{AreWhole};
@@ -8,13 +8,13 @@ ghost use Rattle.fw_serve.specs.Serving.{device_report};
 ghost use Rattle.fw_setup.specs.Stocks.{stores_in};
 ghost use Rattle.fwupd_nodes.specs.Alone.{device_setup_seen};
 ghost use Rattle.fwupd_watch.specs.Outputs.{WritesOutput};
-ghost use Rattle.fwupd_nodes.specs.Processes.{RunsDevice, RunsNode, RunsSetup, ServesProcess};
+ghost use Rattle.fwupd_nodes.specs.Processes.{DeviceProcessEnds, HasEnded, RunsDevice, RunsNode, RunsSetup, ServesProcess};
 
 use crate::alone::{DeviceSetup, device_setup};
 use crate::host::{Host, Parts};
 use crate::outputs::{ProcessOutputs, check_outputs};
 use crate::setups::open_kept;
-use crate::wiring::{Joined, Network, Observed, Wiring, end_of, observe};
+use crate::wiring::{Joined, Network, Observed, Wiring, begin, end_of, observe};
 use fd_core::Bank;
 use fw_node::DeviceNode;
 use fw_process::{Clock, Line, ProcessNode, serve_process};
@@ -34,14 +34,13 @@ fn serve_over<B: Bank + Drop, L: Line + Drop, O: PacketObserver + Drop, C: Clock
     ticks: Option<u32>,
 ) -> Result<DeviceProcess<B>, JobFault>
     requires { HasComponents node.half.core.device }
-    ensures { IfOk result (λ process. ServesProcess node process) }
+    ensures { IfOk result (λ process. ServesProcess ticks node process) }
 {
     let Ok(mut process) = DeviceProcess::new(alloc, node) else {
         return Err(JobFault::Memory);
     };
-    let shown = joined.clock.wait_past(0);
+    let shown = begin(joined);
     process.miss(shown);
-    joined.line.begin(shown);
     match serve_process(
         &mut process,
         &mut joined.line,
@@ -53,13 +52,29 @@ fn serve_over<B: Bank + Drop, L: Line + Drop, O: PacketObserver + Drop, C: Clock
     }
 }
 
+/// The same, and then its observer ends, also if serving fails. Returns how it ended, too.
+fn serve_observed<B: Bank + Drop, L: Line + Drop, O: PacketObserver + Drop, C: Clock + Drop>(
+    alloc: Global,
+    node: DeviceNode<B>,
+    joined: &mut Joined<ObservedLine<L, O>, C>,
+    ticks: Option<u32>,
+) -> (Result<DeviceProcess<B>, JobFault>, Result<(), WatchFault>)
+    requires { HasComponents node.half.core.device }
+    ensures serves { IfOk result.0 (λ process. ServesProcess ticks node process) }
+    ensures ended { HasEnded O.ends result.1 joined.new.line.observer }
+{
+    let served = serve_over(alloc, node, joined, ticks);
+    (served, joined.line.end())
+}
+
 /// Writes the report of a device's process, whose observer ended so.
 fn report_served<B: Bank + Drop, W: Write + Drop>(
     process: &DeviceProcess<B>,
     watched: Result<(), WatchFault>,
     output: &mut Output<W>,
 ) -> Result<(), JobFault>
-    ensures { OnOk result (WritesOutput output.old output.new (device_report process.now.device)) }
+    ensures written { OnOk result (WritesOutput output.old output.new (device_report process.now.device)) }
+    ensures watched { OnOk result (watched ≡ Ok tt) }
 {
     let Ok(text) = process.report() else {
         return Err(JobFault::Memory);
@@ -75,7 +90,11 @@ fn report_served<B: Bank + Drop, W: Write + Drop>(
 }
 
 /// A device as a process that is observed.
-fn observed(network: &Network) -> Observed<'static> {
+fn observed(network: &Network) -> Observed<'static>
+    ensures unit { result.unit ≡ network.now.unit }
+    ensures node { result.node ≡ TracedNode.Device network.now.endpoint.eid }
+    ensures starts { result.starts.eids.now ≡ [] }
+{
     Observed {
         unit: network.unit,
         node: TracedNode::Device(network.endpoint.eid),
@@ -95,7 +114,7 @@ fn serve_device<B: Bank + Drop, H: Parts>(
     host: &mut Host<H>,
 ) -> Result<(), JobFault>
     requires { HasComponents node.half.core.device }
-    ensures runs { OnOk result (RunsNode node host.old.output host.new.output) }
+    ensures runs { OnOk result (RunsNode job.now.serving.ticks node host.old.output host.new.output) }
     ensures untouched { host.new.watch ≡ host.old.watch }
 {
     let watch = match host.wiring.watch(alloc, observed(&network), job.watching) {
@@ -107,8 +126,7 @@ fn serve_device<B: Bank + Drop, H: Parts>(
         Err(fault) => return Err(fault),
     };
     let mut joined = observe(joined, watch);
-    let served = serve_over(alloc, node, &mut joined, job.serving.ticks);
-    let watched = joined.line.end();
+    let (served, watched) = serve_observed(alloc, node, &mut joined, job.serving.ticks);
     let process = match served {
         Ok(process) => process,
         Err(fault) => return Err(fault),
@@ -190,6 +208,7 @@ fn serve_stored<H: Parts>(
 /// `Socket` or `Tty` if what joins it to the agent can't be made; `Output` if the report can't be
 /// written; and `Trace` and `Record` if something of these couldn't be written. `Memory` if memory
 /// is refused.
+#[tactic(auto, using(crate::proofs::Processes::device_stops, crate::proofs::Processes::device_overwrites))]
 pub fn run_device<H: Parts>(
     alloc: Global,
     job: &fwupd_words::DeviceProcess<'_>,
@@ -197,6 +216,8 @@ pub fn run_device<H: Parts>(
 ) -> Result<(), JobFault>
     ensures runs { OnOk result (RunsDevice job.now (H.Files.holds host.old.files)
         (stores_in (H.Stores.is_known host.old.stores) (H.Stores.files host.old.stores))
+        host.old.output host.new.output) }
+    ensures fault { IfErr result (λ e. DeviceProcessEnds job.now e (H.Files.holds host.old.files)
         host.old.output host.new.output) }
     ensures untouched { host.new.watch ≡ host.old.watch }
 {

@@ -1,8 +1,8 @@
 //! The files that are written of a process.
 
-ghost use Rattle.std.specs.Prelude.{◌∷◌, OnOk, map, option_map, string_bytes};
+ghost use Rattle.std.specs.Prelude.{◌∷◌, ◌≡◌, ◌⊎◌, IfErr, OnOk, map, option_map, string_bytes};
 ghost use Rattle.fwupd_nodes.specs.Processes.{process_shows};
-ghost use Rattle.fwupd_watch.specs.Apart.{IsApart};
+ghost use Rattle.fwupd_watch.specs.Apart.{IsApart, IsOverRead};
 
 use fwupd_base::Form;
 use fwupd_watch::{Files, JobFault, check_apart};
@@ -32,9 +32,13 @@ pub fn check_outputs<F: Files>(
     packages: &[String],
     outputs: ProcessOutputs<'_>,
 ) -> Result<(), JobFault>
-    ensures { OnOk result (IsApart (F.holds files.now) (process_shows outputs.entry.watching
+    ensures apart { OnOk result (IsApart (F.holds files.now) (process_shows outputs.entry.watching
         (option_map (λ p. p.now) outputs.entry.log) (option_map (λ p. p.now) outputs.entry.store))
         (config.now ∷ map (λ p. string_bytes p) packages.now)) }
+    ensures fault { IfErr result (λ e. (e ≡ JobFault.Memory) ⊎ IsOverRead (F.holds files.now)
+        (process_shows outputs.entry.watching (option_map (λ p. p.now) outputs.entry.log)
+        (option_map (λ p. p.now) outputs.entry.store))
+        (config.now ∷ map (λ p. string_bytes p) packages.now) e) }
 {
     let show = Show {
         is_quiet: true,

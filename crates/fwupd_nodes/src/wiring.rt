@@ -1,5 +1,9 @@
 //! What joins the processes of nodes to their peers.
 
+ghost use Rattle.std.specs.Prelude.{[], ◌≡◌, ◌∷◌};
+ghost use Rattle.fw_process.specs.Processes.{shows};
+ghost use Rattle.fwupd_nodes.specs.Processes.{end_of};
+
 use fw_process::{Clock, Line};
 use fwupd_traces::{ObservedLine, PacketObserver, Starts, TracedNode};
 use fwupd_watch::JobFault;
@@ -89,15 +93,35 @@ pub trait Wiring {
 pub fn observe<L: Line + Drop, C: Clock + Drop, O: PacketObserver + Drop>(
     joined: Joined<L, C>,
     observer: O,
-) -> Joined<ObservedLine<L, O>, C> {
+) -> Joined<ObservedLine<L, O>, C>
+    ensures line { result.line.line ≡ joined.line }
+    ensures observer { result.line.observer ≡ observer }
+    ensures clock { result.clock ≡ joined.clock }
+{
     Joined {
         line: ObservedLine::new(joined.line, observer),
         clock: joined.clock,
     }
 }
 
+/// Waits until the clock shows a unit, in which the process begins, and returns it. The observer is
+/// told.
+pub fn begin<L: Line + Drop, C: Clock + Drop, O: PacketObserver + Drop>(
+    joined: &mut Joined<ObservedLine<L, O>, C>,
+) -> u32
+    ensures seen { O.begins joined.old.line.observer result joined.new.line.observer }
+    ensures line { joined.new.line.line ≡ joined.old.line.line }
+    ensures clock { C.shown joined.new.clock ≡ shows (C.shown joined.old.clock) (result ∷ []) }
+{
+    let shown = joined.clock.wait_past(0);
+    joined.line.begin(shown);
+    shown
+}
+
 /// The unit in which a process ends, if it ends after a number of units.
-pub fn end_of(start: u32, ticks: Option<u32>) -> u32 {
+pub fn end_of(start: u32, ticks: Option<u32>) -> u32
+    ensures { result ≡ end_of start ticks }
+{
     match ticks {
         Some(ticks) => start.saturating_add(ticks),
         None => u32::MAX,

@@ -1,10 +1,11 @@
 -- The record of a process: lines that its filter reads.
-use Rattle.std.specs.Prelude.{ℕ, ◌≡◌, ◌+◌, ◌-◌, ◌^◌, ◌==◌, ◌++◌, nat_le, if◌then◌else◌, List, [], ◌∷◌, Option, None, codes}
+use Rattle.std.specs.Prelude.{ℕ, ◌≡◌, ◌≢◌, ◌⊎◌, ◌+◌, ◌-◌, ◌^◌, ◌==◌, ◌++◌, Err, IfErr, IfSome, nat_le, if◌then◌else◌, List, [], ◌∷◌, OnOk, Option, None, Result, codes}
 use Rattle.std.specs.Io.KnownBytes.{Appends}
 use Rattle.exch_lane.specs.Lanes.{Sent}
 use Rattle.fw_process.specs.Processes.{Deed, deed_with}
 use Rattle.fw_text.specs.Printing.{word_and_number}
 use Rattle.fwupd_traces.specs.declared.process_watch.WatchFault.{WatchFault}
+use Rattle.fwupd_traces.specs.declared.process_watch.WatchFault.TheVariants as faults
 use Rattle.hex.specs.Hex.{encode_upper}
 
 -- LINES
@@ -51,12 +52,13 @@ abbrev pub deed_held : (held : ℕ) → Deed → ℕ
 deed_held held (Deed.Receives p) = 0
 deed_held held d = held
 
--- A record: the unit of the process, the ticks that are held back, what its writer has, and its
--- first fault.
+-- A record: the unit of the process, the ticks that are held back, what its writer has, which of
+-- that isn't in its file yet, and its first fault.
 pub record NodeRecordOf : Type 0 where
   pub unit : ℕ
   pub held : ℕ
   pub text : Option (List ℕ)
+  pub behind : List ℕ
   pub fault : Option WatchFault
 
 -- a stamp is followed
@@ -92,16 +94,33 @@ pub record HasRecordedPacket (s : NodeRecordOf) (p : Sent) (t : NodeRecordOf) : 
   pub held : t.held ≡ came_held s p
   pub counted : t.unit ≡ came_unit s p
 
--- They are, unless there is a fault.
+-- A fault of a record: memory was refused, and nothing was written; or it can't be written.
+abbrev pub IsRecordFault : NodeRecordOf → WatchFault → NodeRecordOf → Type 0
+IsRecordFault s e t = ((e ≡ faults.Memory) × (t.text ≡ s.text)) ⊎ (e ≡ faults.Record)
+
+-- They are, unless there is a fault. After the first nothing changes.
 pub record RecordsUnits (s : NodeRecordOf) (unit : ℕ) (t : NodeRecordOf) : Type 0 where
   pub whole : t.fault ≡ None → s.fault ≡ None
   pub recorded : t.fault ≡ None → HasRecordedUnits s unit t
+  pub fails : s.fault ≡ None → IfSome t.fault (λ e. IsRecordFault s e t)
+  pub stopped : s.fault ≢ None → t ≡ s
 
 pub record RecordsPacket (s : NodeRecordOf) (p : Sent) (t : NodeRecordOf) : Type 0 where
   pub whole : t.fault ≡ None → s.fault ≡ None
   pub recorded : t.fault ≡ None → HasRecordedPacket s p t
+  pub fails : s.fault ≡ None → IfSome t.fault (λ e. IsRecordFault s e t)
+  pub stopped : s.fault ≢ None → t ≡ s
 
--- the ticks that were held back are written
-pub record EndsRecord (s t : NodeRecordOf) : Type 0 where
+-- The ticks that were held back are written, and all that was written is in the file.
+pub record FilesRecord (s t : NodeRecordOf) : Type 0 where
   pub whole : s.fault ≡ None
   pub text : Appends s.text t.text (ticks_line s.held)
+  pub filed : t.behind ≡ []
+
+-- It ends so, or its result is a fault: its first one, if there was one before. Then nothing
+-- changes.
+pub record EndsRecord (s : NodeRecordOf) (result : Result (Prim.Unit {0}) WatchFault) (t : NodeRecordOf) : Type 0 where
+  pub ok : OnOk result (FilesRecord s t)
+  pub first : IfSome s.fault (λ e. result ≡ Err e)
+  pub fails : s.fault ≡ None → IfErr result (λ e. IsRecordFault s e t)
+  pub stopped : s.fault ≢ None → t ≡ s

@@ -1,11 +1,11 @@
 //! Writes the calls of a process's node as lines that the node's filter reads.
 
-ghost use Rattle.std.specs.Prelude.{◌≡◌, ◌⊎◌, ◌<◌, ◌++◌, ◌-◌, ◌+◌, ◌^◌, IfErr, IfOk, None, OnOk, codes, nat_le};
+ghost use Rattle.std.specs.Prelude.{[], ◌≡◌, ◌⊎◌, ◌<◌, ◌++◌, ◌-◌, ◌+◌, ◌^◌, IfErr, IfOk, None, OnOk, codes, nat_le};
 ghost use Rattle.std.specs.Io.KnownBytes.{Appends};
 ghost use Rattle.exch_lane.specs.Steps.{sent_at};
 ghost use Rattle.fw_text.specs.Printing.{AppendsText};
 ghost use Rattle.fw_process.specs.Processes.{deed_with};
-ghost use Rattle.fwupd_traces.specs.Records.{HasRecordedPacket, HasRecordedUnits, RecordsPacket, RecordsUnits, advanced_held, advanced_text, beginning_of, came_held, came_text, came_unit, deed_held, deed_text, digits_line, start_line, starts_text, ticks_line};
+ghost use Rattle.fwupd_traces.specs.Records.{HasRecordedPacket, HasRecordedUnits, IsRecordFault, RecordsPacket, RecordsUnits, advanced_held, advanced_text, beginning_of, came_held, came_text, came_unit, deed_held, deed_text, digits_line, start_line, starts_text, ticks_line};
 
 use crate::observed_line::PacketObserver;
 use crate::process_watch::WatchFault;
@@ -165,7 +165,7 @@ pub struct NodeRecord<W: Write + Drop> {
 }
 
 impl<W: Write + Drop> Model for NodeRecord<W> {
-    ghost use Rattle.std.specs.Io.Buffered.{writer_contents};
+    ghost use Rattle.std.specs.Io.Buffered.{writer_buffer, writer_contents};
     ghost use Rattle.std.specs.Prelude.{◌≤◌};
     ghost use Rattle.fwupd_traces.specs.Records.{NodeRecordOf};
 
@@ -175,6 +175,7 @@ impl<W: Write + Drop> Model for NodeRecord<W> {
       unit = r.unit;
       held = r.held;
       text = writer_contents W.contents r.writer;
+      behind = writer_buffer r.writer;
       fault = r.fault;
     } };
 
@@ -191,7 +192,8 @@ impl<W: Write + Drop> NodeRecord<W> {
         ensures unit { IfOk result (λ r. r.unit ≡ 0) }
         ensures held { IfOk result (λ r. r.held ≡ 0) }
         ensures whole { IfOk result (λ r. r.fault ≡ None) }
-        ensures text { IfOk result (λ r. Appends (W.contents writer) r.text (beginning_of starts.entry.number starts.entry.eids.now)) }
+        ensures text { IfOk result (λ r. Appends (W.contents writer) r.text
+            (beginning_of starts.entry.number starts.entry.eids.now)) }
         ensures fault { IfErr result (λ e. (e ≡ WatchFault.Memory) ⊎ (e ≡ WatchFault.Record)) }
     {
         let Ok(mut writer) = BufWriter::new(alloc, writer) else {
@@ -282,6 +284,7 @@ impl<W: Write + Drop> NodeRecord<W> {
     /// Writes lines.
     fn write(&mut self, text: &[u8]) -> Result<(), WatchFault>
         ensures text { OnOk result (Appends self.old.text self.new.text text.now) }
+        ensures kind { IfErr result (λ e. e ≡ WatchFault.Record) }
         ensures held { self.new.held ≡ self.old.held }
         ensures unit { self.new.unit ≡ self.old.unit }
         ensures fault { self.new.fault ≡ self.old.fault }
@@ -295,6 +298,7 @@ impl<W: Write + Drop> NodeRecord<W> {
     /// Goes on to a unit, if the process isn't there.
     fn go_to(&mut self, unit: u32) -> Result<(), WatchFault>
         ensures records { OnOk result (HasRecordedUnits self.old unit self.new) }
+        ensures kind { IfErr result (λ e. IsRecordFault self.old e self.new) }
         ensures fault { self.new.fault ≡ self.old.fault }
     {
         let mut text = Vec::new(self.alloc);
@@ -308,6 +312,7 @@ impl<W: Write + Drop> NodeRecord<W> {
     /// A packet came, with this stamp.
     fn take(&mut self, stamp: u32, bytes: &[u8]) -> Result<(), WatchFault>
         ensures records { OnOk result (HasRecordedPacket self.old (sent_at stamp bytes.now) self.new) }
+        ensures kind { IfErr result (λ e. IsRecordFault self.old e self.new) }
         ensures fault { self.new.fault ≡ self.old.fault }
     {
         let mut text = Vec::new(self.alloc);
@@ -320,6 +325,8 @@ impl<W: Write + Drop> NodeRecord<W> {
     /// Writes the ticks that are held back, and puts all that is written into the file.
     fn finish(&mut self) -> Result<(), WatchFault>
         ensures text { OnOk result (Appends self.old.text self.new.text (ticks_line self.old.held)) }
+        ensures filed { OnOk result (self.new.behind ≡ []) }
+        ensures kind { IfErr result (λ e. IsRecordFault self.old e self.new) }
         ensures held { OnOk result (self.new.held ≡ 0) }
         ensures unit { self.new.unit ≡ self.old.unit }
         ensures fault { self.new.fault ≡ self.old.fault }
@@ -351,7 +358,7 @@ impl<W: Write + Drop> PacketObserver for NodeRecord<W> {
 
     ghost begins_round = { λ s unit t. RecordsUnits s unit t };
 
-    ghost ends = { λ s t. EndsRecord s t };
+    ghost ends = { λ s r t. EndsRecord s r t };
 
     fn begin(&mut self, unit: u32) {
         self.unit = unit;

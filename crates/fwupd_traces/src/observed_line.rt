@@ -1,9 +1,10 @@
 //! A line whose packets are observed.
 
-ghost use Rattle.std.specs.Prelude.{[], ◌≡◌, ◌∷◌, IfSome, None, OnOk, ℕ};
+ghost use Rattle.std.specs.Prelude.{[], ◌≡◌, ◌∷◌, IfSome, None, ℕ};
 ghost use Rattle.exch_lane.specs.Lanes.{Sent};
 ghost use Rattle.exch_lane.specs.Steps.{sent_at};
-ghost use Rattle.fw_process.specs.Processes.{line_with, packet_come};
+ghost use Rattle.fw_process.specs.Processes.{LineCall, line_with, receive_call};
+ghost use Rattle.fwupd_traces.specs.Watches.{Ended};
 
 use crate::process_watch::WatchFault;
 use fw_process::Line;
@@ -21,7 +22,7 @@ pub trait PacketObserver {
 
     ghost begins_round: { Self → (unit : ℕ) → Self → Type 0 };
 
-    ghost ends: { Self → Self → Type 0 };
+    ghost ends: { Self → Ended → Self → Type 0 };
 
     /// The process begins in a unit.
     fn begin(&mut self, unit: u32)
@@ -44,7 +45,7 @@ pub trait PacketObserver {
     /// # Errors
     /// The first fault of the observer. It disturbs no traffic.
     fn end(&mut self) -> Result<(), WatchFault>
-        ensures { OnOk result (ends self.old self.new) };
+        ensures { ends self.old result self.new };
 }
 
 impl<O: PacketObserver> PacketObserver for Option<O> {
@@ -58,7 +59,7 @@ impl<O: PacketObserver> PacketObserver for Option<O> {
 
     ghost begins_round = { λ s unit t. Optional O.begins_round s unit t };
 
-    ghost ends = { λ s t. OptionalEnd O.ends s t };
+    ghost ends = { λ s r t. OptionalEnd O.ends s r t };
 
     fn begin(&mut self, unit: u32) {
         if let Some(observer) = self {
@@ -121,7 +122,7 @@ impl<L: Line + Drop, O: PacketObserver + Drop> ObservedLine<L, O> {
     /// # Errors
     /// The first fault of the observer.
     pub fn end(&mut self) -> Result<(), WatchFault>
-        ensures ends { OnOk result (O.ends self.old.observer self.new.observer) }
+        ensures ends { O.ends self.old.observer result self.new.observer }
         ensures line { self.new.line ≡ self.old.line }
     {
         self.observer.end()
@@ -132,7 +133,7 @@ impl<L: Line + Drop, O: PacketObserver + Drop> Line for ObservedLine<L, O> {
     ghost known = { λ o. L.known o.line };
 
     fn begin_round(&mut self, unit: u32)
-        ensures known { L.known self.new.line ≡ L.known self.old.line }
+        ensures known { L.known self.new.line ≡ line_with (L.known self.old.line) (LineCall.Begins unit ∷ []) [] }
         ensures seen { O.begins_round self.old.observer unit self.new.observer }
     {
         self.observer.begin_round(unit);
@@ -140,7 +141,7 @@ impl<L: Line + Drop, O: PacketObserver + Drop> Line for ObservedLine<L, O> {
     }
 
     fn receive(&mut self, packet: &mut RawPacket) -> Option<u32>
-        ensures known { L.known self.new.line ≡ line_with (L.known self.old.line) (packet_come result packet.new.items) [] }
+        ensures known { L.known self.new.line ≡ line_with (L.known self.old.line) (receive_call result packet.new.items ∷ []) [] }
         ensures seen { IfSome result (λ stamp. O.receives self.old.observer (sent_at stamp packet.new.items) self.new.observer) }
         ensures none { result ≡ None → self.new.observer ≡ self.old.observer }
     {

@@ -1,14 +1,13 @@
 //! Writes the packets of a process when they are sent or received.
 
-ghost use Rattle.std.specs.Prelude.{◌≡◌, ◌⊎◌, IfErr, IfOk, None, OnOk};
-ghost use Rattle.std.specs.Io.Buffered.{writer_buffer};
+ghost use Rattle.std.specs.Prelude.{[], ◌≡◌, ◌⊎◌, IfErr, IfOk, None, OnOk};
 ghost use Rattle.std.specs.Io.KnownBytes.{Appends};
 ghost use Rattle.exch_lane.specs.Steps.{sent_at};
 ghost use Rattle.fw_text.specs.Printing.{AppendsText};
 ghost use Rattle.fw_trace.specs.Decoding.{decoder_after_seen, facts_line, facts_of_seen, new_decoder, text_of_seen};
 ghost use Rattle.fw_trace.specs.Seen.{seen_of};
 ghost use Rattle.fwupd_traces.specs.PacketLines.{device_in};
-ghost use Rattle.fwupd_traces.specs.Traces.{KeepsTrace, TracesPacket, decoder_next, head_of, packet_piece};
+ghost use Rattle.fwupd_traces.specs.Traces.{IsTraceFault, KeepsTrace, TracesPacket, decoder_next, head_of, packet_piece};
 
 use crate::observed_line::PacketObserver;
 use crate::packet_lines::{TracedNode, device_of_packet, is_to_agent, push_packet_line};
@@ -35,7 +34,7 @@ pub struct PacketTrace<W: Write + Drop> {
 }
 
 impl<W: Write + Drop> Model for PacketTrace<W> {
-    ghost use Rattle.std.specs.Io.Buffered.{writer_contents};
+    ghost use Rattle.std.specs.Io.Buffered.{writer_buffer, writer_contents};
     ghost use Rattle.fwupd_traces.specs.Traces.{PacketTraceOf};
 
     ghost Value = { PacketTraceOf };
@@ -45,6 +44,7 @@ impl<W: Write + Drop> Model for PacketTrace<W> {
       node = t.node;
       decoder = t.decoder;
       text = writer_contents W.contents t.writer;
+      behind = writer_buffer t.writer;
       fault = t.fault;
     } };
 }
@@ -148,7 +148,10 @@ impl<W: Write + Drop> PacketTrace<W> {
             (packet_piece self.old.form (device_in self.old.node bytes.now) self.old.decoder (sent_at unit bytes.now))) }
         ensures after { OnOk result (self.new.decoder
             ≡ decoder_next self.old.form (device_in self.old.node bytes.now) self.old.decoder (sent_at unit bytes.now)) }
-        ensures same { (self.new.form ≡ self.old.form) × ((self.new.node ≡ self.old.node) × (self.new.fault ≡ self.old.fault)) }
+        ensures kind { IfErr result (λ e. IsTraceFault self.old e self.new) }
+        ensures form { self.new.form ≡ self.old.form }
+        ensures node { self.new.node ≡ self.old.node }
+        ensures fault { self.new.fault ≡ self.old.fault }
     {
         let (alloc, form) = (self.alloc, self.form);
         let mut text = Vec::new(alloc);
@@ -208,7 +211,7 @@ impl<W: Write + Drop> PacketObserver for PacketTrace<W> {
 
     ghost begins_round = { λ s unit t. KeepsTrace s t };
 
-    ghost ends = { λ s t. EndsTrace s t };
+    ghost ends = { λ s r t. EndsTrace s r t };
 
     fn begin(&mut self, _unit: u32) {}
 

@@ -1,6 +1,7 @@
 //! All that observes a process: its trace, its record, and its progress, each if it is requested.
 
-ghost use Rattle.std.specs.Prelude.{◌≡◌, Err, IfErr, Ok, OnOk};
+ghost use Rattle.std.specs.Prelude.{◌≡◌};
+ghost use Rattle.fwupd_traces.specs.Watches.{first_fault};
 
 use crate::node_record::NodeRecord;
 use crate::observed_line::PacketObserver;
@@ -32,9 +33,7 @@ pub struct ProcessWatch<W: Write + Drop, P: PacketObserver + Drop> {
 
 /// The first of two faults, if there is one.
 fn first_of(one: Result<(), WatchFault>, other: Result<(), WatchFault>) -> Result<(), WatchFault>
-    ensures one { IfErr one (λ e. result ≡ Err e) }
-    ensures other { OnOk one (result ≡ other) }
-    ensures both { OnOk result ((one ≡ Ok tt) × (other ≡ Ok tt)) }
+    ensures { result ≡ first_fault one other }
 {
     match one {
         Ok(()) => other,
@@ -44,9 +43,9 @@ fn first_of(one: Result<(), WatchFault>, other: Result<(), WatchFault>) -> Resul
 
 impl<W: Write + Drop, P: PacketObserver + Drop> PacketObserver for ProcessWatch<W, P> {
     ghost use Rattle.std.specs.Prelude.{◌≡◌};
-    ghost use Rattle.fwupd_traces.specs.Records.{EndsRecord, RecordsPacket, RecordsUnits};
-    ghost use Rattle.fwupd_traces.specs.Traces.{EndsTrace, KeepsTrace, TracesPacket};
-    ghost use Rattle.fwupd_traces.specs.Watches.{Optional, OptionalEnd};
+    ghost use Rattle.fwupd_traces.specs.Records.{RecordsPacket, RecordsUnits};
+    ghost use Rattle.fwupd_traces.specs.Traces.{KeepsTrace, TracesPacket};
+    ghost use Rattle.fwupd_traces.specs.Watches.{EndsAll, Optional};
 
     ghost receives = { λ s p t. Optional TracesPacket s.trace p t.trace
         × (Optional RecordsPacket s.record p t.record × Optional P.receives s.progress p t.progress) };
@@ -61,8 +60,9 @@ impl<W: Write + Drop, P: PacketObserver + Drop> PacketObserver for ProcessWatch<
     ghost begins_round = { λ s unit t. Optional (λ q u r. KeepsTrace q r) s.trace unit t.trace
         × (Optional RecordsUnits s.record unit t.record × Optional P.begins_round s.progress unit t.progress) };
 
-    ghost ends = { λ s t. OptionalEnd EndsTrace s.trace t.trace
-        × (OptionalEnd EndsRecord s.record t.record × OptionalEnd P.ends s.progress t.progress) };
+    ghost ends = { λ s r t. EndsAll P.ends
+        (record { trace = s.trace; recorded = s.record; progress = s.progress })
+        r (record { trace = t.trace; recorded = t.record; progress = t.progress }) };
 
     fn begin(&mut self, unit: u32) {
         self.record.begin(unit);
@@ -90,6 +90,6 @@ impl<W: Write + Drop, P: PacketObserver + Drop> PacketObserver for ProcessWatch<
         let traced = self.trace.end();
         let recorded = self.record.end();
         let shown = self.progress.end();
-        first_of(first_of(traced, recorded), shown)
+        first_of(traced, first_of(recorded, shown))
     }
 }

@@ -1,10 +1,11 @@
 -- The beginnings that an unknown file may have.
-use Rattle.std.proofs.Common.{◌≡◌, ◌≤◌, ◌<◌, ◌-◌, ◌+◌, ◌++◌, ◌∙◌, ℕ, zero, suc, List, None, Some, Option, IfSome, [], ◌∷◌, length, take, arith, ap, refl, sym}
+use Rattle.std.proofs.Common.{◌≡◌, ◌≤◌, ◌<◌, ◌-◌, ◌+◌, ◌++◌, ◌∙◌, ℕ, zero, suc, List, None, Some, Option, IfSome, [], ◌∷◌, length, take, arith, ap, refl, subst, sym}
 use Rattle.std.specs.List.{repeat}
 use Rattle.std.proofs.lemmas.List.{length-append, take_all}
 use Rattle.std.proofs.Math.Seq.{take-append_seam}
 use Rattle.std.specs.Io.KnownBytes.{Consumes, IsAtEnd}
 use Rattle.std.proofs.lemmas.List.{append-nil}
+use Rattle.fw_package.specs.Outlines.{IsBeginning}
 use Rattle.fwupd_watch.specs.Files.{MayBegin, any_file}
 
 many : (n : ℕ) → length {A = ℕ} (repeat n (0 ∷ [])) ≡ n
@@ -39,3 +40,8 @@ pub first_full : (before now : Option (List ℕ)) (bytes : List ℕ) (most : ℕ
 first_full None now bytes most full came = tt
 first_full (Some given) None bytes most full came = absurd came
 first_full (Some given) (Some rest) bytes most full came = sym (ap (take most) came ∙ ap (λ n. take n (bytes ++ rest)) (sym full) ∙ take-append_seam bytes rest)
+
+-- the beginning of a reader's bytes, of which all are read
+pub whole_beginning : (before : Option (List ℕ)) (bytes beginning : List ℕ) (file_length : ℕ) → IfSome before (λ given. bytes ≡ given) → IsBeginning bytes beginning file_length → IfSome before (λ given. IsBeginning given beginning file_length)
+whole_beginning None bytes beginning file_length all begins = tt
+whole_beginning (Some given) bytes beginning file_length all begins = subst (λ file. IsBeginning file beginning file_length) all begins

@@ -39,6 +39,15 @@ IsOverRead files show paths faults.Log = IsOverUsed files show.log show.trace No
 IsOverRead files show paths faults.Record = IsOverUsed files show.record_path show.trace show.log paths ⊎ IsInStore files show.record_path show.store
 IsOverRead files show paths told = ⊥
 
+-- The outputs that are looked at before that of this fault overwrite nothing, and are in no store:
+-- the trace before the log, and both before the recording.
+abbrev pub AreFirstApart : (files : List ℕ → FileOf) → ShowOf → List (List ℕ) → JobFault → Type 0
+AreFirstApart files show paths faults.Log = IsApartFromUsed files show.trace None None paths × IsOutOfStore files show.trace show.store
+AreFirstApart files show paths faults.Record =
+    (IsApartFromUsed files show.trace None None paths × IsOutOfStore files show.trace show.store)
+    × (IsApartFromUsed files show.log show.trace None paths × IsOutOfStore files show.log show.store)
+AreFirstApart files show paths told = Prim.Unit {0}
+
 -- The observer doesn't begin, for this fault.
 abbrev pub IsBarred : (files : List ℕ → FileOf) (refuses : List ℕ → Bool) (show : ShowOf) (paths : List (List ℕ)) (told : JobFault) (watched : ObserverOf) → Type 0
 IsBarred files refuses show paths told watched = IsOverRead files show paths told ⊎ (HasObserverFault told watched.fault × MayRefuse refuses show told)

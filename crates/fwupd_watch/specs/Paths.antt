@@ -1,5 +1,5 @@
 -- Paths, as bytes.
-use Rattle.std.specs.Prelude.{ℕ, ◌≡◌, ◌≢◌, ◌⊎◌, List, [], ◌++◌, codes}
+use Rattle.std.specs.Prelude.{ℕ, ◌≡◌, ◌≢◌, ◌⊎◌, List, [], ◌++◌, codes, decimal}
 use Rattle.std.specs.List.{AllByRecursion}
 
 -- the path of a name in a folder
@@ -18,3 +18,7 @@ pub record IsFolderAndName (path folder name : List ℕ) : Type 0 where
 -- the path of the history of the stores in a folder
 abbrev pub history_path : (folder : List ℕ) → List ℕ
 history_path folder = path_in folder (codes "history")
+
+-- the name of a new file beside a place, made by a process with this identifier
+abbrev pub new_name : (place : List ℕ) (id : ℕ) → List ℕ
+new_name place id = place ++ (codes "." ++ (decimal id ++ codes ".new"))

@@ -1,5 +1,6 @@
 -- The lines that a run shows on a terminal, and when.
-use Rattle.std.specs.Prelude.{ℕ, ◌*◌, ◌^◌, ◌++◌, Bool, false, true, List, [], Option, None, Some, codes, nat_le}
+use Rattle.std.specs.Prelude.{ℕ, ◌*◌, ◌^◌, ◌++◌, ◌||◌, Bool, false, true, List, [], Option, None, Some, codes, nat_le}
+use Rattle.std.specs.Str.{bytes_eq}
 use Rattle.fw_text.specs.Printing.{word_and_number}
 
 -- whether the display is due for an update, these nanoseconds after the last one, if there was one:
@@ -12,6 +13,11 @@ is_due_after (Some nanos) = nat_le (100 * 10 ^ 6) nanos
 abbrev pub erasure_of : (was_shown : Bool) → List ℕ
 erasure_of false = []
 erasure_of true = codes "\r                                                                        \r"
+
+-- whether faults are explained: on a terminal, or if the variable's value, if it has one, is 1
+abbrev pub is_explaining : (is_terminal : Bool) → (value : Option (List ℕ)) → Bool
+is_explaining is_terminal None = is_terminal
+is_explaining is_terminal (Some value) = is_terminal || bytes_eq value (codes "1")
 
 -- the line about a device whose link failed
 abbrev pub lost_line : (device : ℕ) → List ℕ

@@ -6,7 +6,7 @@ ghost use Rattle.fwupd_watch.specs.Files.{IsApartFrom, IsOver};
 ghost use Rattle.fwupd_watch.specs.Histories.{HasNoLines};
 ghost use Rattle.fwupd_watch.specs.Recordings.{IsNewRecording};
 ghost use Rattle.fwupd_watch.specs.Running.{HasObserverFault, show_of, shown_of};
-ghost use Rattle.fwupd_watch.specs.Apart.{IsApart, IsApartFromUsed, IsBarred, IsInStore, IsOutOfStore, IsOverRead, IsOverUsed};
+ghost use Rattle.fwupd_watch.specs.Apart.{AreFirstApart, IsApart, IsApartFromUsed, IsBarred, IsInStore, IsOutOfStore, IsOverRead, IsOverUsed};
 
 use crate::faults::JobFault;
 use crate::files::{Files, is_read, is_same_file};
@@ -123,6 +123,8 @@ pub fn check_apart<F: Files>(
     ensures fault { IfErr result (λ e. (e ≡ JobFault.Memory)
         ⊎ IsOverRead (F.holds files.now) (show_of show.entry)
         (config.now ∷ map (λ p. string_bytes p) packages.now) e) }
+    ensures order { IfErr result (AreFirstApart (F.holds files.now) (show_of show.entry)
+        (config.now ∷ map (λ p. string_bytes p) packages.now)) }
 {
     let store = show.store;
     match is_barred(
@@ -158,6 +160,7 @@ pub fn check_apart<F: Files>(
 
 /// Begins an observer after checking its outputs: none may overwrite an input or another output, or
 /// be in a store.
+#[tactic(auto, using(crate::proofs::Overs::first_apart))]
 pub fn begin_apart<F: Files, V: Observer>(
     alloc: Global,
     files: &F,
@@ -176,6 +179,8 @@ pub fn begin_apart<F: Files, V: Observer>(
     ensures fault { IfErr result (λ e. (e ≡ JobFault.Memory)
         ⊎ IsBarred (F.holds files.now) (V.refuses watch.old) (show_of show.entry)
         (config.now ∷ map (λ p. string_bytes p) packages.now) e (V.watched watch.new)) }
+    ensures order { IfErr result (AreFirstApart (F.holds files.now) (show_of show.entry)
+        (config.now ∷ map (λ p. string_bytes p) packages.now)) }
 {
     match check_apart(alloc, files, config, packages, show) {
         Ok(()) => {}

@@ -1,11 +1,13 @@
 //! The system calls that put a file at its place as a whole.
 
-ghost use Rattle.std.specs.Prelude.{◌≡◌, None, OnErr, false, is_some};
+ghost use Rattle.std.specs.Prelude.{◌≡◌, ◌++◌, IfOk, None, OnErr, false, is_some, string_bytes};
+ghost use Rattle.fwupd_watch.specs.Paths.{new_name};
+ghost use Rattle.fwupd_watch.specs.Places.{may_replace};
 
 use crate::faults::JobFault;
 use crate::files::{Files, SystemFiles, folder_and_name};
 use crate::places::{FileCalls, WholeFiles};
-use std::alloc::Global;
+use std::alloc::{AllocError, Global};
 use std::fs::{self, File, OpenOptions};
 use std::io::{self, ErrorKind};
 use std::process;
@@ -40,7 +42,9 @@ pub fn system_places(rt: &HostRuntime) -> WholeFiles<SystemCalls<'_>> {
 }
 
 /// Joins two pieces of a path.
-fn joined(alloc: Global, first: &str, second: &str) -> io::Result<String> {
+fn joined(alloc: Global, first: &str, second: &str) -> io::Result<String>
+    ensures { IfOk result (λ path. string_bytes path ≡ first.now ++ second.now) }
+{
     match format!(in alloc; "{first}{second}") {
         Ok(path) => Ok(path),
         Err(_) => Err(io::Error::from(ErrorKind::OutOfMemory)),
@@ -73,16 +77,43 @@ fn place_of(rt: &HostRuntime, path: &str) -> io::Result<String> {
     Err(io::Error::from(ErrorKind::Other))
 }
 
-/// Whether a file may be put at the place of a path: nothing is there, or a regular file that is
-/// writable.
+/// Whether a path still resolves to a place, and a file may be put there: nothing is there, or a
+/// regular file that is writable. `found` is whether it is regular, and writable.
+fn may_replace(is_one: bool, found: Option<(bool, bool)>) -> bool
+    ensures { result ≡ may_replace is_one found }
+{
+    match found {
+        Some((is_file, is_writable)) => is_one && is_file && is_writable,
+        None => is_one,
+    }
+}
+
+/// Whether what is at a place, if anything, is a regular file, and is one that is writable.
+fn found_at(rt: &HostRuntime, place: &str) -> Option<(bool, bool)> {
+    let Ok(found) = fs::metadata(rt, place) else {
+        return None;
+    };
+    if !found.is_file() {
+        return Some((false, false));
+    }
+    let is_writable = OpenOptions::new().append(true).open(rt, place).is_ok();
+    Some((true, is_writable))
+}
+
+/// Whether a file may be put at the place that a path resolved to.
 fn can_replace(rt: &HostRuntime, path: &str, place: &str) -> bool {
     let files = SystemFiles::new(rt);
-    if files.identity(path) != files.identity(place) {
-        return false;
-    }
-    match fs::metadata(rt, place) {
-        Ok(found) => { found.is_file() && OpenOptions::new().append(true).open(rt, place).is_ok() }
-        Err(_) => true,
+    let is_one = files.identity(path) == files.identity(place);
+    may_replace(is_one, found_at(rt, place))
+}
+
+/// The name of a new file beside a place, made by the process with this identifier.
+fn new_name(alloc: Global, place: &str, id: u32) -> Result<String, AllocError>
+    ensures { IfOk result (λ name. string_bytes name ≡ new_name place.now id) }
+{
+    match format!(in alloc; "{place}.{id}.new") {
+        Ok(name) => Ok(name),
+        Err(_) => Err(AllocError),
     }
 }
 
@@ -105,7 +136,7 @@ impl<'a> SystemCalls<'a> {
             return Err(io::Error::from(ErrorKind::Other));
         }
         let id = process::id(self.rt.process());
-        let Ok(name) = format!(in self.rt.alloc(); "{place}.{id}.new") else {
+        let Ok(name) = new_name(self.rt.alloc(), &place, id) else {
             return Err(io::Error::from(ErrorKind::OutOfMemory));
         };
         let file = make_like(self.rt, &name, &place)?;

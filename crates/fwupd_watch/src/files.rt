@@ -1,10 +1,11 @@
 //! The files that a job reads.
 
 ghost use Rattle.std.specs.Io.KnownBytes.{IsAtEnd};
-ghost use Rattle.std.specs.Prelude.{◌≡◌, ◌≢◌, ◌↔◌, ◌∷◌, IfErr, IfOk, IfSome, IsSomeAnd, List, OnOk, option_map, false, map, string_bytes, true, ℕ};
+ghost use Rattle.std.specs.Prelude.{◌≡◌, ◌≢◌, ◌<◌, ◌≤◌, ◌⊎◌, ◌↔◌, ◌∷◌, IfErr, IfOk, IfSome, IsSomeAnd, List, OnOk, Some, codes, option_map, false, length, map, string_bytes, take, true, ℕ};
 ghost use Rattle.std.specs.List.{AllByRecursion};
+ghost use Rattle.fw_package.specs.Outlines.{IsBeginning};
 ghost use Rattle.fwupd_watch.specs.Files.{AreTwoPlaces, FileOf, IsApartFrom, IsInFolder, IsOneEntry, IsOnePlace, IsOutsideFolder, IsOver, IsOverOne, MayBe, MayBegin, MayHold, MayLink, any_file};
-ghost use Rattle.fwupd_watch.specs.Paths.{IsFolderAndName};
+ghost use Rattle.fwupd_watch.specs.Paths.{IsFolderAndName, path_in};
 
 use crate::beginnings::{BEGINNING, Beginning, read_first};
 use fwupd_base::read_some;
@@ -98,10 +99,8 @@ impl<'a> SystemFiles<'a> {
     /// Whether a path is in this folder or in one of its subfolders.
     fn lies_in(&self, alloc: Global, path: &str, folder: FileIdentity) -> Result<bool, AllocError> {
         let (own, _) = folder_and_name(path);
-        let Ok(above) = format!(in alloc; "{own}/..") else {
-            return Err(AllocError);
-        };
-        Ok(self.identity(own) == Some(folder) || self.identity(&above) == Some(folder))
+        let above = path_above(alloc, own)?;
+        Ok(is_in(self.identity(own), self.identity(&above), folder))
     }
 
     /// Whether a path may be a link to a file in this folder or in one of its subfolders. A
@@ -128,13 +127,47 @@ impl<'a> SystemFiles<'a> {
     {
         let mut file = File::open(self.rt, path)?;
         let size = size_of(&file);
-        if size <= BEGINNING {
-            let bytes = read_whole(alloc, &mut file, size)?;
-            return Ok(Beginning::from_bytes(bytes));
-        }
-        let bytes = read_first(alloc, &mut file, BEGINNING)?;
-        Ok(Beginning::said(bytes, size))
+        beginning_of(alloc, &mut file, size)
     }
+}
+
+/// The path of the folder that contains a folder.
+fn path_above(alloc: Global, own: &str) -> Result<String, AllocError>
+    ensures { IfOk result (λ path. string_bytes path ≡ path_in own.now (codes "..")) }
+{
+    match format!(in alloc; "{own}/..") {
+        Ok(path) => Ok(path),
+        Err(_) => Err(AllocError),
+    }
+}
+
+/// Whether a file is in a folder or in one of its subfolders, by its own folder and by the one that
+/// contains it, if they exist.
+fn is_in(own: Option<FileIdentity>, above: Option<FileIdentity>, folder: FileIdentity) -> bool
+    ensures { result ≡ true ↔ ((own ≡ Some folder) ⊎ (above ≡ Some folder)) }
+{
+    own == Some(folder) || above == Some(folder)
+}
+
+/// The beginning of a file that states a size. If that is more than a header's, no more than a
+/// header's is read.
+fn beginning_of<R: Read>(alloc: Global, reader: &mut R, size: usize) -> io::Result<Beginning>
+    ensures may { IfOk result (λ b. MayBegin any_file b.bytes.items b.file_length) }
+    ensures whole { size ≤ BEGINNING
+        → IfOk result (λ b. IfSome (R.remaining reader.old) (λ given. IsBeginning given b.bytes.items b.file_length)) }
+    ensures first { BEGINNING < size
+        → IfOk result (λ b. IfSome (R.remaining reader.old) (λ given. b.bytes.items ≡ take BEGINNING given)) }
+    ensures long { BEGINNING < size
+        → IfOk result (λ b. length b.bytes.items ≡ BEGINNING → b.file_length ≡ size) }
+    ensures short { BEGINNING < size
+        → IfOk result (λ b. length b.bytes.items < BEGINNING → b.file_length ≡ length b.bytes.items) }
+{
+    if size <= BEGINNING {
+        let bytes = read_whole(alloc, reader, size)?;
+        return Ok(Beginning::from_bytes(bytes));
+    }
+    let bytes = read_first(alloc, reader, BEGINNING)?;
+    Ok(Beginning::said(bytes, size))
 }
 
 /// The size in bytes that a file states, or 0 if it states none.

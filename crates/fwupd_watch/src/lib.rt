@@ -40,6 +40,6 @@ pub use places::{FileCalls, OutputPlaces, WholeFiles, write_file};
 pub use process_faults::process_fault;
 pub use recording::Recording;
 pub use running::{Observer, ObserverFault, observer_fault, update_observed};
-pub use terminal::explains;
+pub use terminal::{erase_line, explains, is_due};
 pub use tracing_laws::texts_are_lines;
 pub use watching::Observers;

@@ -1,10 +1,12 @@
 //! Shows the progress of a process on a terminal, by the packets of its line.
 
-ghost use Rattle.std.specs.Prelude.{◌≡◌, IfOk, Option, Some, drop, codes, ◌++◌};
+ghost use Rattle.std.specs.Io.KnownBytes.{Appends};
+ghost use Rattle.std.specs.Prelude.{◌≡◌, IfOk, OnOk, Option, Some, drop, codes, is_some, ◌++◌};
 ghost use Rattle.fwupd_watch.specs.Processes.{load_line};
+ghost use Rattle.fwupd_watch.specs.Terminals.{erasure_of};
 
 use crate::progress::progress_line;
-use crate::terminal::{erase, is_due};
+use crate::terminal::{erase_line, is_due};
 use fw_text::{push_number, push_words};
 use fwup_wire::code::command;
 use fwup_wire::{Command, Key};
@@ -12,7 +14,7 @@ use fwupd_traces::{PacketObserver, WatchFault};
 use mctp_wire::{RawPacket, Unit};
 use pldm_base::TYPE_FIRMWARE_UPDATE;
 use std::alloc::{AllocError, Global};
-use std::io::Print;
+use std::io::{self, Print, Write};
 use std::time::Instant;
 
 /// The number of endpoint identifiers.
@@ -219,6 +221,13 @@ impl<'a> PacketProgress<'a> {
         self.latest = None;
         self.shown = Some(now);
     }
+
+    /// Erases the progress line on a writer, if one was shown.
+    fn erase_on<W: Write>(&self, writer: &mut W) -> io::Result<()>
+        ensures { OnOk result (Appends (W.contents writer.old) (W.contents writer.new) (erasure_of (is_some self.now.shown))) }
+    {
+        erase_line(writer, self.shown.is_some())
+    }
 }
 
 impl<'a> PacketObserver for PacketProgress<'a> {
@@ -230,7 +239,7 @@ impl<'a> PacketObserver for PacketProgress<'a> {
 
     ghost begins_round = { λ s unit t. Prim.Unit {0} };
 
-    ghost ends = { λ s t. Prim.Unit {0} };
+    ghost ends = { λ s r t. Prim.Unit {0} };
 
     fn begin(&mut self, _unit: u32) {}
 
@@ -247,7 +256,7 @@ impl<'a> PacketObserver for PacketProgress<'a> {
     }
 
     fn end(&mut self) -> Result<(), WatchFault> {
-        let _ = erase(&mut self.rt.stderr(), self.shown.is_some());
+        let _ = self.erase_on(&mut self.rt.stderr());
         Ok(())
     }
 }

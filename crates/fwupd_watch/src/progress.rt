@@ -1,12 +1,14 @@
 //! Shows the progress of a run on a terminal.
 
-ghost use Rattle.std.specs.Prelude.{◌≡◌, IfOk, OnOk, codes};
+ghost use Rattle.std.specs.Io.KnownBytes.{Appends};
+ghost use Rattle.std.specs.Prelude.{◌≡◌, IfOk, OnOk, codes, is_some};
 ghost use Rattle.fw_text.specs.Printing.{AppendsText, word_and_number};
 ghost use Rattle.fwupd_watch.specs.Progress.{end_asked, latest_end, progress_line};
+ghost use Rattle.fwupd_watch.specs.Terminals.{erasure_of};
 ghost use Rattle.mctp_wire.specs.Packet.{packet_of};
 ghost use Rattle.mctp_wire.specs.declared.unit.Unit.TheVariants.{U128};
 
-use crate::terminal::{erase, is_due};
+use crate::terminal::{erase_line, is_due};
 use fd_core::{Bank, Key};
 use fw_node::DeviceNode;
 use fw_text::{push_number, push_words};
@@ -15,7 +17,7 @@ use fwup_wire::Command;
 use mctp_wire::Unit;
 use pldm_base::TYPE_FIRMWARE_UPDATE;
 use std::alloc::{AllocError, Global};
-use std::io::Print;
+use std::io::{self, Print, Write};
 use std::time::Instant;
 
 /// How many of the latest packets are searched for the device's last RequestFirmwareData.
@@ -139,8 +141,15 @@ impl<'a> ProgressLine<'a> {
         }
     }
 
+    /// Erases the progress line on a writer, if one was shown.
+    fn erase_on<W: Write>(&self, writer: &mut W) -> io::Result<()>
+        ensures { OnOk result (Appends (W.contents writer.old) (W.contents writer.new) (erasure_of (is_some self.now.shown))) }
+    {
+        erase_line(writer, self.shown.is_some())
+    }
+
     /// Erases the progress line.
     pub fn end(&mut self) {
-        let _ = erase(&mut self.rt.stderr(), self.shown.is_some());
+        let _ = self.erase_on(&mut self.rt.stderr());
     }
 }

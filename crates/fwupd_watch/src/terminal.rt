@@ -3,7 +3,7 @@
 ghost use Rattle.std.specs.Duration.{as_nanos};
 ghost use Rattle.std.specs.Io.KnownBytes.{Appends};
 ghost use Rattle.std.specs.Prelude.{◌≡◌, ◌&&◌, IfOk, OnOk, not, option_map};
-ghost use Rattle.fwupd_watch.specs.Terminals.{erasure_of, explanation_of, is_due_after, lost_line};
+ghost use Rattle.fwupd_watch.specs.Terminals.{erasure_of, explanation_of, is_due_after, is_explaining, lost_line};
 
 use fw_text::{push_number, push_words};
 use std::alloc::{AllocError, Global};
@@ -18,9 +18,9 @@ const PAUSE: u64 = 100;
 const ERASURE: &[u8] =
     b"\r                                                                        \r";
 
-/// Whether the display is due for an update, when this time passed since the last one, if there was
-/// one.
-pub(crate) fn is_due(passed: Option<Duration>) -> bool
+/// Returns whether the display is due for an update, when this time passed since the last one, if
+/// there was one.
+pub fn is_due(passed: Option<Duration>) -> bool
     ensures { result ≡ is_due_after (option_map as_nanos passed) }
 {
     match passed {
@@ -32,11 +32,21 @@ pub(crate) fn is_due(passed: Option<Duration>) -> bool
 /// Returns whether faults are explained: where standard error is a terminal, or the environment has
 /// `FWUPD_EXPLAIN=1`.
 pub fn explains(rt: &HostRuntime) -> bool {
-    rt.stderr().is_terminal()
-        || match env::var(rt, "FWUPD_EXPLAIN") {
-            Ok(value) => value.as_str() == "1",
-            Err(_) => false,
-        }
+    let is_terminal = rt.stderr().is_terminal();
+    match env::var(rt, "FWUPD_EXPLAIN") {
+        Ok(value) => is_explaining(is_terminal, Some(value.as_str())),
+        Err(_) => is_explaining(is_terminal, None),
+    }
+}
+
+/// Whether faults are explained: on a terminal, or if the variable's value, if it has one, is 1.
+fn is_explaining(is_terminal: bool, value: Option<&str>) -> bool
+    ensures { result ≡ is_explaining is_terminal (option_map (λ v. v.now) value.entry) }
+{
+    match value {
+        Some(value) => is_terminal || value == "1",
+        None => is_terminal,
+    }
 }
 
 /// Whether a run shows its progress: on a terminal, unless it is quiet.
@@ -50,7 +60,7 @@ pub(crate) fn shows_progress(is_quiet: bool, is_terminal: bool) -> bool
 ///
 /// # Errors
 /// The writer's error.
-pub(crate) fn erase<W: Write>(writer: &mut W, was_shown: bool) -> io::Result<()>
+pub fn erase_line<W: Write>(writer: &mut W, was_shown: bool) -> io::Result<()>
     ensures { OnOk result (Appends (W.contents writer.old) (W.contents writer.new) (erasure_of was_shown)) }
 {
     if !was_shown {

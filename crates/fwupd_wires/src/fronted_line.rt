@@ -1,7 +1,9 @@
 //! A line behind the front of a node.
 
-ghost use Rattle.std.specs.Prelude.{None, option_map, true, ◌≡◌};
-ghost use Rattle.fwupd_wires.specs.Fronts.{answer_at};
+ghost use Rattle.std.specs.Prelude.{[], ◌≡◌, ◌∷◌, IfSome, None, is_some, max, not, option_map};
+ghost use Rattle.exch_lane.specs.Steps.{sent_at};
+ghost use Rattle.fw_process.specs.Processes.{LineCall, line_with};
+ghost use Rattle.fwupd_wires.specs.Fronts.{answer_at, answer_sent};
 
 use fw_process::Line;
 use mctp_ctl::Endpoint;
@@ -52,7 +54,11 @@ impl<L: Line + Drop> FrontedLine<L> {
     /// Whether a packet with this stamp passes to the node. If the front has an answer, it is sent
     /// at once, in the unit of the round or of the stamp, whichever is later.
     fn passes(&mut self, stamp: u32, packet: &RawPacket) -> bool
-        ensures { result ≡ true → answer_at self.old.front packet.now.items ≡ None }
+        ensures passed { result ≡ not (is_some (answer_at self.old.front packet.now.items)) }
+        ensures line { L.known self.new.line ≡ line_with (L.known self.old.line) []
+            (answer_sent self.old.front (max stamp self.old.round) packet.now.items) }
+        ensures round { self.new.round ≡ self.old.round }
+        ensures front { self.new.front ≡ self.old.front }
     {
         let Some(answer) = answer_of(self.front, packet) else {
             return true;
@@ -63,12 +69,20 @@ impl<L: Line + Drop> FrontedLine<L> {
 }
 
 impl<L: Line + Drop> Line for FrontedLine<L> {
-    fn begin_round(&mut self, unit: u32) {
+    fn begin_round(&mut self, unit: u32)
+        ensures line { L.known self.new.line ≡ line_with (L.known self.old.line) (LineCall.Begins unit ∷ []) [] }
+        ensures round { self.new.round ≡ unit }
+        ensures front { self.new.front ≡ self.old.front }
+    {
         self.round = unit;
         self.line.begin_round(unit);
     }
 
-    fn receive(&mut self, packet: &mut RawPacket) -> Option<u32> {
+    fn receive(&mut self, packet: &mut RawPacket) -> Option<u32>
+        ensures passed { IfSome result (λ stamp. answer_at self.old.front packet.new.items ≡ None) }
+        ensures round { self.new.round ≡ self.old.round }
+        ensures front { self.new.front ≡ self.old.front }
+    {
         for _ in 0..MOST_ANSWERED {
             let stamp = self.line.receive(packet)?;
             if self.passes(stamp, packet) {
@@ -78,7 +92,11 @@ impl<L: Line + Drop> Line for FrontedLine<L> {
         None
     }
 
-    fn send(&mut self, unit: u32, packet: &RawPacket) {
+    fn send(&mut self, unit: u32, packet: &RawPacket)
+        ensures line { L.known self.new.line ≡ line_with (L.known self.old.line) [] (sent_at unit packet.now.items ∷ []) }
+        ensures round { self.new.round ≡ self.old.round }
+        ensures front { self.new.front ≡ self.old.front }
+    {
         self.line.send(unit, packet);
     }
 }

@@ -1,6 +1,6 @@
 //! A serial line.
 
-ghost use Rattle.std.specs.Prelude.{◌≡◌, Some, take, true};
+ghost use Rattle.std.specs.Prelude.{◌≡◌, IfSome, Some, take, true};
 ghost use Rattle.std.specs.Io.KnownBytes.{Appends};
 ghost use Rattle.mctp_serial.specs.Frames.{frame_of};
 ghost use Rattle.fwupd_wires.specs.Serial.{packet_passed};
@@ -78,6 +78,7 @@ impl<S: Read + Write + Drop> SerialLine<S> {
     fn feed(&mut self, byte: u8, packet: &mut RawPacket) -> bool
         ensures given { result ≡ true
             → packet_passed self.old.network self.old.endpoint self.old.reader byte ≡ Some packet.new.items }
+        ensures round { self.new.round ≡ self.old.round }
     {
         if !self.reader.feed(byte) {
             return false;
@@ -92,11 +93,16 @@ impl<S: Read + Write + Drop> SerialLine<S> {
 }
 
 impl<S: Read + Write + Drop> Line for SerialLine<S> {
-    fn begin_round(&mut self, unit: u32) {
+    fn begin_round(&mut self, unit: u32)
+        ensures round { self.new.round ≡ unit }
+    {
         self.round = unit;
     }
 
-    fn receive(&mut self, packet: &mut RawPacket) -> Option<u32> {
+    fn receive(&mut self, packet: &mut RawPacket) -> Option<u32>
+        ensures stamp { IfSome result (λ stamp. stamp ≡ self.old.round) }
+        ensures round { self.new.round ≡ self.old.round }
+    {
         for _ in 0..MOST_LOOKED_AT {
             let byte = self.input.next()?;
             if self.feed(byte, packet) {

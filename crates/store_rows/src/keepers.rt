@@ -1,6 +1,6 @@
 //! What an agent keeps in a folder, and the agent that goes on with it.
 
-use agent_store::{AgentKeeper, FolderKeeper, KeepFault, resumed_agent};
+use agent_store::{AgentKeeper, ChangeKeeper, FolderKeeper, KeepFault, resumed_agent};
 use fw_node::{AgentNode, KeptSession};
 use fw_store::{Failing, Folder, KeptLine, KnownFolder, OpenFault, agent_in};
 use mctp_ctl::Endpoint;
@@ -94,14 +94,15 @@ fn are_foreign(alloc: Global, devices: &[u8], lines: &[KeptLine]) -> bool {
 fn an_agent_is_kept_and_resumed(rt: HostRuntime) -> Result<(), Fail> {
     let alloc = rt.alloc();
     let agent = agent(alloc)?;
-    let mut keeper = FolderKeeper::new(alloc, KnownFolder::new(alloc, 0, Failing::Before));
-    assert!(rt; agent_in(alloc, keeper.folder())?.is_none());
+    let folder = FolderKeeper::new(alloc, KnownFolder::new(alloc, 0, Failing::Before));
+    assert!(rt; agent_in(alloc, folder.folder())?.is_none());
+    let mut keeper = ChangeKeeper::new(alloc, folder);
     keeper.keep(&agent)?;
-    assert!(rt; keeper.folder().bytes(b"active") == Some(TEXT));
-    // a text that is kept already isn't written again
+    assert!(rt; keeper.keeper().folder().bytes(b"active") == Some(TEXT));
+    // what is kept already isn't written again
     keeper.keep(&agent)?;
-    assert!(rt; keeper.folder().count() == 2);
-    let Some(lines) = agent_in(alloc, keeper.folder())? else {
+    assert!(rt; keeper.keeper().folder().count() == 2);
+    let Some(lines) = agent_in(alloc, keeper.keeper().folder())? else {
         return Ok(());
     };
     assert!(rt; resumes(alloc, &lines));

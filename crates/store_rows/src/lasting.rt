@@ -234,8 +234,8 @@ fn what_is_read_is_what_was_kept(rt: HostRuntime) -> Result<(), Fail> {
 }
 
 /// Whether images are kept after a try in which the call of this number came halfway.
-fn keeps_again(alloc: Global, call: u32) -> Result<bool, Fail> {
-    let mut store = open(alloc, KnownFolder::new(alloc, call, Failing::Half))?;
+fn keeps_again(alloc: Global, call: u32, failing: Failing) -> Result<bool, Fail> {
+    let mut store = open(alloc, KnownFolder::new(alloc, call, failing))?;
     let was_kept = keep(&mut store, &[1], &[2]);
     let stays = are(store.images(), &[0xAA], &[0xBB, 0xBB]);
     let is_kept = keep(&mut store, &[1], &[2]);
@@ -245,11 +245,13 @@ fn keeps_again(alloc: Global, call: u32) -> Result<bool, Fail> {
     Ok(!was_kept && stays && is_kept && is_found)
 }
 
-// The second call writes the second image, and the third the text that names both.
+// The second call writes the second image, the third the text that names both, and the fourth
+// renames it.
 #[test]
 fn what_fails_once_can_be_kept_again(rt: HostRuntime) -> Result<(), Fail> {
-    assert!(rt; keeps_again(rt.alloc(), 2)?);
-    assert!(rt; keeps_again(rt.alloc(), 3)?);
+    assert!(rt; keeps_again(rt.alloc(), 2, Failing::Half)?);
+    assert!(rt; keeps_again(rt.alloc(), 3, Failing::Half)?);
+    assert!(rt; keeps_again(rt.alloc(), 4, Failing::Before)?);
     Ok(())
 }
 

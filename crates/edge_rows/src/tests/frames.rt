@@ -1,7 +1,7 @@
 //! Frames, decoded and encoded.
 
 use crate::tests::links::{BadLink, Trouble};
-use fw_edge::{FrameFault, Link, MemLink, Rough, StreamLink, read_frame, write_frame};
+use fw_edge::{FrameFault, HeldBack, Link, MemLink, Rough, StreamLink, read_frame, write_frame};
 use fw_world::Side;
 use fwupd_base::Roughness;
 use mctp_wire::{RawPacket, Unit};
@@ -169,6 +169,12 @@ impl Write for Stuck {
     }
 }
 
+impl HeldBack for Stuck {
+    fn push_out(&mut self) -> io::Result<()> {
+        self.flush()
+    }
+}
+
 #[test]
 fn a_stream_that_cannot_let_go_fails_before_the_other_end_is_read(
     rt: HostRuntime,
@@ -221,6 +227,12 @@ impl Write for Narrow {
     }
 
     fn flush(&mut self) -> io::Result<()> {
+        Ok(())
+    }
+}
+
+impl HeldBack for Narrow {
+    fn push_out(&mut self) -> io::Result<()> {
         Ok(())
     }
 }

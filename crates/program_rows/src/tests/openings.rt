@@ -12,7 +12,7 @@ use std::test::Fail;
 struct KnownHistory {
     alloc: Global,
     text: Vec<u8>,
-    /// The folders whose names were synced, the first one first.
+    /// The folders whose names were synced since a call that makes names, the first one first.
     synced: Vec<Vec<u8>>,
     /// The number of folders that can be synced; the others can't be opened.
     folders: usize,
@@ -39,10 +39,12 @@ impl HistoryCalls<Vec<u8>> for KnownHistory {
     ghost synced = { λ h. reverse (map (λ name. name.items) h.synced.items) };
 
     fn make_folders(&mut self, _folder: &str) -> io::Result<()> {
+        self.synced.clear();
         Ok(())
     }
 
     fn open(&mut self, _path: &str) -> io::Result<Vec<u8>> {
+        self.synced.clear();
         copied(self.alloc, &self.text)
     }
 

@@ -4,7 +4,7 @@ use Rattle.fw_script.specs.Seen.{device_of}
 use Rattle.fw_script.specs.Whole.{eids_of}
 use Rattle.fw_setup.specs.Stocks.{stores_in}
 use Rattle.fw_setup.specs.declared.store_banks.DeviceStore.{DeviceStore}
-use Rattle.fw_setup.proofs.Stocking.{eids_more, memory_so, seen_all, seen_more, seen_unopened, unmade_so, whole_stocked}
+use Rattle.fw_setup.proofs.Stocking.{all_end, eids_more, memory_so, seen_all, seen_more, seen_unopened, unmade_so, whole_stocked}
 use Rattle.fw_setup.proofs.stores.open_stores.Goals as goal
 
 pub returns-in-Err-clause-fault : goal.returns-in-Err-clause-fault
@@ -36,6 +36,7 @@ loop-device-preserved g c =
           ∙ map-append (λ (x : DeviceStore g.row.F.Denot). x.device) c.loop-device.banks.stores.items _
           ∙ ap (λ es. es ++ (get_or xs i c.device-item.result).endpoint.eid ∷ []) c.loop-device.invariant.order
           ∙ eids_more c.args.devices.now xs i (get_or xs i c.device-item.result) s (omega arith) (omega arith) (ap (get_or xs i) c.device-item.is) c.loop-device.invariant.kept;
+      folders = λ known. rw c.in-Ok-push.ensures (all_end _ _ _ (c.loop-device.invariant.folders known) (c.in-Ok.ensures.untouched known));
     }
 
 pub returns-clause-stocked : goal.returns-clause-stocked

@@ -1,4 +1,5 @@
-use Rattle.std.proofs.Common.{◌≡◌, map, take}
+use Rattle.std.proofs.Common.{◌≡◌, map, take, true}
+use Rattle.std.specs.List.{AllByRecursion}
 use Rattle.fw_script.specs.Seen.{device_of}
 use Rattle.fw_script.specs.Whole.{eids_of}
 use Rattle.fw_setup.specs.Stocks.{stores_in}
@@ -10,4 +11,5 @@ abbrev pub invariant-loop-device : goal.invariant-loop-device
 invariant-loop-device g l = record {
   kept : AreSeenSoFar (stores_in (g.S.Stores.is_known l.stores) (g.S.Stores.files l.stores) l.root) l.fn.devices l.devices l.device-index;
   order : map (λ s. s.device) l.banks.stores.items ≡ eids_of (map device_of (take l.device-index l.fn.devices));
+  folders : g.S.Stores.is_known l.stores ≡ true → AllByRecursion (λ s. g.F.Folder.files s.store.folder ≡ g.S.Stores.files l.stores l.root s.device) l.banks.stores.items;
 }

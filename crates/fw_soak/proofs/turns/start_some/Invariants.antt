@@ -1,6 +1,10 @@
 use Rattle.fw_soak.specs.Courses.{ContinuesRun}
+use Rattle.fw_soak.specs.Turns.{EachPlace, StartsOne, drawn_run}
 use Rattle.fw_soak.proofs.turns.start_some.Given as goal
 
--- the run has continued so far
+-- so far this was done at each place
 abbrev pub invariant-loop-place : goal.invariant-loop-place
-invariant-loop-place l = ContinuesRun l.fn.course l.course
+invariant-loop-place l = record {
+  goes : ContinuesRun l.fn.course l.course;
+  each : EachPlace (StartsOne l.packages l.times) l.place (drawn_run l.fn.course l.fn.chances) (drawn_run l.course l.chances);
+}

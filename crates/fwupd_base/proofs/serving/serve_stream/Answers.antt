@@ -10,10 +10,7 @@ pub returns-in_default-reserve-clause-stopped : goal.returns-in_default-reserve-
 returns-in_default-reserve-clause-stopped g c = λ _. stopped_within _ _ _ _ 0 _ _ _ _ _ [] _ _ (reads_start _ _ _ _ _) (omega arith) (Keeps-refl _)
 
 pub returns-in-Err-clause-stopped : goal.returns-in-Err-clause-stopped
-returns-in-Err-clause-stopped g c = rw c.in-Err.ensures.fault (λ _. stopped_within _ _ _ _ _ _ _ _ _ _ _ _ _ c.loop-count.invariant.reads c.loop-count-test.true (Keeps-refl _))
-
-pub returns-in-Err-read_some-clause-stopped : goal.returns-in-Err-read_some-clause-stopped
-returns-in-Err-read_some-clause-stopped g c = λ _. stopped_within _ _ _ _ _ _ _ _ _ _ _ _ _ c.loop-count.invariant.reads c.loop-count-test.true c.in-Err-read_some.ensures.kept
+returns-in-Err-clause-stopped g c = λ _. stopped_within _ _ _ _ _ _ _ _ _ _ _ _ _ c.loop-count.invariant.reads c.loop-count-test.true c.in-Err.ensures.kept
 
 pub returns-in-Ok-eq0-clause-ok : goal.returns-in-Ok-eq0-clause-ok
 returns-in-Ok-eq0-clause-ok g c =
@@ -21,14 +18,14 @@ returns-in-Ok-eq0-clause-ok g c =
     map_ok c.finish.result _ _
     (finished _ _ _ _ _ _ _ _ _ _ _ _ _ r c.loop-count-test.true (rw c.in-Ok-eq0.field-0-test at c.in-Ok-eq0.ensures.bytes)
     (c.in-Ok-eq0.ensures.end c.in-Ok-eq0.field-0-test (omega (arith, c.loop-count-test.true))))
-    (rw (c.deref.ensures.value, c.make_room.ensures.same) at c.finish.ensures.ok _ r.text _ r.stands)
+    (rw (c.deref.ensures.value, c.read_piece.ensures.same) at c.finish.ensures.ok _ r.text _ r.stands)
 
 pub returns-in-Ok-eq0-clause-stopped : goal.returns-in-Ok-eq0-clause-stopped
 returns-in-Ok-eq0-clause-stopped g c =
     let r = c.loop-count.invariant.reads in
     map_err c.finish.result _ _ _
     (λ e stops not some. end_stopped _ _ _ _ _ _ _ _ _ _ _ _ _ e _ r not (stops some).0 c.loop-count-test.true (rw c.in-Ok-eq0.field-0-test at c.in-Ok-eq0.ensures.bytes) (stops some).1)
-    (rw (c.deref.ensures.value, c.make_room.ensures.same) at c.finish.ensures.stopped _ r.text _ r.stands)
+    (rw (c.deref.ensures.value, c.read_piece.ensures.same) at c.finish.ensures.stopped _ r.text _ r.stands)
     c.finish.ensures.fault
 
 pub returns-in-Ok-eq0-clause-broken : goal.returns-in-Ok-eq0-clause-broken
@@ -36,39 +33,39 @@ returns-in-Ok-eq0-clause-broken g c =
     let r = c.loop-count.invariant.reads in
     map_err c.finish.result _ _ _
     (λ e breaks not is. end_broken _ _ _ _ _ _ _ _ _ _ _ _ _ r c.loop-count-test.true (rw c.in-Ok-eq0.field-0-test at c.in-Ok-eq0.ensures.bytes) (breaks is))
-    (rw (c.deref.ensures.value, c.make_room.ensures.same) at c.finish.ensures.broken _ r.text _ r.stands)
+    (rw (c.deref.ensures.value, c.read_piece.ensures.same) at c.finish.ensures.broken _ r.text _ r.stands)
     c.finish.ensures.fault
 
 pub returns-in-Err-serve_piece-clause-stopped : goal.returns-in-Err-serve_piece-clause-stopped
 returns-in-Err-serve_piece-clause-stopped g c = λ some.
     let r = c.loop-count.invariant.reads in
-    let stops = (rw c.make_room.ensures.same at c.in-Err-serve_piece.ensures.stopped _ r.text _ r.stands) some in
-    turn_stopped _ _ _ _ _ _ _ _ _ _ _ _ _ _ _ _ _ _ r c.in-Err-serve_piece.ensures.fault stops.0 c.loop-count-test.true c.in-Ok-read_some.ensures.bytes (omega (arith, c.in-Ok-read_some.ensures.within, c.loop-count-test.true)) c.min-within.ensures
-    (omega (arith, c.in-Ok-read_some.ensures.within, c.read_some.ensures.size, c.loop-count.invariant.buffer))
+    let stops = (rw c.read_piece.ensures.same at c.in-Err-serve_piece.ensures.stopped _ r.text _ r.stands) some in
+    turn_stopped _ _ _ _ _ _ _ _ _ _ _ _ _ _ _ _ _ _ r c.in-Err-serve_piece.ensures.fault stops.0 c.loop-count-test.true c.in-Ok-read_piece.ensures.bytes (omega (arith, c.in-Ok-read_piece.ensures.within, c.loop-count-test.true)) c.min-within.ensures
+    (omega (arith, c.in-Ok-read_piece.ensures.within, c.read_piece.ensures.size, c.loop-count.invariant.buffer))
     stops.1
 
 pub returns-in-Err-serve_piece-clause-broken : goal.returns-in-Err-serve_piece-clause-broken
 returns-in-Err-serve_piece-clause-broken g c = λ is.
     let r = c.loop-count.invariant.reads in
-    turn_broken _ _ _ _ _ _ _ _ _ _ _ _ _ _ _ _ r c.loop-count-test.true c.in-Ok-read_some.ensures.bytes (omega (arith, c.in-Ok-read_some.ensures.within, c.loop-count-test.true)) c.min-within.ensures
-    (omega (arith, c.in-Ok-read_some.ensures.within, c.read_some.ensures.size, c.loop-count.invariant.buffer))
-    ((rw c.make_room.ensures.same at c.in-Err-serve_piece.ensures.broken _ r.text _ r.stands) is)
+    turn_broken _ _ _ _ _ _ _ _ _ _ _ _ _ _ _ _ r c.loop-count-test.true c.in-Ok-read_piece.ensures.bytes (omega (arith, c.in-Ok-read_piece.ensures.within, c.loop-count-test.true)) c.min-within.ensures
+    (omega (arith, c.in-Ok-read_piece.ensures.within, c.read_piece.ensures.size, c.loop-count.invariant.buffer))
+    ((rw c.read_piece.ensures.same at c.in-Err-serve_piece.ensures.broken _ r.text _ r.stands) is)
 
 pub returns-in-Err-flush-clause-broken : goal.returns-in-Err-flush-clause-broken
 returns-in-Err-flush-clause-broken g c = λ _.
     let r = c.loop-count.invariant.reads in
-    turn_broken _ _ _ _ _ _ _ _ _ _ _ _ _ _ _ _ r c.loop-count-test.true c.in-Ok-read_some.ensures.bytes (omega (arith, c.in-Ok-read_some.ensures.within, c.loop-count-test.true)) c.min-within.ensures
-    (omega (arith, c.in-Ok-read_some.ensures.within, c.read_some.ensures.size, c.loop-count.invariant.buffer))
-    (unflushed _ _ _ _ _ _ _ _ (rw c.make_room.ensures.same at c.in-Ok-serve_piece.ensures.ok _ r.text _ r.stands) c.flush.ensures.kept)
+    turn_broken _ _ _ _ _ _ _ _ _ _ _ _ _ _ _ _ r c.loop-count-test.true c.in-Ok-read_piece.ensures.bytes (omega (arith, c.in-Ok-read_piece.ensures.within, c.loop-count-test.true)) c.min-within.ensures
+    (omega (arith, c.in-Ok-read_piece.ensures.within, c.read_piece.ensures.size, c.loop-count.invariant.buffer))
+    (unflushed _ _ _ _ _ _ _ _ (rw c.read_piece.ensures.same at c.in-Ok-serve_piece.ensures.ok _ r.text _ r.stands) c.flush.ensures.kept)
 
 pub loop-count-preserved : goal.loop-count-preserved
 loop-count-preserved g c =
     let r = c.loop-count.invariant.reads in
     record {
-      small = omega (arith, c.in-Ok-read_some.ensures.within, c.loop-count-test.true);
-      buffer = c.read_some.ensures.size ∙ c.loop-count.invariant.buffer;
+      small = omega (arith, c.in-Ok-read_piece.ensures.within, c.loop-count-test.true);
+      buffer = c.read_piece.ensures.size ∙ c.loop-count.invariant.buffer;
       room = λ lack. (let before = c.loop-count.invariant.room lack in let more = c.serve_piece.ensures.text_room lack in omega (arith, before, more));
-      reads = reads_more _ _ _ _ _ _ _ _ _ _ _ _ _ _ _ _ _ r c.loop-count-test.true c.in-Ok-read_some.ensures.bytes (omega (arith, c.in-Ok-read_some.ensures.within, c.loop-count-test.true)) c.min-within.ensures
-          (omega (arith, c.in-Ok-read_some.ensures.within, c.read_some.ensures.size, c.loop-count.invariant.buffer))
-          (stands_kept _ _ _ _ _ _ _ _ (rw c.make_room.ensures.same at c.in-Ok-serve_piece.ensures.ok _ r.text _ r.stands) c.flush.ensures.kept);
+      reads = reads_more _ _ _ _ _ _ _ _ _ _ _ _ _ _ _ _ _ r c.loop-count-test.true c.in-Ok-read_piece.ensures.bytes (omega (arith, c.in-Ok-read_piece.ensures.within, c.loop-count-test.true)) c.min-within.ensures
+          (omega (arith, c.in-Ok-read_piece.ensures.within, c.read_piece.ensures.size, c.loop-count.invariant.buffer))
+          (stands_kept _ _ _ _ _ _ _ _ (rw c.read_piece.ensures.same at c.in-Ok-serve_piece.ensures.ok _ r.text _ r.stands) c.flush.ensures.kept);
     }

@@ -2,7 +2,7 @@ use Rattle.std.proofs.Common.{inr, map, refl, rules}
 use Rattle.std.specs.Prelude.{option_map, string_bytes}
 use Rattle.fw_script.specs.Seen.{config_seen}
 use Rattle.fwupd_nodes.proofs.Packed.{numbered_fails, or_later, packed_slice}
-use Rattle.fwupd_jobs.proofs.Soakings.{ends_broken, ends_clean, ends_wrong, soaks_so, unmapped}
+use Rattle.fwupd_jobs.proofs.Soakings.{ends_broken, ends_clean, ends_wrong, soaks_so, unmapped, written_over}
 use Rattle.fwupd_jobs.proofs.soaking.soak_file.Goals as goal
 
 pub packages_in-requires : goal.packages_in-requires
@@ -13,12 +13,11 @@ packages_in-requires g c =
 pub returns-then-is_over_read-clause-fault : goal.returns-then-is_over_read-clause-fault
 returns-then-is_over_read-clause-fault g c =
     inr (inr (
-      inr (inr (inr (record {
-        is = refl;
-        config = config_seen c.in-Ok.config;
-        says = c.in-Ok.ensures.says;
-        over = rw c.as_slice-3.ensures.value at (c.is_over_read.ensures.over c.if-is_over_read.true);
-      }))),
+      inr (inr (inr (
+          written_over (g.H.Files.Files.holds c.args.host.now.files) c.args.job.config.now c.in-Ok.config c.as_slice.result.now c.in-Ok-package_files.contents.items c.as_slice-2.result.now c.in-Ok-packages_in.packages.items
+          (option_map (λ p. p.now) c.args.job.record) _ refl c.in-Ok.ensures.says c.as_slice.ensures.value c.in-Ok-package_files.ensures.packed c.as_slice-2.ensures.value c.in-Ok-packages_in.ensures.is
+          (rw c.as_slice-3.ensures.value at (c.is_over_read.ensures.over c.if-is_over_read.true))
+          ))),
       refl,
     ))
 

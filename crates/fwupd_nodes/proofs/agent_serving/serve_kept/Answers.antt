@@ -3,4 +3,4 @@ use Rattle.fwupd_nodes.proofs.agent_serving.serve_kept.Goals as goal
 
 pub returns-clause-runs : goal.returns-clause-runs
 returns-clause-runs g c =
-    runs_kept c.serve_agent.result c.args.job.now _ _ _ c.in-Ok.opened.0 c.in-Ok-of_node.agent _ _ c.in-Ok-of_node.ensures c.in-Ok.ensures c.serve_agent.ensures.runs
+    runs_kept c.serve_agent.result c.args.job.now _ _ _ c.in-Ok.opened.0 c.in-Ok-of_node.agent _ _ c.in-Ok-of_node.ensures c.in-Ok.ensures.begins c.serve_agent.ensures.runs

@@ -5,4 +5,4 @@ use Rattle.fwupd_nodes.proofs.device_serving.serve_device.Goals as goal
 
 pub returns-clause-runs : goal.returns-clause-runs
 returns-clause-runs g c =
-    runs_node c.report_served.result c.args.node c.in-Ok-served.process (device_report c.in-Ok-served.process.device) _ _ c.in-Ok-served.ensures refl c.report_served.ensures
+    runs_node c.report_served.result c.args.job.now.serving.ticks c.args.node c.in-Ok-served.process (device_report c.in-Ok-served.process.device) _ _ (rw c.in-Ok-served.is at c.serve_observed-served.ensures.serves) refl c.report_served.ensures.written

@@ -1,6 +1,0 @@
-use Rattle.fw_soak.specs.Courses.{ContinuesRun}
-use Rattle.fw_soak.proofs.turns.take_turns.Given as goal
-
--- the run has continued so far
-abbrev pub invariant-loop : goal.invariant-loop
-invariant-loop l = ContinuesRun l.fn.course l.course
