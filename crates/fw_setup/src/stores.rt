@@ -34,6 +34,9 @@ pub trait Stores<F: Folder + Drop> {
 
     ghost agent_files: { Self → List ℕ → Files };
 
+    /// Whether the folder of a device's store can be made.
+    ghost makes: { Self → List ℕ → ℕ → Bool } = { λ s root device. true };
+
     /// Returns the folder of a device's store, below `root`. It is made if it isn't there.
     ///
     /// # Errors
@@ -41,6 +44,7 @@ pub trait Stores<F: Folder + Drop> {
     fn make(&self, alloc: Global, root: &str, device: u8) -> Result<F, OpenFault>
         ensures known { IfOk result (λ f. is_known self.now ≡ true → F.is_known f ≡ true) }
         ensures files { IfOk result (λ f. is_known self.now ≡ true → F.files f ≡ files self.now root.now device) }
+        ensures made { OnOk result (makes self.now root.now device ≡ true) }
         ensures fault { IfErr result (λ e. (e ≡ OpenFault.Unreadable) ⊎ (e ≡ OpenFault.Memory)) };
 
     /// Returns the folder for reading. A folder that isn't there has no files.
@@ -240,7 +244,8 @@ fn make_folders<F: Folder + Drop, S: Stores<F>>(
     root: &str,
     devices: &[DeviceConfig],
 ) -> Result<(), Unopened>
-    ensures { IfErr result (IsUnmade (map device_of devices.now)) }
+    ensures made { OnOk result (AllByRecursion (λ x. S.makes stores.now root.now x.endpoint.eid ≡ true) (map device_of devices.now)) }
+    ensures fault { IfErr result (IsUnmade (map device_of devices.now)) }
 {
     for device in devices {
         let eid = device.endpoint.eid;
@@ -271,6 +276,7 @@ pub fn open_stores<F: Folder + Drop, S: Stores<F>>(
     ensures whole { OnOk result ((agent : ℕ)
         → AreWhole agent (map device_of devices.old)
         → AreWhole agent (map device_of devices.new)) }
+    ensures made { OnOk result (AllByRecursion (λ x. S.makes stores.now root.now x.endpoint.eid ≡ true) (map device_of devices.new)) }
     ensures order { IfOk result (λ b. map (λ s. s.device) b.stores.items ≡ eids_of (map device_of devices.old)) }
     ensures folders { IfOk result (λ b. S.is_known stores.now ≡ true → AllByRecursion
         (λ s. F.files s.store.folder ≡ S.files stores.now root.now s.device) b.stores.items) }

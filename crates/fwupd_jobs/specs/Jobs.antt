@@ -45,7 +45,7 @@ IsDone (jobs.Agent a) h l = ServesAgent a h l
 IsDone (jobs.DeviceProcess d) h l = RunsDevice d h.files h.stores h.output l.output
 IsDone (jobs.AgentProcess a) h l = RunsAgent a h.files h.agent_store h.output (record { is_known = h.is_known; held = l.held; output = l.output })
 IsDone (jobs.Decode file unit form) h l = Decodes h.files (option_map (λ p. p.now) file) unit form h.input l.input h.output l.output
-IsDone (jobs.Plan config number form) h l = Plans h.files config.now number form h.output l.output
+IsDone (jobs.Plan p) h l = Plans h.files (source_of h.stores (option_map (λ q. q.now) p.store) p.config.now) p.number p.form h.output l.output
 
 -- The result of a job that isn't done.
 abbrev pub JobEnds : Job → JobFault → FoundOf → LeftOf → Type 0
@@ -62,10 +62,12 @@ JobEnds (jobs.Soak s) told h l =
     SoakEnds h.files s.config.now s.order (option_map (λ p. p.now) s.record) told h.is_known l.held h.output l.output × (told ≢ faults.Violation → l.held ≡ h.held)
 JobEnds (jobs.Device d) told h l = DeviceEnds d told h l
 JobEnds (jobs.Agent a) told h l = AgentEnds a told h l
-JobEnds (jobs.DeviceProcess d) told h l = DeviceProcessEnds d told h.files h.output l.output
-JobEnds (jobs.AgentProcess a) told h l = AgentProcessEnds a told h.files h.output l.output
+JobEnds (jobs.DeviceProcess d) told h l = DeviceProcessEnds d told h.files h.stores h.output l.output
+JobEnds (jobs.AgentProcess a) told h l =
+    AgentProcessEnds a told h.files h.agent_store h.output (record { is_known = h.is_known; held = l.held; output = l.output })
 JobEnds (jobs.Decode file unit form) told h l = DecodeEnds h.files (option_map (λ p. p.now) file) unit form h.input l.input told h.output l.output
-JobEnds (jobs.Plan config number form) told h l = PlanEnds h.files config.now number form told h.output l.output
+JobEnds (jobs.Plan p) told h l =
+    PlanEnds h.files (source_of h.stores (option_map (λ q. q.now) p.store) p.config.now) p.number p.form told h.output l.output
 
 -- A job isn't done, and this holds for the fault.
 pub record IsUndone (job : Job) (found : FoundOf) (left : LeftOf) : Type 0 where

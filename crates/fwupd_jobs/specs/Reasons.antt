@@ -1,7 +1,10 @@
--- What is wrong with a line of a configuration, a schedule or a package's description, in words.
+-- What is wrong with a line of a configuration, a schedule or a package's description, or with a
+-- store, in words.
 use Rattle.std.specs.Prelude.{ℕ, List, codes}
 use Rattle.fw_script.specs.declared.faults.ScriptCause.{ScriptCause}
 use Rattle.fw_script.specs.declared.faults.ScriptCause.TheVariants as causes
+use Rattle.fw_store.specs.declared.faults.OpenFault.{OpenFault}
+use Rattle.fw_store.specs.declared.faults.OpenFault.TheVariants as stores
 
 abbrev pub reason_of : ScriptCause → List ℕ
 reason_of causes.Directive = codes "no line of this format begins with this word"
@@ -14,3 +17,9 @@ reason_of causes.Duplicate = codes "what it names is there already"
 reason_of causes.Limit = codes "there are more of these, or more bytes, than is allowed"
 reason_of causes.Missing = codes "the agent, a device, or a device's component is missing"
 reason_of causes.Memory = codes "memory was refused"
+
+abbrev pub reason_of_store : OpenFault → List ℕ
+reason_of_store stores.Damaged = codes "'active' there isn't as it was written, or an image that it names isn't there as it was"
+reason_of_store stores.Foreign = codes "what it keeps is of components, devices or packages that CONFIG lacks"
+reason_of_store stores.Unreadable = codes "it can't be read, or can't be made"
+reason_of_store stores.Memory = codes "memory was refused"

@@ -1,11 +1,12 @@
 //! The clues to why a job failed.
 
 ghost use Rattle.std.specs.Prelude.{◌≡◌, option_map};
-ghost use Rattle.fwupd_jobs.specs.Clues.{clue_of, clue_seen, clue_to_shown};
+ghost use Rattle.fwupd_jobs.specs.Clues.{clue_of, clue_seen, clue_to_shown, clue_to_store};
 
 use fw_script::ScriptFault;
+use fw_store::OpenFault;
 use fwupd_watch::JobFault;
-use fwupd_words::{Job, Replay, Show, Soak, Update};
+use fwupd_words::{Job, Plan, Replay, Show, Soak, Update};
 
 /// A clue to why a job failed.
 #[derive(Clone, Copy)]
@@ -24,6 +25,10 @@ pub enum Clue<'a> {
     Unwritten(&'a str),
     /// Why the history of the stores in this folder can't be written.
     History(&'a str),
+    /// Why the store of a device in this folder can't be opened.
+    Store(&'a str, u8, OpenFault),
+    /// Why what the agent keeps in this folder can't be opened.
+    AgentStore(&'a str, OpenFault),
 }
 
 /// The output of a run or a replay that can't be written.
@@ -39,6 +44,21 @@ fn clue_to_shown<'a>(show: &Show<'a>, fault: &JobFault) -> Option<Clue<'a>>
     }
 }
 
+/// The store that can't be opened: that of a device, or that of the agent's process.
+fn clue_to_store<'a>(job: &Job<'a>, device: u8, why: OpenFault) -> Option<Clue<'a>>
+    ensures { option_map clue_seen result ≡ clue_to_store job.now device why }
+{
+    match job {
+        Job::Replay(replay) => Some(Clue::Store(replay.show.store?, device, why)),
+        Job::Run(update) => Some(Clue::Store(update.show.store?, device, why)),
+        Job::Plan(plan) => Some(Clue::Store(plan.store?, device, why)),
+        Job::Device(alone) => Some(Clue::Store(alone.store?, device, why)),
+        Job::DeviceProcess(process) => Some(Clue::Store(process.store?, device, why)),
+        Job::AgentProcess(process) => Some(Clue::AgentStore(process.store?, why)),
+        _ => None,
+    }
+}
+
 /// Returns the clue to why a job ended with a fault, if there is one.
 pub fn clue_to<'a>(job: &Job<'a>, fault: &'a JobFault) -> Option<Clue<'a>>
     ensures { option_map clue_seen result ≡ clue_of job.now fault.now }
@@ -46,11 +66,12 @@ pub fn clue_to<'a>(job: &Job<'a>, fault: &'a JobFault) -> Option<Clue<'a>>
     match (fault, job) {
         (JobFault::Unreadable(path), _) => Some(Clue::Unread(path.as_str())),
         (JobFault::Text(path, fault), _) => Some(Clue::Line(path.as_str(), *fault)),
+        (JobFault::Store(device, why), _) => clue_to_store(job, *device, *why),
         (JobFault::Package(_), Job::Inspect { package, .. }) => Some(Clue::Other(package)),
         (JobFault::Package(_), Job::Replay(Replay { config, .. }))
         | (JobFault::Package(_), Job::Run(Update { config, .. }))
         | (JobFault::Package(_), Job::Soak(Soak { config, .. }))
-        | (JobFault::Package(_), Job::Plan { config, .. }) => Some(Clue::Package(config)),
+        | (JobFault::Package(_), Job::Plan(Plan { config, .. })) => Some(Clue::Package(config)),
         (JobFault::Step(number, _), Job::Replay(replay)) => {
             Some(Clue::Step(replay.schedule, *number))
         }

@@ -6,9 +6,10 @@ ghost use Rattle.fw_package.specs.Reading.{package_of};
 use crate::clue_lines::{line_at, package_lines, step_line};
 use crate::clues::{Clue, clue_to};
 use crate::identifiers::later_version;
-use crate::reasons::reason;
+use crate::reasons::{reason, store_reason};
 use fw_package::Package;
 use fw_script::ScriptFault;
+use fw_store::OpenFault;
 use fwupd_watch::{
     Files, JobFault, SystemFiles, explains, folder_and_name, history_path, is_special,
 };
@@ -145,6 +146,18 @@ fn explain_history(rt: &HostRuntime, folder: &str) {
     }
 }
 
+/// Prints why the store of a device in a folder can't be opened.
+fn explain_store(rt: &HostRuntime, root: &str, device: u8, why: OpenFault) {
+    let reason = store_reason(why);
+    let _ = eprintln!(rt; "{root}/{device}: {reason}");
+}
+
+/// Prints why what the agent keeps in a folder can't be opened.
+fn explain_agent_store(rt: &HostRuntime, root: &str, why: OpenFault) {
+    let reason = store_reason(why);
+    let _ = eprintln!(rt; "{root}/agent: {reason}");
+}
+
 /// Prints on standard error the clue to why a job failed, where faults are explained.
 pub fn explain(rt: &HostRuntime, job: &Job<'_>, fault: &JobFault) {
     if !explains(rt) {
@@ -158,6 +171,8 @@ pub fn explain(rt: &HostRuntime, job: &Job<'_>, fault: &JobFault) {
         Some(Clue::Step(schedule, number)) => explain_step(rt, schedule, number),
         Some(Clue::Unwritten(path)) => explain_unwritten(rt, path),
         Some(Clue::History(folder)) => explain_history(rt, folder),
+        Some(Clue::Store(root, device, why)) => explain_store(rt, root, device, why),
+        Some(Clue::AgentStore(root, why)) => explain_agent_store(rt, root, why),
         None => {}
     }
 }

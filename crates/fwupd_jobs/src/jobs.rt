@@ -86,10 +86,6 @@ pub fn perform_job<H: Parts>(
         Job::DeviceProcess(job) => run_device(alloc, job, host),
         Job::AgentProcess(job) => run_agent(alloc, job, host),
         Job::Decode { file, unit, form } => decode_file(alloc, *file, *unit, *form, host),
-        Job::Plan {
-            config,
-            number,
-            form,
-        } => plan_file(alloc, &host.files, config, *number, *form, &mut host.output),
+        Job::Plan(job) => plan_file(alloc, &host.files, &host.stores, *job, &mut host.output),
     }
 }

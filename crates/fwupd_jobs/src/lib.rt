@@ -41,8 +41,8 @@ pub use fwupd_watch::{
     ObserverFault, Output, OutputPlaces, Recording, WholeFiles, texts_are_lines,
 };
 pub use fwupd_words::{
-    AgentAlone, AgentProcess, DeviceAlone, DeviceProcess, Job, Order, Replay, Serving, Show, Soak,
-    SoakOrder, TraceForm, Update, Watching, Wire, parse,
+    AgentAlone, AgentProcess, DeviceAlone, DeviceProcess, Job, Order, Plan, Replay, Serving, Show,
+    Soak, SoakOrder, TraceForm, Update, Watching, Wire, parse,
 };
 pub use inspecting::{inspect_file, inspection_fault};
 pub use jobs::perform_job;

@@ -1,9 +1,10 @@
-//! What is wrong with a line, in words.
+//! What is wrong with a line or a store, in words.
 
 ghost use Rattle.std.specs.Prelude.{◌≡◌};
-ghost use Rattle.fwupd_jobs.specs.Reasons.{reason_of};
+ghost use Rattle.fwupd_jobs.specs.Reasons.{reason_of, reason_of_store};
 
 use fw_script::ScriptCause;
+use fw_store::OpenFault;
 
 /// Returns what a cause says of its line.
 pub(crate) fn reason(cause: ScriptCause) -> &'static str
@@ -24,5 +25,20 @@ pub(crate) fn reason(cause: ScriptCause) -> &'static str
         ScriptCause::Limit => "there are more of these, or more bytes, than is allowed",
         ScriptCause::Missing => "the agent, a device, or a device's component is missing",
         ScriptCause::Memory => "memory was refused",
+    }
+}
+
+/// Returns why a store can't be opened.
+pub(crate) fn store_reason(why: OpenFault) -> &'static str
+    ensures { result.now ≡ reason_of_store why }
+{
+    match why {
+        OpenFault::Damaged => {
+            "'active' there isn't as it was written, or an image that it names isn't there as it was"
+        }
+        OpenFault::Foreign =>
+            "what it keeps is of components, devices or packages that CONFIG lacks",
+        OpenFault::Unreadable => "it can't be read, or can't be made",
+        OpenFault::Memory => "memory was refused",
     }
 }

@@ -1,5 +1,5 @@
 -- What the agent's process keeps in its folder of stores, and the node that it begins with.
-use Rattle.std.specs.Prelude.{ℕ, ◌≡◌, true, false, IsSomeAnd, List, None, Option, Some, map}
+use Rattle.std.specs.Prelude.{ℕ, ◌≡◌, true, false, IfSome, IsSomeAnd, List, None, Option, Some, map}
 use Rattle.agent_store.specs.Keepers.{FolderKeeperOf}
 use Rattle.agent_store.specs.Kept.{has_foreign, records_in, session_for, settings_in}
 use Rattle.agent_store.specs.Packages.{claim_fault, packages_text}
@@ -54,3 +54,13 @@ IsAgentNode files unit endpoint devices n = IsNodeBy (files active_name) (agent_
 pub record BeginsWithStore (files : Files) (setup : AgentSetupOf) (n : AgentOf) : Type 0 where
   pub claimed : claim_fault files (packages_text setup.contents) ≡ None
   pub node : IsAgentNode files setup.unit setup.endpoint setup.eids n
+
+-- WHY IT ISN'T OPENED
+
+-- lines that a folder keeps are of another device
+abbrev pub KeepsForeign : Files → (devices : List ℕ) → Type 0
+KeepsForeign files devices = IsSomeAnd (agent_lines_in files) (λ ls. has_foreign devices ls ≡ true)
+
+-- what a folder keeps isn't lines, or is lines of these devices
+abbrev pub KeepsDamaged : Files → (devices : List ℕ) → Type 0
+KeepsDamaged files devices = IfSome (agent_lines_in files) (λ ls. has_foreign devices ls ≡ false)

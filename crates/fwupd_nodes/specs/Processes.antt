@@ -1,5 +1,5 @@
 -- A device or the agent of a configuration as a process of its own.
-use Rattle.std.specs.Prelude.{ℕ, ◌≡◌, ◌≤◌, ◌⊎◌, ◌+◌, ◌-◌, ◌^◌, Bool, IfSome, List, [], ◌∷◌, None, Ok, Option, Some, if◌then◌else◌, map, nat_le, option_map, true}
+use Rattle.std.specs.Prelude.{ℕ, ◌≡◌, ◌≤◌, ◌⊎◌, ◌+◌, ◌-◌, ◌^◌, Bool, Err, IfSome, IsSomeAnd, List, [], ◌∷◌, None, Ok, Option, Some, if◌then◌else◌, map, nat_le, option_map, true}
 use Rattle.fw_json.specs.Alone.{agent_alone_value}
 use Rattle.fw_json.specs.Values.{line_of}
 use Rattle.fw_node.specs.Nodes.{DeviceNodeOf}
@@ -22,12 +22,13 @@ use Rattle.fw_store.specs.Folders.{Files}
 use Rattle.fw_store.specs.declared.kept_line.KeptLine.{KeptLine}
 use Rattle.fwupd_nodes.specs.AgentStores.{AgentSetupOf, BeginsWithStore, keeps_lines, keeps_nothing}
 use Rattle.fwupd_nodes.specs.Alone.{DeviceSetupFails, DeviceSetupOf, IsDeviceSetup}
-use Rattle.fwupd_nodes.specs.Sessions.{first_undone}
+use Rattle.fwupd_nodes.specs.Sessions.{TellsUndone, first_undone}
 use Rattle.fwupd_nodes.specs.Setups.{AreDevices, ArePacked, PackagesFail, Says, TextFails}
 use Rattle.fwupd_traces.specs.Watches.{Ended}
 use Rattle.fwupd_watch.specs.Apart.{IsApart, IsOverRead}
 use Rattle.fwupd_watch.specs.Files.{FileOf}
-use Rattle.fwupd_watch.specs.Outputs.{OutputOf, WritesOutput}
+use Rattle.fwupd_watch.specs.Outputs.{FailsToWriteOutput, OutputOf, WritesOutput}
+use Rattle.fwupd_watch.specs.Processes.{fault_of_watch}
 use Rattle.fwupd_watch.specs.Running.{ShowOf}
 use Rattle.fwupd_watch.specs.declared.faults.JobFault.{JobFault}
 use Rattle.fwupd_watch.specs.declared.faults.JobFault.TheVariants as faults
@@ -57,6 +58,11 @@ end_of start (Some ticks) = if nat_le (start + ticks) (2 ^ 32 - 1) then start + 
 -- an observer ended with a result, after what it saw
 abbrev pub HasEnded : {O : Type 0} → (ends : O → Ended → O → Type 0) → Ended → O → Type 0
 HasEnded {O} ends result t = (s : O) × ends s result t
+
+-- an observer that ended with a fault makes the process end with it
+abbrev pub TellsEnd : Ended → JobFault → Type 0
+TellsEnd (Ok u) told = ⊥
+TellsEnd (Err fault) told = told ≡ fault_of_watch fault
 
 -- A DEVICE
 
@@ -104,23 +110,52 @@ pub record RunsDevice (job : DeviceProcess) (files : List ℕ → FileOf) (store
 
 -- WHY IT FAILS
 
+-- The report of a process isn't written as a whole: memory was refused, or writing failed. Or it
+-- is, and what observed the process had a fault.
+abbrev pub ReportFails : (report : List ℕ) → Ended → JobFault → (before after : OutputOf) → Type 0
+ReportFails report watched told before after =
+    ((told ≡ faults.Memory) × (after ≡ before))
+    ⊎ (((told ≡ faults.Output) × FailsToWriteOutput before after report) ⊎ (TellsEnd watched told × WritesOutput before after report))
+
+-- A device's node was a process, and writing its report failed, or what observed it did.
+pub record NodeBreaks (ticks : Option ℕ) (n : DeviceNodeOf) (told : JobFault) (before after : OutputOf) : Type 0 where
+  pub last : DeviceProcessOf
+  pub serves : ServesProcess ticks n last
+  pub watched : Ended
+  pub fails : ReportFails (device_report last.device) watched told before after
+
+-- It was, or nothing is written.
+abbrev pub NodeStops : (ticks : Option ℕ) → DeviceNodeOf → JobFault → (before after : OutputOf) → Type 0
+NodeStops ticks n told before after = (after ≡ before) ⊎ NodeBreaks ticks n told before after
+
+-- The same of the device of a configuration, with the images in its store, if it has one.
+pub record SetupBreaks (job : DeviceProcess) (s : DeviceSetupOf) (stores : (root : List ℕ) → StoresOf) (told : JobFault) (before after : OutputOf) : Type 0 where
+  pub stocked : DeviceConfigOf
+  pub images : AreDevices (option_map stores (option_map (λ p. p.now) job.store)) s.only (stocked ∷ [])
+  pub breaks : NodeBreaks job.serving.ticks (node_made s.unit s.agent stocked) told before after
+
+abbrev pub SetupStops : DeviceProcess → DeviceSetupOf → (stores : (root : List ℕ) → StoresOf) → JobFault → (before after : OutputOf) → Type 0
+SetupStops job s stores told before after = (after ≡ before) ⊎ SetupBreaks job s stores told before after
+
 -- An output would overwrite the configuration or another output, or is in a store.
 pub record OverwritesDevice (job : DeviceProcess) (told : JobFault) (files : List ℕ → FileOf) : Type 0 where
   pub setup : DeviceSetupOf
   pub begins : IsDeviceSetup (device_alone job) files setup
   pub over : (told ≡ faults.Memory) ⊎ IsOverRead files (device_shows job) (job.config.now ∷ []) told
 
--- It is such a device, and its outputs overwrite nothing. It fails later.
-pub record StopsDevice (job : DeviceProcess) (files : List ℕ → FileOf) : Type 0 where
+-- It is such a device, and its outputs overwrite nothing. It fails later: nothing is written, or
+-- the device was a process.
+pub record StopsDevice (job : DeviceProcess) (files : List ℕ → FileOf) (stores : (root : List ℕ) → StoresOf) (told : JobFault) (before after : OutputOf) : Type 0 where
   pub setup : DeviceSetupOf
   pub begins : IsDeviceSetup (device_alone job) files setup
   pub apart : IsApart files (device_shows job) (job.config.now ∷ [])
+  pub stops : SetupStops job setup stores told before after
 
 -- The first fault: of the configuration and its device, or of the outputs, and nothing is written;
 -- or a later one.
-abbrev pub DeviceProcessEnds : DeviceProcess → JobFault → (files : List ℕ → FileOf) → (before after : OutputOf) → Type 0
-DeviceProcessEnds job told files before after =
-    ((DeviceSetupFails (device_alone job) files told ⊎ OverwritesDevice job told files) × (after ≡ before)) ⊎ StopsDevice job files
+abbrev pub DeviceProcessEnds : DeviceProcess → JobFault → (files : List ℕ → FileOf) → (stores : (root : List ℕ) → StoresOf) → (before after : OutputOf) → Type 0
+DeviceProcessEnds job told files stores before after =
+    ((DeviceSetupFails (device_alone job) files told ⊎ OverwritesDevice job told files) × (after ≡ before)) ⊎ StopsDevice job files stores told before after
 
 -- THE AGENT
 
@@ -161,11 +196,14 @@ pub record AgentLeftOf : Type 0 where
   pub held : (path : List ℕ) → Option (List ℕ)
   pub output : OutputOf
 
--- At the end its report is written, and the records of its log, if they are requested. If the
--- sessions are checked, each is Done.
-pub record EndsServed (job : AgentProcess) (s : ServedAgentOf) (before : OutputOf) (after : AgentLeftOf) : Type 0 where
+-- At the end its report is written, and the records of its log, if they are requested.
+pub record ReportsServed (job : AgentProcess) (s : ServedAgentOf) (before : OutputOf) (after : AgentLeftOf) : Type 0 where
   pub written : WritesOutput before after.output (agent_report_in job.form s)
   pub logged : after.is_known ≡ true → IfSome job.log (λ p. after.held p.now ≡ Some (records_bytes s.agent.log.records))
+
+-- If the sessions are checked, each is Done.
+pub record EndsServed (job : AgentProcess) (s : ServedAgentOf) (before : OutputOf) (after : AgentLeftOf) : Type 0 where
+  pub reports : ReportsServed job s before after
   pub checked : job.is_checked ≡ true → first_undone s.agent (map (λ c. c.device) s.counts) ≡ None
 
 -- It is one, and ends so.
@@ -211,6 +249,59 @@ pub record RunsAgent (job : AgentProcess) (files : List ℕ → FileOf) (kept : 
 
 -- WHY IT FAILS
 
+-- the sessions are checked, and this is the fault of the first that isn't Done
+abbrev pub IsUndoneServed : AgentProcess → ServedAgentOf → JobFault → Type 0
+IsUndoneServed job s told = (job.is_checked ≡ true) × IsSomeAnd (first_undone s.agent (map (λ c. c.device) s.counts)) (λ u. TellsUndone u told)
+
+-- The report isn't written as a whole: memory was refused, or the records of the log or the report
+-- can't be written. Or it is, and a session isn't Done.
+abbrev pub EndFails : AgentProcess → ServedAgentOf → JobFault → (before : OutputOf) → (after : AgentLeftOf) → Type 0
+EndFails job s told before after =
+    (((told ≡ faults.Memory) ⊎ (told ≡ faults.Log)) × (after.output ≡ before))
+    ⊎ (((told ≡ faults.Output) × FailsToWriteOutput before after.output (agent_report_in job.form s)) ⊎ (IsUndoneServed job s told × ReportsServed job s before after))
+
+-- Or nothing of that, and what observed the process had a fault.
+abbrev pub ObservedEndFails : AgentProcess → ServedAgentOf → Ended → JobFault → (before : OutputOf) → (after : AgentLeftOf) → Type 0
+ObservedEndFails job s watched told before after = EndFails job s told before after ⊎ (TellsEnd watched told × EndsServed job s before after)
+
+-- An agent was a process, and failed so at its end.
+pub record ServedBreaks {K : Type 0} (keeps : K → List KeptLine → Type 0) (job : AgentProcess) (new : ServedAgentOf) (eids : List ℕ) (told : JobFault) (before : OutputOf) (after : AgentLeftOf) : Type 0 where
+  pub last : KeepingAgentOf K
+  pub serves : ServesStarted keeps job eids new last
+  pub watched : Ended
+  pub fails : ObservedEndFails job last.agent watched told before after
+
+-- It was, or nothing is written.
+abbrev pub ServedStops : {K : Type 0} → (keeps : K → List KeptLine → Type 0) → AgentProcess → ServedAgentOf → (eids : List ℕ) → JobFault → (before : OutputOf) → (after : AgentLeftOf) → Type 0
+ServedStops keeps job new eids told before after = (after.output ≡ before) ⊎ ServedBreaks keeps job new eids told before after
+
+-- The same of one that begins with the node that goes on with what a folder keeps.
+pub record KeptBreaks (job : AgentProcess) (kept : Option Files) (setup : AgentSetupOf) (packages : List PackageText) (told : JobFault) (before : OutputOf) (after : AgentLeftOf) : Type 0 where
+  pub node : AgentOf
+  pub begins : IfSome kept (λ files. BeginsWithStore files setup node)
+  pub breaks : ServedBreaks keeps_lines job (served_agent_of node packages) setup.eids told before after
+
+abbrev pub KeptStops : AgentProcess → (kept : Option Files) → AgentSetupOf → List PackageText → JobFault → (before : OutputOf) → (after : AgentLeftOf) → Type 0
+KeptStops job kept setup packages told before after = (after.output ≡ before) ⊎ KeptBreaks job kept setup packages told before after
+
+-- of a new agent, or of that of its folder of stores, if one is given
+abbrev StopsIf : AgentProcess → (kept : (root : List ℕ) → Option Files) → (root : Option (List ℕ)) → AgentSetupOf → List PackageText → JobFault → OutputOf → AgentLeftOf → Type 0
+StopsIf job kept None setup packages told before after =
+    ServedStops keeps_nothing job (new_served_agent setup.unit setup.endpoint setup.eids packages) setup.eids told before after
+StopsIf job kept (Some root) setup packages told before after = KeptStops job (kept root) setup packages told before after
+
+abbrev pub AgentSetupStops : AgentProcess → (kept : (root : List ℕ) → Option Files) → AgentSetupOf → List PackageText → JobFault → (before : OutputOf) → (after : AgentLeftOf) → Type 0
+AgentSetupStops job kept setup packages told before after = StopsIf job kept (option_map (λ p. p.now) job.store) setup packages told before after
+
+-- of that of a configuration, with the packages in these bytes
+pub record PackagesStop (job : AgentProcess) (kept : (root : List ℕ) → Option Files) (config : ConfigOf) (contents : List (List ℕ)) (told : JobFault) (before : OutputOf) (after : AgentLeftOf) : Type 0 where
+  pub packages : List PackageText
+  pub are : map (λ p. Ok p) packages ≡ map package_of contents
+  pub stops : AgentSetupStops job kept (agent_setup_of config contents) packages told before after
+
+abbrev pub ContentsStop : AgentProcess → (kept : (root : List ℕ) → Option Files) → ConfigOf → (contents : List (List ℕ)) → JobFault → (before : OutputOf) → (after : AgentLeftOf) → Type 0
+ContentsStop job kept config contents told before after = (after.output ≡ before) ⊎ PackagesStop job kept config contents told before after
+
 -- An output would overwrite the configuration, a package or another output, or is in a store.
 pub record OverwritesAgent (job : AgentProcess) (told : JobFault) (files : List ℕ → FileOf) : Type 0 where
   pub config : ConfigOf
@@ -224,17 +315,20 @@ pub record LacksAgentPackages (job : AgentProcess) (told : JobFault) (files : Li
   pub apart : IsApart files (agent_shows job) (job.config.now ∷ config.packages)
   pub fail : PackagesFail files config.packages told
 
--- It is an agent with these packages, and its outputs overwrite nothing. It fails later.
-pub record StopsAgent (job : AgentProcess) (files : List ℕ → FileOf) : Type 0 where
+-- It is an agent with these packages, and its outputs overwrite nothing. It fails later: nothing is
+-- written, or the agent was a process.
+pub record StopsAgent (job : AgentProcess) (files : List ℕ → FileOf) (kept : (root : List ℕ) → Option Files) (told : JobFault) (before : OutputOf) (after : AgentLeftOf) : Type 0 where
   pub config : ConfigOf
   pub says : Says config_of (files job.config.now) config
   pub apart : IsApart files (agent_shows job) (job.config.now ∷ config.packages)
   pub contents : List (List ℕ)
   pub packed : ArePacked files config.packages contents
+  pub stops : ContentsStop job kept config contents told before after
 
 -- The first fault: of the configuration, of the outputs, or of a package, or memory was refused,
 -- and nothing is written; or a later one.
-abbrev pub AgentProcessEnds : AgentProcess → JobFault → (files : List ℕ → FileOf) → (before after : OutputOf) → Type 0
-AgentProcessEnds job told files before after =
-    (((told ≡ faults.Memory) ⊎ (TextFails config_of files job.config.now told ⊎ (OverwritesAgent job told files ⊎ LacksAgentPackages job told files))) × (after ≡ before))
-    ⊎ StopsAgent job files
+abbrev pub AgentProcessEnds : AgentProcess → JobFault → (files : List ℕ → FileOf) → (kept : (root : List ℕ) → Option Files) → (before : OutputOf) → (after : AgentLeftOf) → Type 0
+AgentProcessEnds job told files kept before after =
+    (((told ≡ faults.Memory) ⊎ (TextFails config_of files job.config.now told ⊎ (OverwritesAgent job told files ⊎ LacksAgentPackages job told files)))
+    × (after.output ≡ before))
+    ⊎ StopsAgent job files kept told before after

@@ -9,7 +9,7 @@ ghost use Rattle.fw_serve.specs.Agents.{new_served_agent};
 ghost use Rattle.fw_trace.specs.Records.{records_bytes};
 ghost use Rattle.fwupd_nodes.specs.Hosts.{agent_store_in};
 ghost use Rattle.fwupd_nodes.specs.AgentStores.{agent_setup_seen, keeps_nothing};
-ghost use Rattle.fwupd_nodes.specs.Processes.{AgentProcessEnds, EndsServed, HasEnded, RunsAgent, RunsAgentSetup, RunsKept, RunsPackages, RunsServed, ServesStarted, agent_report_in, agent_started};
+ghost use Rattle.fwupd_nodes.specs.Processes.{AgentProcessEnds, AgentSetupStops, ContentsStop, EndFails, EndsServed, HasEnded, KeptStops, ObservedEndFails, RunsAgent, RunsAgentSetup, RunsKept, RunsPackages, RunsServed, ServedStops, ServesStarted, agent_report_in, agent_started};
 ghost use Rattle.fwupd_nodes.specs.Sessions.{TellsUndone, first_undone};
 
 use crate::agent_stores::{AgentSetup, open_agent};
@@ -203,6 +203,11 @@ fn end_agent<H: Parts>(
       held = H.Places.held host.new.places;
       output = host.new.output;
     })) }
+    ensures fault { IfErr result (λ e. EndFails job.now agent.now e host.old.output (record {
+      is_known = H.Places.is_known host.old.places;
+      held = H.Places.held host.new.places;
+      output = host.new.output;
+    })) }
     ensures untouched { host.new.watch ≡ host.old.watch }
 {
     match keep_log(alloc, job.log, agent, &mut host.places) {
@@ -236,6 +241,11 @@ fn end_observed<H: Parts>(
       output = host.new.output;
     })) }
     ensures watched { OnOk result (watched ≡ Ok tt) }
+    ensures fault { IfErr result (λ e. ObservedEndFails job.now agent.now watched e host.old.output (record {
+      is_known = H.Places.is_known host.old.places;
+      held = H.Places.held host.new.places;
+      output = host.new.output;
+    })) }
     ensures untouched { host.new.watch ≡ host.old.watch }
 {
     match end_agent(alloc, job, agent, host) {
@@ -274,6 +284,12 @@ fn serve_agent<'p, K: AgentKeeper + Drop, H: Parts>(
 ) -> Result<(), JobFault>
     requires { agent.now ≡ 0 }
     ensures runs { OnOk result (RunsServed K.keeps job.now agent.entry setup.now.eids.now
+        host.old.output (record {
+          is_known = H.Places.is_known host.old.places;
+          held = H.Places.held host.new.places;
+          output = host.new.output;
+        })) }
+    ensures fault { IfErr result (λ e. ServedStops K.keeps job.now agent.entry setup.now.eids.now e
         host.old.output (record {
           is_known = H.Places.is_known host.old.places;
           held = H.Places.held host.new.places;
@@ -320,6 +336,13 @@ fn serve_new<'p, H: Parts>(
           held = H.Places.held host.new.places;
           output = host.new.output;
         })) }
+    ensures fault { IfErr result (λ e. ServedStops keeps_nothing job.now (new_served_agent setup.now.network.unit
+        setup.now.network.endpoint setup.now.eids.now packages.now) setup.now.eids.now e
+        host.old.output (record {
+          is_known = H.Places.is_known host.old.places;
+          held = H.Places.held host.new.places;
+          output = host.new.output;
+        })) }
     ensures untouched { host.new.watch ≡ host.old.watch }
 {
     let (unit, endpoint) = (setup.network.unit, setup.network.endpoint);
@@ -342,6 +365,13 @@ fn serve_kept<'p, H: Parts>(
     ensures runs { OnOk result (RunsKept job.now (agent_store_in (H.Stores.is_known host.old.stores)
         (H.Stores.agent_files host.old.stores) root.now) (agent_setup_seen setup.now)
         packages.now host.old.output (record {
+          is_known = H.Places.is_known host.old.places;
+          held = H.Places.held host.new.places;
+          output = host.new.output;
+        })) }
+    ensures fault { IfErr result (λ e. KeptStops job.now (agent_store_in (H.Stores.is_known host.old.stores)
+        (H.Stores.agent_files host.old.stores) root.now) (agent_setup_seen setup.now)
+        packages.now e host.old.output (record {
           is_known = H.Places.is_known host.old.places;
           held = H.Places.held host.new.places;
           output = host.new.output;
@@ -374,6 +404,13 @@ fn serve_setup<'p, H: Parts>(
           held = H.Places.held host.new.places;
           output = host.new.output;
         })) }
+    ensures fault { IfErr result (λ e. AgentSetupStops job.now (agent_store_in (H.Stores.is_known host.old.stores)
+        (H.Stores.agent_files host.old.stores)) (agent_setup_seen setup.now) packages.now e
+        host.old.output (record {
+          is_known = H.Places.is_known host.old.places;
+          held = H.Places.held host.new.places;
+          output = host.new.output;
+        })) }
     ensures untouched { host.new.watch ≡ host.old.watch }
 {
     match job.store {
@@ -395,6 +432,13 @@ fn serve_packages<H: Parts>(
     ensures runs { OnOk result (RunsPackages job.now (agent_store_in (H.Stores.is_known host.old.stores)
         (H.Stores.agent_files host.old.stores)) (config_seen config.now)
         (map (λ f. f.items) contents.now) host.old.output (record {
+          is_known = H.Places.is_known host.old.places;
+          held = H.Places.held host.new.places;
+          output = host.new.output;
+        })) }
+    ensures fault { IfErr result (λ e. ContentsStop job.now (agent_store_in (H.Stores.is_known host.old.stores)
+        (H.Stores.agent_files host.old.stores)) (config_seen config.now)
+        (map (λ f. f.items) contents.now) e host.old.output (record {
           is_known = H.Places.is_known host.old.places;
           held = H.Places.held host.new.places;
           output = host.new.output;
@@ -448,7 +492,12 @@ pub fn run_agent<H: Parts>(
           output = host.new.output;
         })) }
     ensures fault { IfErr result (λ e. AgentProcessEnds job.now e (H.Files.holds host.old.files)
-        host.old.output host.new.output) }
+        (agent_store_in (H.Stores.is_known host.old.stores) (H.Stores.agent_files host.old.stores))
+        host.old.output (record {
+          is_known = H.Places.is_known host.old.places;
+          held = H.Places.held host.new.places;
+          output = host.new.output;
+        })) }
     ensures untouched { host.new.watch ≡ host.old.watch }
 {
     let config = match configuration(alloc, &host.files, job.config) {

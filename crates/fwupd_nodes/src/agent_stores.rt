@@ -4,7 +4,7 @@
 ghost use Rattle.std.specs.Prelude.{◌≡◌, ◌≢◌, ◌≤◌, IfErr, IfOk, IfSome, OnOk, Some, length, map, true};
 ghost use Rattle.agent_store.specs.Packages.{packages_name, packages_text};
 ghost use Rattle.fwupd_nodes.specs.Hosts.{agent_store_in};
-ghost use Rattle.fwupd_nodes.specs.AgentStores.{BeginsWithStore, IsAgentNode, agent_setup_seen};
+ghost use Rattle.fwupd_nodes.specs.AgentStores.{BeginsWithStore, IsAgentNode, KeepsDamaged, KeepsForeign, agent_setup_seen};
 
 use crate::wiring::Network;
 use agent_store::{ClaimFault, FolderKeeper, claim_packages, resumed_agent};
@@ -59,8 +59,15 @@ fn node_in<F: Folder>(
     eids: &[u8],
 ) -> Result<AgentNode, OpenFault>
     requires { length eids.now ≤ 16 }
-    ensures { IfOk result (λ n. F.is_known folder.now ≡ true
+    ensures node { IfOk result (λ n. F.is_known folder.now ≡ true
         → IsAgentNode (F.files folder.now) network.now.unit network.now.endpoint eids.now n) }
+    ensures foreign { IfErr result (λ e. e ≡ OpenFault.Foreign
+        → F.is_known folder.now ≡ true
+        → KeepsForeign (F.files folder.now) eids.now) }
+    ensures damaged { IfErr result (λ e. e ≡ OpenFault.Damaged
+        → F.is_known folder.now ≡ true
+        → KeepsDamaged (F.files folder.now) eids.now) }
+    ensures unread { IfErr result (λ e. e ≡ OpenFault.Unreadable → F.may_fail folder.now ≡ true) }
 {
     let found = match agent_in(alloc, folder) {
         Ok(found) => found,

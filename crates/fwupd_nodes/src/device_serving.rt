@@ -8,7 +8,7 @@ ghost use Rattle.fw_serve.specs.Serving.{device_report};
 ghost use Rattle.fw_setup.specs.Stocks.{stores_in};
 ghost use Rattle.fwupd_nodes.specs.Alone.{device_setup_seen};
 ghost use Rattle.fwupd_watch.specs.Outputs.{WritesOutput};
-ghost use Rattle.fwupd_nodes.specs.Processes.{DeviceProcessEnds, HasEnded, RunsDevice, RunsNode, RunsSetup, ServesProcess};
+ghost use Rattle.fwupd_nodes.specs.Processes.{DeviceProcessEnds, HasEnded, NodeStops, ReportFails, RunsDevice, RunsNode, RunsSetup, ServesProcess, SetupStops};
 
 use crate::alone::{DeviceSetup, device_setup};
 use crate::host::{Host, Parts};
@@ -75,6 +75,7 @@ fn report_served<B: Bank + Drop, W: Write + Drop>(
 ) -> Result<(), JobFault>
     ensures written { OnOk result (WritesOutput output.old output.new (device_report process.now.device)) }
     ensures watched { OnOk result (watched ≡ Ok tt) }
+    ensures fault { IfErr result (λ e. ReportFails (device_report process.now.device) watched e output.old output.new) }
 {
     let Ok(text) = process.report() else {
         return Err(JobFault::Memory);
@@ -115,6 +116,7 @@ fn serve_device<B: Bank + Drop, H: Parts>(
 ) -> Result<(), JobFault>
     requires { HasComponents node.half.core.device }
     ensures runs { OnOk result (RunsNode job.now.serving.ticks node host.old.output host.new.output) }
+    ensures fault { IfErr result (λ e. NodeStops job.now.serving.ticks node e host.old.output host.new.output) }
     ensures untouched { host.new.watch ≡ host.old.watch }
 {
     let watch = match host.wiring.watch(alloc, observed(&network), job.watching) {
@@ -147,6 +149,9 @@ fn serve_configured<H: Parts>(
     ensures runs { OnOk result (RunsSetup job.now (device_setup_seen setup.now)
         (stores_in (H.Stores.is_known host.old.stores) (H.Stores.files host.old.stores))
         host.old.output host.new.output) }
+    ensures fault { IfErr result (λ e. SetupStops job.now (device_setup_seen setup.now)
+        (stores_in (H.Stores.is_known host.old.stores) (H.Stores.files host.old.stores)) e
+        host.old.output host.new.output) }
     ensures untouched { host.new.watch ≡ host.old.watch }
 {
     let device = &setup.only[0];
@@ -173,6 +178,9 @@ fn serve_stored<H: Parts>(
     requires some { option_map (λ p. p.now) job.now.store ≡ Some root.now }
     ensures runs { OnOk result (RunsSetup job.now (device_setup_seen setup)
         (stores_in (H.Stores.is_known host.old.stores) (H.Stores.files host.old.stores))
+        host.old.output host.new.output) }
+    ensures fault { IfErr result (λ e. SetupStops job.now (device_setup_seen setup)
+        (stores_in (H.Stores.is_known host.old.stores) (H.Stores.files host.old.stores)) e
         host.old.output host.new.output) }
     ensures untouched { host.new.watch ≡ host.old.watch }
 {
@@ -218,6 +226,7 @@ pub fn run_device<H: Parts>(
         (stores_in (H.Stores.is_known host.old.stores) (H.Stores.files host.old.stores))
         host.old.output host.new.output) }
     ensures fault { IfErr result (λ e. DeviceProcessEnds job.now e (H.Files.holds host.old.files)
+        (stores_in (H.Stores.is_known host.old.stores) (H.Stores.files host.old.stores))
         host.old.output host.new.output) }
     ensures untouched { host.new.watch ≡ host.old.watch }
 {

@@ -1,9 +1,13 @@
 //! Shows the progress of a process on a terminal, by the packets of its line.
 
 ghost use Rattle.std.specs.Io.KnownBytes.{Appends};
-ghost use Rattle.std.specs.Prelude.{◌≡◌, IfOk, OnOk, Option, Some, drop, codes, is_some, ◌++◌};
-ghost use Rattle.fwupd_watch.specs.Processes.{load_line};
+ghost use Rattle.std.specs.List.{list_any};
+ghost use Rattle.std.specs.Prelude.{[], ◌∷◌, ◌==◌, ◌≡◌, ◌⊎◌, IfOk, OnOk, Option, Some, drop, codes, false, is_some, true, ◌++◌};
+ghost use Rattle.fwup_wire.specs.Commands.{command_read};
+ghost use Rattle.fwupd_watch.specs.Processes.{event_of, event_of_request, is_success, load_line};
 ghost use Rattle.fwupd_watch.specs.Terminals.{erasure_of};
+ghost use Rattle.mctp_wire.specs.Packet.{packet_of};
+ghost use Rattle.mctp_wire.specs.declared.unit.Unit.TheVariants.{U128};
 
 use crate::progress::progress_line;
 use crate::terminal::{erase_line, is_due};
@@ -11,7 +15,7 @@ use fw_text::{push_number, push_words};
 use fwup_wire::code::command;
 use fwup_wire::{Command, Key};
 use fwupd_traces::{PacketObserver, WatchFault};
-use mctp_wire::{RawPacket, Unit};
+use mctp_wire::{Head, RawPacket, Unit};
 use pldm_base::TYPE_FIRMWARE_UPDATE;
 use std::alloc::{AllocError, Global};
 use std::io::{self, Print, Write};
@@ -41,51 +45,38 @@ enum Event {
     Activates(u8),
 }
 
-/// The offer in the request data of UpdateComponent (DSP0267): the component's classification and
-/// identifier, its classification index, its comparison stamp, and the size of its image.
-fn offered(device: u8, fields: &[u8]) -> Option<Event> {
-    let [
-        class_low,
-        class_high,
-        ident_low,
-        ident_high,
-        _,
-        _,
-        _,
-        _,
-        _,
-        size_0,
-        size_1,
-        size_2,
-        size_3,
-        ..
-    ] = fields
-    else {
-        return None;
-    };
-    Some(Event::Offers(Load {
-        device,
-        key: Key {
-            classification: u16::from_le_bytes([*class_low, *class_high]),
-            identifier: u16::from_le_bytes([*ident_low, *ident_high]),
-        },
-        asked: 0,
-        size: u32::from_le_bytes([*size_0, *size_1, *size_2, *size_3]),
-    }))
-}
-
-/// The end of the bytes that a device's RequestFirmwareData requests.
-fn asked(device: u8, fields: &[u8]) -> Option<Event> {
-    match fwup_wire::read(command::REQUEST_FIRMWARE_DATA, fields) {
+/// What a request of this command says of an update, between these endpoints.
+fn requested(head: Head, command: u8, fields: &[u8]) -> Option<Event>
+    ensures { result ≡ event_of_request head (command_read command fields.now) }
+{
+    match fwup_wire::read(command, fields) {
+        Ok(Command::UpdateComponent(offer)) => Some(Event::Offers(Load {
+            device: head.dest,
+            key: offer.key,
+            asked: 0,
+            size: offer.size,
+        })),
         Ok(Command::RequestFirmwareData { offset, length }) => {
-            Some(Event::Asks(device, offset.saturating_add(length)))
+            Some(Event::Asks(head.source, offset.saturating_add(length)))
         }
         _ => None,
     }
 }
 
+/// Whether an answer begins with the completion code of success.
+fn is_success(fields: &[u8]) -> bool
+    ensures { result ≡ is_success fields.now }
+{
+    match fields {
+        [code, ..] => *code == 0,
+        [] => false,
+    }
+}
+
 /// What a packet says of an update, if it says something of it.
-fn event_in(packet: &[u8]) -> Option<Event> {
+fn event_in(packet: &[u8]) -> Option<Event>
+    ensures { result ≡ event_of (packet_of U128 packet.now) }
+{
     let Ok(packet) = mctp_wire::decode(Unit::U128, packet) else {
         return None;
     };
@@ -95,14 +86,23 @@ fn event_in(packet: &[u8]) -> Option<Event> {
     if head.pldm_type != TYPE_FIRMWARE_UPDATE {
         return None;
     }
-    match (head.rq, head.command) {
-        (true, command::UPDATE_COMPONENT) => offered(packet.head.dest, fields),
-        (true, command::REQUEST_FIRMWARE_DATA) => asked(packet.head.source, fields),
-        (false, command::ACTIVATE_FIRMWARE) => match fields {
-            [0, ..] => Some(Event::Activates(packet.head.source)),
-            _ => None,
-        },
-        _ => None,
+    if head.rq {
+        return requested(packet.head, head.command, fields);
+    }
+    if head.command == command::ACTIVATE_FIRMWARE && is_success(fields) {
+        return Some(Event::Activates(packet.head.source));
+    }
+    None
+}
+
+/// Adds a device to those that are done, unless it is one of them.
+fn add_done(done: &mut Vec<u8>, device: u8)
+    ensures same { list_any (λ d. d == device) done.old.items ≡ true → done.new.items ≡ done.old.items }
+    ensures added { list_any (λ d. d == device) done.old.items ≡ false
+        → (done.new.items ≡ done.old.items ++ device ∷ []) ⊎ (done.new.items ≡ done.old.items) }
+{
+    if !done.contains(&device) {
+        let _ = done.push(device);
     }
 }
 
@@ -177,11 +177,7 @@ impl<'a> PacketProgress<'a> {
                 }
             }
             Some(Event::Asks(device, end)) => self.note_asked(device, end),
-            Some(Event::Activates(device)) => {
-                if !self.done.contains(&device) {
-                    let _ = self.done.push(device);
-                }
-            }
+            Some(Event::Activates(device)) => add_done(&mut self.done, device),
             None => {}
         }
     }

@@ -84,6 +84,7 @@ agent_usual forms =
 planning_usual : AllUsual (building plan).rules (building plan).rules
 planning_usual =
     set_usual _ _ refl refl refl (inr (_, refl))
+    also set_usual _ _ refl refl refl (inl refl)
     also flag_usual _ _ _ refl refl refl refl (inr (_, refl))
     also set_usual _ _ refl refl refl (inl refl)
     also help_usual _ _ refl refl refl refl
@@ -284,11 +285,11 @@ pub is_within : (forms : Forms) (words : List Text) (name : Text) (rows : List R
     → subcommand_of (command_line forms) words ≡ Some (name, rows) → AsksForJob name (given_by rows) job → IsWithinBounds job
 is_within forms words name rows (jobs.Answer endpoint) passed is asks = endpoint_within forms words name rows endpoint passed is asks.0 asks.1
 is_within forms words name rows (jobs.AnswerSerial endpoint) passed is asks = endpoint_within forms words name rows endpoint passed is asks.0 asks.1
-is_within forms words name rows (jobs.Plan config number form) passed is asks =
+is_within forms words name rows (jobs.Plan p) passed is asks =
     let here = subst (λ n. subcommand_of (command_line forms) words ≡ Some (n, rows)) asks.0 is in
     let only : OnlyNamed (codes "plan") (building plan) (built (command_line forms)).subs =
     inr refl also inr refl also inr refl also inl refl also inr refl also inr refl also inr refl also inr refl also inr refl also inr refl also inr refl also inr refl also tt in
-    plan_within rows number (rows_read forms words (codes "plan") rows (building plan) passed here only refl planning_usual) asks.2
+    plan_within rows p.number (rows_read forms words (codes "plan") rows (building plan) passed here only refl planning_usual) asks.1.number
 is_within forms words name rows (jobs.Run u) passed is asks =
     let here = subst (λ n. subcommand_of (command_line forms) words ≡ Some (n, rows)) asks.0 is in
     let only : OnlyNamed (codes "run") (building (run forms)) (built (command_line forms)).subs =

@@ -100,9 +100,9 @@ replay_rules forms =
     ∷ word_rule (codes "SCHEDULE")
     ∷ []
 
--- `fwupd plan [--package N] [--json] CONFIG`
+-- `fwupd plan [--package N] [--store STORE] [--json] CONFIG`
 abbrev pub plan_rules : List Rule
-plan_rules = package_rule ∷ flag_rule (codes "json") ∷ word_rule (codes "CONFIG") ∷ []
+plan_rules = package_rule ∷ given_option (codes "store") ∷ flag_rule (codes "json") ∷ word_rule (codes "CONFIG") ∷ []
 
 -- `fwupd run [OPTIONS] CONFIG FOLDER`, with the options of rough links last
 abbrev pub run_options : Forms → List Rule

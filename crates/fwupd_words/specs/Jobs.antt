@@ -1,7 +1,7 @@
 -- The job that a subcommand requests with its arguments.
 use Rattle.std.specs.Prelude.{ℕ, ◌≡◌, true, false, List, None, codes, option_map}
 use Rattle.fwupd_words.specs.Processes.{AsksAgentProcess, AsksDeviceProcess, AsksWire, agent_clash, device_clash}
-use Rattle.fwupd_words.specs.Words.{AsksAgent, AsksDevice, AsksEndpoint, AsksFlag, AsksForm, AsksKept, AsksNumber, AsksOrder, AsksShow, AsksSoak, AsksUnit, Given, text_under}
+use Rattle.fwupd_words.specs.Words.{AsksAgent, AsksDevice, AsksEndpoint, AsksFlag, AsksForm, AsksKept, AsksOrder, AsksPlan, AsksShow, AsksSoak, AsksUnit, Given, text_under}
 use Rattle.fwupd_words.specs.declared.asked.Job.{Job}
 use Rattle.fwupd_words.specs.declared.asked.Job.TheVariants as jobs
 
@@ -16,8 +16,7 @@ AsksForJob name words (jobs.Run u) =
     (name ≡ codes "run") × (u.config.now ≡ text_under words (codes "CONFIG")) × (u.folder.now ≡ text_under words (codes "FOLDER")) × AsksOrder words u.order × AsksShow words u.show
 AsksForJob name words (jobs.Sel file) = (name ≡ codes "sel") × (file.now ≡ text_under words (codes "FILE"))
 AsksForJob name words (jobs.Build spec file) = (name ≡ codes "build") × (spec.now ≡ text_under words (codes "SPEC")) × (file.now ≡ text_under words (codes "FILE"))
-AsksForJob name words (jobs.Plan config number form) =
-    (name ≡ codes "plan") × (config.now ≡ text_under words (codes "CONFIG")) × AsksNumber words number × AsksForm words form
+AsksForJob name words (jobs.Plan p) = (name ≡ codes "plan") × AsksPlan words p
 AsksForJob name words (jobs.Soak s) =
     (name ≡ codes "soak") × (s.config.now ≡ text_under words (codes "CONFIG")) × AsksSoak words s.order
     × (option_map (λ p. p.now) s.record ≡ words.first (codes "record"))

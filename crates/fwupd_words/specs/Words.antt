@@ -15,6 +15,7 @@ use Rattle.uuid.specs.Text.{parsed}
 use Rattle.fwupd_words.specs.declared.asked.AgentAlone.{AgentAlone}
 use Rattle.fwupd_words.specs.declared.asked.DeviceAlone.{DeviceAlone}
 use Rattle.fwupd_words.specs.declared.asked.Order.{Order}
+use Rattle.fwupd_words.specs.declared.asked.Plan.{Plan}
 use Rattle.fwupd_words.specs.declared.asked.Show.{Show}
 use Rattle.fwupd_words.specs.declared.asked.SoakOrder.{SoakOrder}
 use Rattle.fwupd_words.specs.declared.asked.TraceForm.{TraceForm}
@@ -65,6 +66,13 @@ pub record AsksForm (words : Given) (form : Form) : Type 0 where
 -- The number of a package, if it fits 32 bits.
 pub record AsksNumber (words : Given) (number : ℕ) : Type 0 where
   pub is : (text : List ℕ) → words.one (codes "package") ≡ Some text → IsNumeral 10 (without_leading_plus text) → number_of text < 2 ^ 32 → number ≡ number_of text
+
+-- The plan of an update.
+pub record AsksPlan (words : Given) (plan : Plan) : Type 0 where
+  pub config : plan.config.now ≡ text_under words (codes "CONFIG")
+  pub store : option_map (λ path. path.now) plan.store ≡ words.first (codes "store")
+  pub number : AsksNumber words plan.number
+  pub form : AsksForm words plan.form
 
 -- The format of a trace, by its name.
 pub record AsksTraceForm (words : Given) (form : TraceForm) : Type 0 where

@@ -31,14 +31,7 @@ pub enum Job<'a> {
         package: &'a str,
     },
     /// Print the plan of an update of the devices of a configuration.
-    Plan {
-        /// The path of the configuration.
-        config: &'a str,
-        /// The number of the package, from 1.
-        number: usize,
-        /// The format of the text.
-        form: Form,
-    },
+    Plan(Plan<'a>),
     /// Print the records of an event log.
     Sel {
         /// The path of the log.
@@ -74,6 +67,19 @@ pub struct Replay<'a> {
     pub schedule: &'a str,
     /// The outputs of the replay.
     pub show: Show<'a>,
+}
+
+/// The plan of an update of the devices of a configuration.
+#[derive(Clone, Copy)]
+pub struct Plan<'a> {
+    /// The path of the configuration.
+    pub config: &'a str,
+    /// The folder of the devices' stores, if their images persist. It is only read.
+    pub store: Option<&'a str>,
+    /// The number of the package, from 1.
+    pub number: usize,
+    /// The format of the text.
+    pub form: Form,
 }
 
 /// An update of the devices of a configuration over sockets.

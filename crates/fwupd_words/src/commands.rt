@@ -218,6 +218,10 @@ fn plan_command<'a>(alloc: Global) -> Result<Command<'a>, AllocError>
 {
     let args = vec![in alloc;
         package_option(alloc),
+        store_option(
+            alloc,
+            "Reads what runs from a folder, in which nothing is written"
+        ),
         json_option(alloc),
         config_word(alloc),
     ]?;

@@ -282,7 +282,7 @@ usage.";
 pub(crate) const PLAN_HELP: &str = "\
 Examples:
   fwupd plan examples/one.config
-  fwupd plan --package 2 my.config
+  fwupd plan --package 2 --store out/store my.config
 
 CONFIG is that of 'fwupd replay --help'. A device has these lines:
   device EID package N record R set TEXT WORD
@@ -316,6 +316,9 @@ The outcome of a component:
   skip unsupported    the device has no such component
 A stamp FFFFFFFF is compared with none: the component's option bit 1 is clear,
 or it is its stamp.
+
+--store begins with the images that 'fwupd run --store' has left there, as
+'fwupd replay --help' says.
 
 Status: 0, also where an update would fail; 1 if standard error says
 'fwupd: package: none', as CONFIG names fewer packages, or a fault of 'replay';

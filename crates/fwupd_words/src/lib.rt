@@ -12,7 +12,7 @@ mod reading;
 mod values;
 
 pub use asked::{
-    AgentAlone, DeviceAlone, Job, Order, Replay, Show, Soak, SoakOrder, TraceForm, Update,
+    AgentAlone, DeviceAlone, Job, Order, Plan, Replay, Show, Soak, SoakOrder, TraceForm, Update,
 };
 pub use processes::{AgentProcess, DeviceProcess, Serving, Watching, Wire};
 pub use reading::parse;

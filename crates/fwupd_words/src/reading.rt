@@ -8,7 +8,7 @@ ghost use Rattle.fwupd_words.specs.Reading.{FindsSubcommand, ReadsWords, Refuses
 ghost use Rattle.fwupd_words.specs.Jobs.{AsksForJob};
 ghost use Rattle.fwupd_words.specs.Words.{AsksEndpoint, AsksKept, AsksNumber, AsksOrder, AsksRoughness, AsksRuns, AsksSeed, AsksSoak, AsksUnit, given_in};
 
-use crate::asked::{Job, Order, Replay, Show, Soak, SoakOrder, Update};
+use crate::asked::{Job, Order, Plan, Replay, Show, Soak, SoakOrder, Update};
 use crate::commands::command;
 use crate::nodes::{agent_in, device_in};
 use crate::values::{form_in, refusal, small_under, text_under, trace_form_in};
@@ -165,11 +165,12 @@ fn job_of<'a>(alloc: Global, name: &str, matches: &ArgMatches<'a>) -> Result<Job
             schedule: text_under(matches, "SCHEDULE"),
             show: show_in(matches, true, None),
         })),
-        "plan" => Ok(Job::Plan {
+        "plan" => Ok(Job::Plan(Plan {
             config: text_under(matches, "CONFIG"),
+            store: matches.get_str("store"),
             number: package_number(matches),
             form: form_in(matches),
-        }),
+        })),
         "run" => Ok(Job::Run(Update {
             config: text_under(matches, "CONFIG"),
             folder: text_under(matches, "FOLDER"),

@@ -13,8 +13,8 @@ use fw_world::{Step, World};
 use fwupd_base::{Form, Roughness};
 use fwupd_jobs::{
     Beginning, DeviceProcess, FileFault, FileIdentity, Files, Host, JobFault, Joined, Network,
-    Observer, ObserverFault, Order, Output, PacketTrace, Parts, Serving, Show, TraceForm, Update,
-    Watching, WholeFiles, Wire, Wires, Wiring, plan_file, update_checked,
+    Observer, ObserverFault, Order, Output, PacketTrace, Parts, Plan, Serving, Show, TraceForm,
+    Update, Watching, WholeFiles, Wire, Wires, Wiring, plan_file, update_checked,
 };
 use fwupd_nodes::Observed;
 use fwupd_watch::{SystemCalls, system_places};
@@ -540,9 +540,13 @@ fn planned(
     let end = plan_file(
         rt.alloc(),
         &MemFiles { files: &files },
-        "c",
-        number,
-        Form::Text,
+        &SystemStores::new(rt),
+        Plan {
+            config: "c",
+            store: None,
+            number,
+            form: Form::Text,
+        },
         &mut output,
     );
     outcome(rt, end, output.into_writer())

@@ -58,4 +58,4 @@ pub returns-in-Err-make_folders-clause-fault : goal.returns-in-Err-make_folders-
 returns-in-Err-make_folders-clause-fault g c =
     let s = stores_in (g.S.Stores.is_known c.args.stores.now) (g.S.Stores.files c.args.stores.now) c.args.root.now in
     unmade_so s (map device_of c.args.devices.now) (map device_of c.loop-device.devices) _
-    (seen_all s c.args.devices.now c.loop-device.devices c.loop-device.device-index (omega arith) c.loop-device.invariant.kept) c.in-Err-make_folders.ensures
+    (seen_all s c.args.devices.now c.loop-device.devices c.loop-device.device-index (omega arith) c.loop-device.invariant.kept) c.in-Err-make_folders.ensures.fault

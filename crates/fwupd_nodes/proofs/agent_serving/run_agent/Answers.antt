@@ -1,4 +1,4 @@
-use Rattle.std.proofs.Common.{◌∷◌, map, sym}
+use Rattle.std.proofs.Common.{◌∷◌, map, refl, sym}
 use Rattle.std.specs.Prelude.{string_bytes}
 use Rattle.fw_script.specs.Seen.{config_seen}
 use Rattle.fwupd_nodes.specs.Processes.{agent_shows}
@@ -25,17 +25,17 @@ returns-clause-runs g c =
 
 pub returns-in-Err-check_outputs-clause-fault : goal.returns-in-Err-check_outputs-clause-fault
 returns-in-Err-check_outputs-clause-fault g c =
-    agent_overwrites c.args.job.now c.in-Err-check_outputs.fault (config_seen c.in-Ok.config) (g.H.Files.Files.holds c.args.host.now.files) c.args.host.now.output c.in-Ok.ensures.says
-    (rw (sym c.as_slice-packages.ensures.value) c.in-Err-check_outputs.ensures.fault)
+    agent_overwrites c.args.job.now c.in-Err-check_outputs.fault (config_seen c.in-Ok.config) (g.H.Files.Files.holds c.args.host.now.files) _ c.args.host.now.output _ c.in-Ok.ensures.says
+    (rw (sym c.as_slice-packages.ensures.value) c.in-Err-check_outputs.ensures.fault) refl
 
 pub returns-in-Err-package_files-clause-fault : goal.returns-in-Err-package_files-clause-fault
 returns-in-Err-package_files-clause-fault g c =
-    agent_lacks c.args.job.now c.in-Err-package_files.fault (config_seen c.in-Ok.config) (g.H.Files.Files.holds c.args.host.now.files) c.args.host.now.output c.in-Ok.ensures.says
-    (rw (sym c.as_slice-packages.ensures.value) c.in-Ok-check_outputs.ensures.apart) (rw (sym c.as_slice-packages.ensures.value) c.in-Err-package_files.ensures.fault)
+    agent_lacks c.args.job.now c.in-Err-package_files.fault (config_seen c.in-Ok.config) (g.H.Files.Files.holds c.args.host.now.files) _ c.args.host.now.output _ c.in-Ok.ensures.says
+    (rw (sym c.as_slice-packages.ensures.value) c.in-Ok-check_outputs.ensures.apart) (rw (sym c.as_slice-packages.ensures.value) c.in-Err-package_files.ensures.fault) refl
 
 pub returns-clause-fault : goal.returns-clause-fault
 returns-clause-fault g c =
-    agent_stops c.serve_packages.result c.args.job.now (config_seen c.in-Ok.config) (g.H.Files.Files.holds c.args.host.now.files) (map (λ f. f.items) c.as_slice.result.now)
-    c.args.host.now.output c.serve_packages.new.host.output c.in-Ok.ensures.says
+    agent_stops c.serve_packages.result c.args.job.now (config_seen c.in-Ok.config) (g.H.Files.Files.holds c.args.host.now.files) _ (map (λ f. f.items) c.as_slice.result.now) _ _ c.in-Ok.ensures.says
     (rw (sym c.as_slice-packages.ensures.value) c.in-Ok-check_outputs.ensures.apart)
     (rw (c.as_slice.ensures.value, sym c.as_slice-packages.ensures.value) c.in-Ok-package_files.ensures.packed)
+    c.serve_packages.ensures.fault
