@@ -17,7 +17,7 @@ _fwupd() {
             answer:-*) words="--uuid --serial --help" ;;
             inspect:-*) words="--json --help" ;;
             replay:-*) words="--trace --trace-format --sel --store --json --help" ;;
-            plan:-*) words="--package --json --help" ;;
+            plan:-*) words="--package --store --json --help" ;;
             run:-*) words="--package --check --quiet --trace --trace-format --sel --record --store --json --loss --duplicate --delay --seed --help" ;;
             soak:-*) words="--runs --record --loss --duplicate --delay --seed --help" ;;
             sel:-*) words="--help" ;;
