@@ -2,7 +2,7 @@
 _fwupd() {
     local word=${COMP_WORDS[COMP_CWORD]} before=${COMP_WORDS[COMP_CWORD - 1]} words=""
     if ((COMP_CWORD == 1)); then
-        words="answer inspect replay plan run soak sel build device agent decode help --help --version"
+        words="answer inspect replay plan run soak sel build device agent decode status help --help --version"
         mapfile -t COMPREPLY < <(compgen -W "$words" -- "$word")
         return
     fi
@@ -12,19 +12,20 @@ _fwupd() {
         device:--trace-format) words="hex text pcap" ;;
         agent:--trace-format) words="hex text pcap" ;;
         decode:--unit) words="64 128" ;;
-        help:*) words="answer inspect replay plan run soak sel build device agent decode" ;;
+        help:*) words="answer inspect replay plan run soak sel build device agent decode status" ;;
         *) case ${COMP_WORDS[1]}:$word in
             answer:-*) words="--uuid --serial --help" ;;
-            inspect:-*) words="--json --help" ;;
+            inspect:-*) words="--digest --json --help" ;;
             replay:-*) words="--trace --trace-format --sel --store --json --help" ;;
             plan:-*) words="--package --store --json --help" ;;
-            run:-*) words="--package --check --quiet --trace --trace-format --sel --record --store --json --loss --duplicate --delay --seed --help" ;;
-            soak:-*) words="--runs --record --loss --duplicate --delay --seed --help" ;;
-            sel:-*) words="--help" ;;
-            build:-*) words="--help" ;;
+            run:-*) words="--package --device --check --quiet --trace --trace-format --sel --record --store --json --loss --duplicate --delay --seed --help" ;;
+            soak:-*) words="--runs --record --json --loss --duplicate --delay --seed --help" ;;
+            sel:-*) words="--json --help" ;;
+            build:-*) words="--json --help" ;;
             device:-*) words="--auto --open --store --report --listen --take-over --tty --tick --ticks --trace --trace-format --record --help --listen --tty" ;;
             agent:-*) words="--auto --open --sel --store --report --connect --package --check --json --tty --tick --ticks --trace --trace-format --record --help --connect --tty" ;;
             decode:-*) words="--unit --json --help" ;;
+            status:-*) words="--store --json --help" ;;
         esac ;;
     esac
     if [[ $words ]]; then

@@ -3,7 +3,10 @@ mod Numbers
 mod Reading
 mod Said
 mod Inspected
+mod Digested
+mod EventLogged
 mod Reported
 mod NodesAlone
 mod Planned
+mod StatusDepths
 mod DecodedDepths

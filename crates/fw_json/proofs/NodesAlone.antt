@@ -2,7 +2,6 @@
 use Rattle.std.proofs.Common.{◌≤◌, ℕ, List, Option, arith, length, option_and_then, option_map}
 use Rattle.json.specs.Json.{max_depth, string}
 use Rattle.json.specs.Tree.{depth, items_depth}
-use Rattle.fd_core.specs.States.{DeviceState}
 use Rattle.fw_message.specs.Worlds.{NotedOf}
 use Rattle.fw_node.specs.Agents.{AgentOf}
 use Rattle.fw_node.specs.Nodes.{DeviceNodeOf}

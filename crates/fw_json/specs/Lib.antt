@@ -3,6 +3,9 @@ pub mod Decoded
 pub mod Values
 pub mod Writing
 pub mod Inspections
+pub mod Digests
+pub mod EventLogs
 pub mod Reports
 pub mod Plans
+pub mod Statuses
 pub mod Forms

@@ -4,6 +4,7 @@ use Rattle.std.specs.List.{flat_map}
 use Rattle.hex.specs.Hex.{encode_upper}
 use Rattle.json.specs.Json.{Json, document, null, number, string, object, Items, no_items, item, Members, no_members, member}
 use Rattle.json.specs.Print.{print}
+use Rattle.json.specs.Token.{Token, key}
 use Rattle.json.specs.Tree.{json_tokens}
 use Rattle.fw_text.specs.Printing.{escaped_byte}
 
@@ -14,6 +15,11 @@ members (m ∷ ms) = member m.0 m.1 (members ms)
 
 abbrev pub object_of : List (List ℕ × Json) → Json
 object_of ms = object (members ms)
+
+-- the tokens of members, without the end of the object
+abbrev pub field_tokens : List (List ℕ × Json) → List Token
+field_tokens [] = []
+field_tokens (m ∷ ms) = key m.0 ∷ (json_tokens m.1 ++ field_tokens ms)
 
 -- the items of an array: the values of the listed things, in order
 abbrev pub items : {A : Type 0} → (A → Json) → List A → Items

@@ -1,14 +1,15 @@
 //! The inspection of a package as a JSON value.
 
-ghost use Rattle.std.specs.Prelude.{◌≡◌, ◌≢◌, ◌+◌, Err, IfErr, IfOk, IsOk, List, OnOk, Ok, ℕ};
+ghost use Rattle.std.specs.Prelude.{◌≡◌, ◌≢◌, ◌+◌, ◌∷◌, Err, IfErr, IfOk, IsOk, List, OnOk, Ok, ℕ};
 ghost use Rattle.std.specs.Result.{result_map_both};
+ghost use Rattle.json.specs.Token.{begin_object};
 ghost use Rattle.json.specs.Tree.{items_tokens, json_tokens};
 ghost use Rattle.fw_package.specs.Lent.{place_seen, record_seen};
 ghost use Rattle.fw_package.specs.Outlines.{IsBeginning};
 ghost use Rattle.fw_package.specs.Package.{descriptor_of};
 ghost use Rattle.fw_package.specs.Reading.{package_of};
-ghost use Rattle.fw_json.specs.Inspections.{component_value, descriptor_value, inspection_value, outline_value, record_value, use_value};
-ghost use Rattle.fw_json.specs.Values.{ReadsBack, numbered_items, items, line_of};
+ghost use Rattle.fw_json.specs.Inspections.{component_members, component_value, descriptor_value, heading_members, inspection_value, outline_value, record_value, use_value};
+ghost use Rattle.fw_json.specs.Values.{ReadsBack, field_tokens, numbered_items, items, line_of};
 ghost use Rattle.fw_json.specs.Writing.{AppendsTokens};
 
 use crate::fields::{
@@ -87,7 +88,7 @@ fn push_record(
 
 /// Writes all records, and ends the array.
 #[tactic(auto, using(crate::proofs::Chains::telling))]
-fn push_records(
+pub(crate) fn push_records(
     alloc: Global,
     writer: &mut Writer,
     mut records: Records<'_>,
@@ -104,14 +105,15 @@ fn push_records(
     Ok(())
 }
 
-/// Writes a component.
-fn push_component(
+/// Begins the object of a component, and writes the members of each component.
+pub(crate) fn push_component_members(
     alloc: Global,
     writer: &mut Writer,
     number: usize,
-    contents: Place<'_>,
+    contents: &Place<'_>,
 ) -> Result<(), AllocError>
-    ensures { OnOk result (AppendsTokens writer.old writer.new (json_tokens (component_value number (place_seen contents.entry)))) }
+    ensures { OnOk result (AppendsTokens writer.old writer.new
+        (begin_object ∷ field_tokens (component_members number (place_seen contents.now)))) }
 {
     open_object(writer)?;
     push_number_field(writer, "number", number)?;
@@ -123,9 +125,24 @@ fn push_component(
     push_number_field(writer, "identifier", usize::from(contents.identifier))?;
     push_number_field(writer, "stamp", contents.stamp as usize)?;
     push_number_field(writer, "options", usize::from(contents.options))?;
+    push_number_field(writer, "activation_methods", usize::from(contents.method))?;
     push_number_field(writer, "offset", contents.offset)?;
     push_number_field(writer, "size", contents.size)?;
     push_text_field(alloc, writer, "version", contents.text.bytes)?;
+    Ok(())
+}
+
+/// Writes a component.
+#[tactic(auto, unfolding(crate::specs::Inspections::component_members, crate::specs::Inspections::component_value))]
+fn push_component(
+    alloc: Global,
+    writer: &mut Writer,
+    number: usize,
+    contents: Place<'_>,
+) -> Result<(), AllocError>
+    ensures { OnOk result (AppendsTokens writer.old writer.new (json_tokens (component_value number (place_seen contents.entry)))) }
+{
+    push_component_members(alloc, writer, number, &contents)?;
     close_object(writer)?;
     Ok(())
 }
@@ -149,6 +166,25 @@ fn push_components(
     Ok(())
 }
 
+/// Begins the object of a package, and writes its first members.
+pub(crate) fn push_heading(
+    alloc: Global,
+    writer: &mut Writer,
+    header_size: usize,
+    release: &[u8],
+    version: &[u8],
+) -> Result<(), AllocError>
+    ensures { OnOk result (AppendsTokens writer.old writer.new
+        (begin_object ∷ field_tokens (heading_members header_size release.now version.now))) }
+{
+    open_object(writer)?;
+    push_word_field(writer, "format", "fwupd-inspect/1")?;
+    push_number_field(writer, "header_size", header_size)?;
+    push_digits_field(alloc, writer, "release", release)?;
+    push_text_field(alloc, writer, "version", version)?;
+    Ok(())
+}
+
 /// Writes a package.
 fn push_package(
     alloc: Global,
@@ -157,9 +193,13 @@ fn push_package(
 ) -> Result<(), AllocError>
     ensures { OnOk result (AppendsTokens writer.old writer.new (json_tokens (outline_value contents.now))) }
 {
-    open_object(writer)?;
-    push_word_field(writer, "format", "fwupd-inspect/1")?;
-    push_number_field(writer, "header_size", contents.header_size())?;
+    push_heading(
+        alloc,
+        writer,
+        contents.header_size(),
+        contents.release(),
+        contents.version().bytes,
+    )?;
     open_array_field(writer, "records")?;
     push_records(alloc, writer, contents.records())?;
     open_array_field(writer, "components")?;

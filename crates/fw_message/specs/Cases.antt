@@ -20,7 +20,7 @@ fabric = record { classification = 10; identifier = 2 }
 
 abbrev pub component : Key → List ℕ → ComponentOf
 component key image =
-    record { classification = key.classification; identifier = key.identifier; stamp = 2; options = 0; offset = 0; text = no_text; image = image }
+    record { classification = key.classification; identifier = key.identifier; stamp = 2; options = 0; method = 0; offset = 0; text = no_text; image = image }
 
 -- a record for the device, with only its package's first component
 abbrev pub first_alone : RecordOf
@@ -35,8 +35,8 @@ new_fabric = 4 ∷ 5 ∷ []
 
 abbrev pub packages : List PackageText
 packages =
-    record { header_size = 100; records = first_alone ∷ []; components = component boot new_boot ∷ component fabric new_fabric ∷ [] }
-    ∷ record { header_size = 100; records = first_alone ∷ []; components = component fabric new_fabric ∷ [] }
+    record { header_size = 100; release = []; version = no_text; records = first_alone ∷ []; components = component boot new_boot ∷ component fabric new_fabric ∷ [] }
+    ∷ record { header_size = 100; release = []; version = no_text; records = first_alone ∷ []; components = component fabric new_fabric ∷ [] }
     ∷ []
 
 abbrev pub keyed_image : Key → List ℕ → KeyedImage

@@ -13,9 +13,9 @@
 -- - Senders: only the agent and its devices send.
 -- - Time: of any nine units of time in a row, a node counts at least eight as its ticks.
 --
--- This page included, it rests on 59 definitions, 188 lines in 7 files, without the standard
+-- This page included, it rests on 59 definitions, 191 lines in 7 files, without the standard
 -- library's. To be read first, in this order, with the lines that it needs of each:
--- 1. `crates/fw_package/specs/Package.antt`, 23 lines: `PackageText`, an update package.
+-- 1. `crates/fw_package/specs/Package.antt`, 26 lines: `PackageText`, an update package.
 -- 2. `crates/fw_package/specs/Choice.antt`, 28 lines: `image_for`, the image that it names.
 -- 3. `crates/fwup_wire/src/values.rt`, 4 lines: `Key`, which names a component of a device.
 -- 4. `crates/fd_core/specs/Images.antt`, 16 lines: `RowOf`, a component's two images.

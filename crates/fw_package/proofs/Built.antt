@@ -240,7 +240,7 @@ component_built file bytes c h long =
       part = c0 ∷ c1 ∷ i0 ∷ i1 ∷ s0 ∷ s1 ∷ s2 ∷ s3 ∷ o0 ∷ o1 ∷ m0 ∷ m1 ∷ f0 ∷ f1 ∷ f2 ∷ f3 ∷ z0 ∷ z1 ∷ z2 ∷ z3 ∷ kind ∷ t ∷ take t xs;
       is = ap (λ ys. c0 ∷ c1 ∷ i0 ∷ i1 ∷ s0 ∷ s1 ∷ s2 ∷ s3 ∷ o0 ∷ o1 ∷ m0 ∷ m1 ∷ f0 ∷ f1 ∷ f2 ∷ f3 ∷ z0 ∷ z1 ∷ z2 ∷ z3 ∷ kind ∷ t ∷ ys) (sym (take-append-drop t xs) ∙ ap (λ zs. take t xs ++ zs) (drop-drop t 22 (c0 ∷ c1 ∷ i0 ∷ i1 ∷ s0 ∷ s1 ∷ s2 ∷ s3 ∷ o0 ∷ o1 ∷ m0 ∷ m1 ∷ f0 ∷ f1 ∷ f2 ∷ f3 ∷ z0 ∷ z1 ∷ z2 ∷ z3 ∷ kind ∷ t ∷ xs)));
       holds = subst (IsComponent file (c0 ∷ c1 ∷ i0 ∷ i1 ∷ s0 ∷ s1 ∷ s2 ∷ s3 ∷ o0 ∷ o1 ∷ m0 ∷ m1 ∷ f0 ∷ f1 ∷ f2 ∷ f3 ∷ z0 ∷ z1 ∷ z2 ∷ z3 ∷ kind ∷ t ∷ take t xs)) split.1
-          (refl, refl, refl, refl, refl, refl, refl, sym texted, ltb-false (length file) (offset + size) split.0, refl);
+          (refl, refl, refl, refl, refl, refl, refl, refl, sym texted, ltb-false (length file) (offset + size) split.0, refl);
     }) bytes (omega arith) h long
 
 pub record ComponentsBuilt (file : List ℕ) (n : ℕ) (bytes : List ℕ) (cs : List ComponentOf) (rest : List ℕ) : Type 0 where

@@ -8,8 +8,8 @@ use Rattle.fw_package.specs.Crc.{crc_of}
 use Rattle.fw_package.specs.Components.{components_of}
 use Rattle.fw_package.specs.Grammar.{AreInTurn, IsComponent, IsPackage, IsRecord, four_bytes, two_bytes}
 use Rattle.fw_package.specs.Layout.{after_components, after_records, layout_of}
-use Rattle.fw_package.specs.Package.{ComponentOf, PackageText, RecordOf}
-use Rattle.fw_package.specs.Reading.{bitmap_size_of, header_before_checksum, header_of, package_identifier, package_of}
+use Rattle.fw_package.specs.Package.{ComponentOf, PackageText, RecordOf, TextOf}
+use Rattle.fw_package.specs.Reading.{bitmap_size_of, header_before_checksum, header_of, package_identifier, package_of, release_of, version_of}
 use Rattle.fw_package.specs.Records.{records_of}
 use Rattle.fw_package.proofs.Parts.{after_front, components_reads, components_walked, drop_front, records_reads, records_walked, take_front}
 
@@ -23,15 +23,17 @@ abbrev pub before_of : (h0 h1 : ℕ) (release tail : List ℕ) → List ℕ
 before_of h0 h1 release tail = package_identifier ++ 1 ∷ h0 ∷ h1 ∷ (release ++ tail)
 
 -- the places of the fixed part
-record HasPlaces (h0 h1 b0 b1 kind t : ℕ) (rest bytes : List ℕ) : Type 0 where
+record HasPlaces (h0 h1 b0 b1 kind t : ℕ) (release rest bytes : List ℕ) : Type 0 where
   long : 36 ≤ length bytes
   header : header_of bytes ≡ (if nat_lt (length bytes) (two_bytes h0 h1) then Err faults.HeaderSize else Ok (take (two_bytes h0 h1) bytes))
   bits : little_number 2 (drop 32 bytes) ≡ two_bytes b0 b1
+  released : take 13 (drop 19 bytes) ≡ release
+  kind_is : slice_index bytes 34 ≡ kind
   text : slice_index bytes 35 ≡ t
   after : drop 36 bytes ≡ rest
 
 places_at : (h0 h1 b0 b1 kind t : ℕ) (rest : List ℕ) (a b c d e f g h i j k l m : ℕ)
-    → HasPlaces h0 h1 b0 b1 kind t rest (before_of h0 h1 (a ∷ b ∷ c ∷ d ∷ e ∷ f ∷ g ∷ h ∷ i ∷ j ∷ k ∷ l ∷ m ∷ []) (b0 ∷ b1 ∷ kind ∷ t ∷ rest))
+    → HasPlaces h0 h1 b0 b1 kind t (a ∷ b ∷ c ∷ d ∷ e ∷ f ∷ g ∷ h ∷ i ∷ j ∷ k ∷ l ∷ m ∷ []) rest (before_of h0 h1 (a ∷ b ∷ c ∷ d ∷ e ∷ f ∷ g ∷ h ∷ i ∷ j ∷ k ∷ l ∷ m ∷ []) (b0 ∷ b1 ∷ kind ∷ t ∷ rest))
 unfolding header_of
 places_at h0 h1 b0 b1 kind t rest a b c d e f g h i j k l m =
     let bytes : List ℕ = before_of h0 h1 (a ∷ b ∷ c ∷ d ∷ e ∷ f ∷ g ∷ h ∷ i ∷ j ∷ k ∷ l ∷ m ∷ []) (b0 ∷ b1 ∷ kind ∷ t ∷ rest) in
@@ -40,13 +42,15 @@ places_at h0 h1 b0 b1 kind t rest a b c d e f g h i j k l m =
       long = enough;
       header = rw (le-ltb (length bytes) 36 enough) refl;
       bits = refl;
+      released = refl;
+      kind_is = refl;
       text = refl;
       after = refl;
     }
 
-places : (h0 h1 b0 b1 kind t : ℕ) (release rest : List ℕ) → length release ≡ 13 → HasPlaces h0 h1 b0 b1 kind t rest (before_of h0 h1 release (b0 ∷ b1 ∷ kind ∷ t ∷ rest))
+places : (h0 h1 b0 b1 kind t : ℕ) (release rest : List ℕ) → length release ≡ 13 → HasPlaces h0 h1 b0 b1 kind t release rest (before_of h0 h1 release (b0 ∷ b1 ∷ kind ∷ t ∷ rest))
 places h0 h1 b0 b1 kind t release rest =
-    thirteen (λ r. HasPlaces h0 h1 b0 b1 kind t rest (before_of h0 h1 r (b0 ∷ b1 ∷ kind ∷ t ∷ rest))) (λ a b c d e f g h i j k l m. places_at h0 h1 b0 b1 kind t rest a b c d e f g h i j k l m) release
+    thirteen (λ r. HasPlaces h0 h1 b0 b1 kind t r rest (before_of h0 h1 r (b0 ∷ b1 ∷ kind ∷ t ∷ rest))) (λ a b c d e f g h i j k l m. places_at h0 h1 b0 b1 kind t rest a b c d e f g h i j k l m) release
 
 pub before_more : (h0 h1 : ℕ) (release tail more : List ℕ) → before_of h0 h1 release tail ++ more ≡ before_of h0 h1 release (tail ++ more)
 before_more h0 h1 release tail more = ap (λ r. package_identifier ++ 1 ∷ h0 ∷ h1 ∷ r) (append_assoc release tail more)
@@ -65,8 +69,8 @@ header_reads : (h0 h1 b0 b1 kind t size : ℕ) (release tail sum after : List �
 header_reads h0 h1 b0 b1 kind t size release tail sum after fits four whole =
     let before : List ℕ = before_of h0 h1 release (b0 ∷ b1 ∷ kind ∷ t ∷ tail) in
     let bytes : List ℕ = before ++ (sum ++ after) in
-    let at : HasPlaces h0 h1 b0 b1 kind t (tail ++ (sum ++ after)) bytes
-    = subst (HasPlaces h0 h1 b0 b1 kind t (tail ++ (sum ++ after))) (sym (before_more h0 h1 release (b0 ∷ b1 ∷ kind ∷ t ∷ tail) (sum ++ after))) (places h0 h1 b0 b1 kind t release (tail ++ (sum ++ after)) fits) in
+    let at : HasPlaces h0 h1 b0 b1 kind t release (tail ++ (sum ++ after)) bytes
+    = subst (HasPlaces h0 h1 b0 b1 kind t release (tail ++ (sum ++ after))) (sym (before_more h0 h1 release (b0 ∷ b1 ∷ kind ∷ t ∷ tail) (sum ++ after))) (places h0 h1 b0 b1 kind t release (tail ++ (sum ++ after)) fits) in
     let all = length-append before (sum ++ after) in
     let more = length-append sum after in
     let signed = length-append before sum in
@@ -83,7 +87,7 @@ unfolding layout_of
 layout_reads h0 h1 b0 b1 kind m n0 n1 size count release version records components sum file rs cs fits four ms ns recorded composed =
     let rest : List ℕ = tail_of m n0 n1 version records (components ++ sum) in
     let header : List ℕ = before_of h0 h1 release (b0 ∷ b1 ∷ kind ∷ length version ∷ rest) in
-    let at : HasPlaces h0 h1 b0 b1 kind (length version) rest header = places h0 h1 b0 b1 kind (length version) release rest fits in
+    let at : HasPlaces h0 h1 b0 b1 kind (length version) release rest header = places h0 h1 b0 b1 kind (length version) release rest fits in
     let after_fixed : length (drop 36 header) ≡ length header - 36 = length-drop 36 header in
     let tail_long : length (drop 36 header) ≡ length rest = ap length at.after in
     let version_long = length-append version (m ∷ (records ++ n0 ∷ n1 ∷ (components ++ sum))) in
@@ -109,20 +113,25 @@ checked_reads x0 x1 x2 x3 before signed =
     let back : drop (length (before ++ x0 ∷ x1 ∷ x2 ∷ x3 ∷ []) - 4) (before ++ x0 ∷ x1 ∷ x2 ∷ x3 ∷ []) ≡ x0 ∷ x1 ∷ x2 ∷ x3 ∷ [] = drop_front before (x0 ∷ x1 ∷ x2 ∷ x3 ∷ []) (length (before ++ x0 ∷ x1 ∷ x2 ∷ x3 ∷ []) - 4) (omega arith) in
     rw (front, back, eq-eqb (crc_of before) (four_bytes x0 x1 x2 x3) (sym signed)) refl
 
+-- the version text, by its places
+version_reads : (v : TextOf) (header rest : List ℕ) → slice_index header 34 ≡ v.kind → slice_index header 35 ≡ length v.bytes → drop 36 header ≡ v.bytes ++ rest → version_of header ≡ v
+version_reads v header rest kind long after = rw (kind, long, after, take_front v.bytes rest (length v.bytes) refl) refl
+
 pub package_reads : (bytes : List ℕ) (p : PackageText) → IsPackage bytes p → package_of bytes ≡ Ok p
 unfolding package_of
 package_reads bytes p k =
+    let version : List ℕ = p.version.bytes in
     let sum : List ℕ = k.x0 ∷ k.x1 ∷ k.x2 ∷ k.x3 ∷ [] in
-    let tail : List ℕ = tail_of k.m k.n0 k.n1 k.version k.records k.components in
-    let before : List ℕ = before_of k.h0 k.h1 k.release (k.b0 ∷ k.b1 ∷ k.kind ∷ length k.version ∷ tail) in
+    let tail : List ℕ = tail_of k.m k.n0 k.n1 version k.records k.components in
+    let before : List ℕ = before_of k.h0 k.h1 p.release (k.b0 ∷ k.b1 ∷ p.version.kind ∷ length version ∷ tail) in
     let whole : two_bytes k.h0 k.h1 ≡ length before + 4 = k.size ∙ k.whole ∙ ap (λ xs. length xs + 4) k.before_is in
     let header_is : header_of bytes ≡ Ok (before ++ sum) = ap header_of (k.bytes_are ∙ ap (λ xs. xs ++ (sum ++ k.after)) k.before_is)
-    ∙ header_reads k.h0 k.h1 k.b0 k.b1 k.kind (length k.version) 0 k.release tail sum k.after k.release_fits refl whole in
-    let spelled : before ++ sum ≡ before_of k.h0 k.h1 k.release (k.b0 ∷ k.b1 ∷ k.kind ∷ length k.version ∷ tail_of k.m k.n0 k.n1 k.version k.records (k.components ++ sum)) =
-    before_more k.h0 k.h1 k.release (k.b0 ∷ k.b1 ∷ k.kind ∷ length k.version ∷ tail) sum
-    ∙ ap (λ xs. before_of k.h0 k.h1 k.release (k.b0 ∷ k.b1 ∷ k.kind ∷ length k.version ∷ xs)) (tail_more k.m k.n0 k.n1 k.version k.records k.components sum) in
-    let layout_is = ap layout_of spelled ∙ layout_reads k.h0 k.h1 k.b0 k.b1 k.kind k.m k.n0 k.n1 (two_bytes k.b0 k.b1 / 8) (length p.components) k.release k.version k.records k.components sum bytes p.records p.components k.release_fits refl k.record_count k.component_count k.recorded k.composed in
-    let at = places k.h0 k.h1 k.b0 k.b1 k.kind (length k.version) k.release (tail_of k.m k.n0 k.n1 k.version k.records (k.components ++ sum)) k.release_fits in
+    ∙ header_reads k.h0 k.h1 k.b0 k.b1 p.version.kind (length version) 0 p.release tail sum k.after k.release_fits refl whole in
+    let spelled : before ++ sum ≡ before_of k.h0 k.h1 p.release (k.b0 ∷ k.b1 ∷ p.version.kind ∷ length version ∷ tail_of k.m k.n0 k.n1 version k.records (k.components ++ sum)) =
+    before_more k.h0 k.h1 p.release (k.b0 ∷ k.b1 ∷ p.version.kind ∷ length version ∷ tail) sum
+    ∙ ap (λ xs. before_of k.h0 k.h1 p.release (k.b0 ∷ k.b1 ∷ p.version.kind ∷ length version ∷ xs)) (tail_more k.m k.n0 k.n1 version k.records k.components sum) in
+    let layout_is = ap layout_of spelled ∙ layout_reads k.h0 k.h1 k.b0 k.b1 p.version.kind k.m k.n0 k.n1 (two_bytes k.b0 k.b1 / 8) (length p.components) p.release version k.records k.components sum bytes p.records p.components k.release_fits refl k.record_count k.component_count k.recorded k.composed in
+    let at = places k.h0 k.h1 k.b0 k.b1 p.version.kind (length version) p.release (tail_of k.m k.n0 k.n1 version k.records (k.components ++ sum)) k.release_fits in
     let bits : little_number 2 (drop 32 (before ++ sum)) ≡ two_bytes k.b0 k.b1 = ap (λ xs. little_number 2 (drop 32 xs)) spelled ∙ at.bits in
     let bitmap_is : bitmap_size_of (two_bytes k.b0 k.b1) (length p.components) ≡ Ok (two_bytes k.b0 k.b1 / 8) = bitmap_reads (two_bytes k.b0 k.b1) (length p.components) k.bits_there k.bits_whole k.bits_enough in
     let records_are : records_of (two_bytes k.b0 k.b1 / 8) (length p.components) k.m (k.records ++ k.n0 ∷ k.n1 ∷ (k.components ++ sum)) ≡ Ok p.records =
@@ -131,8 +140,12 @@ package_reads bytes p k =
     let checked_is : header_before_checksum (before ++ sum) ≡ Ok before = checked_reads k.x0 k.x1 k.x2 k.x3 before (k.signed ∙ ap crc_of k.before_is) in
     let components_are : components_of bytes (length p.components) (k.components ++ sum) ≡ Ok p.components = components_reads bytes k.components sum p.components k.composed in
     let all = length-append before sum in
+    let release_is : release_of (before ++ sum) ≡ p.release = ap release_of spelled ∙ at.released in
+    let version_is : version_of (before ++ sum) ≡ p.version =
+    ap version_of spelled ∙ version_reads p.version (before_of k.h0 k.h1 p.release (k.b0 ∷ k.b1 ∷ p.version.kind ∷ length version ∷ tail_of k.m k.n0 k.n1 version k.records (k.components ++ sum)))
+    (k.m ∷ (k.records ++ k.n0 ∷ k.n1 ∷ (k.components ++ sum))) at.kind_is at.text at.after in
     let size : length (before ++ sum) ≡ p.header_size = all ∙ sym whole ∙ k.size in
-    rw (header_is, layout_is, bits, k.component_count, bitmap_is, records_are, checked_is, components_are, size) refl
+    rw (header_is, layout_is, bits, k.component_count, bitmap_is, records_are, checked_is, components_are, size, release_is, version_is) refl
 
 pub package_once : (bytes : List ℕ) (p q : PackageText) → IsPackage bytes p → IsPackage bytes q → p ≡ q
 package_once bytes p q is also =

@@ -119,8 +119,12 @@ places_is file (suc n) bytes =
     (rows_map (component_of file bytes) (components_of file n (drop (22 + text_size_of 21 bytes) bytes)))
 
 -- a package is its header's contents and its components
+abbrev pub package_with : ContentsOf → List ComponentOf → PackageText
+package_with c cs =
+    record { header_size = c.header_size; release = c.release; version = c.version; records = c.records; components = cs }
+
 abbrev composed : List ℕ → ContentsOf → Result PackageText PackageFault
-composed file c = components_of file c.component_count c.components >>= (λ cs. Ok (record { header_size = c.header_size; records = c.records; components = cs }))
+composed file c = components_of file c.component_count c.components >>= (λ cs. Ok (package_with c cs))
 
 then_same : {A B C : Type 0} (r : Result A PackageFault) (f : A → Result B PackageFault) (g : B → Result C PackageFault) (h : A → Result C PackageFault)
     → ((x : A) → h x ≡ (f x >>= g)) → (r >>= h) ≡ ((r >>= f) >>= g)
@@ -137,7 +141,7 @@ package_composed file =
     then_same (header_before_checksum header) _ (composed file) _ (λ before. refl)))))
 
 pub package_from : (file : List ℕ) (c : ContentsOf) (cs : List ComponentOf) → Ok c ≡ contents_of file → Ok cs ≡ components_of file c.component_count c.components
-    → Ok (record { header_size = c.header_size; records = c.records; components = cs }) ≡ package_of file
+    → Ok (package_with c cs) ≡ package_of file
 package_from file c cs h is = rw (package_composed file, ← h, ← is) refl
 
 pub package_out : (file : List ℕ) (c : ContentsOf) (e : PackageFault) → Ok c ≡ contents_of file → Err e ≡ components_of file c.component_count c.components
@@ -148,12 +152,16 @@ pub package_without : (file : List ℕ) (e : PackageFault) → Err e ≡ content
 package_without file e h = rw (package_composed file, ← h) refl
 
 -- and its outline is the contents and its components' places
+abbrev outline_with : ContentsOf → List PlaceOf → OutlineOf
+outline_with c ps =
+    record { header_size = c.header_size; release = c.release; version = c.version; records = c.records; places = ps }
+
 abbrev placed_with : ℕ → ContentsOf → Result OutlineOf PackageFault
-placed_with file_length c = places_of file_length c.component_count c.components >>= (λ ps. Ok (record { header_size = c.header_size; records = c.records; places = ps }))
+placed_with file_length c = places_of file_length c.component_count c.components >>= (λ ps. Ok (outline_with c ps))
 
 outlined_last : (c : ContentsOf) (r : Result (List ComponentOf) PackageFault)
-    → (result_map_both (map its_place) (λ e. e) r >>= (λ ps. Ok (record { header_size = c.header_size; records = c.records; places = ps })))
-    ≡ result_map_both outline_of_package (λ e. e) (r >>= (λ cs. Ok (record { header_size = c.header_size; records = c.records; components = cs })))
+    → (result_map_both (map its_place) (λ e. e) r >>= (λ ps. Ok (outline_with c ps)))
+    ≡ result_map_both outline_of_package (λ e. e) (r >>= (λ cs. Ok (package_with c cs)))
 outlined_last c (Ok cs) = refl
 outlined_last c (Err e) = refl
 

@@ -85,13 +85,13 @@ records_walked size count bytes rest (r ∷ rs) (part, others, is, this, those) 
 
 component_reads : (file part rest : List ℕ) (c : ComponentOf) → IsComponent file part c → component_of file (part ++ rest) ≡ Ok c
 unfolding component_of
-component_reads file (c0 ∷ c1 ∷ i0 ∷ i1 ∷ s0 ∷ s1 ∷ s2 ∷ s3 ∷ o0 ∷ o1 ∷ m0 ∷ m1 ∷ f0 ∷ f1 ∷ f2 ∷ f3 ∷ z0 ∷ z1 ∷ z2 ∷ z3 ∷ kind ∷ t ∷ text) rest c (classification, identifier, stamp, options, offset, kind_is, text_is, long, within, image) =
+component_reads file (c0 ∷ c1 ∷ i0 ∷ i1 ∷ s0 ∷ s1 ∷ s2 ∷ s3 ∷ o0 ∷ o1 ∷ m0 ∷ m1 ∷ f0 ∷ f1 ∷ f2 ∷ f3 ∷ z0 ∷ z1 ∷ z2 ∷ z3 ∷ kind ∷ t ∷ text) rest c (classification, identifier, stamp, options, method, offset, kind_is, text_is, long, within, image) =
     let inside : nat_lt (length file) (four_bytes f0 f1 f2 f3 + four_bytes z0 z1 z2 z3) ≡ false = le-ltb (length file) (four_bytes f0 f1 f2 f3 + four_bytes z0 z1 z2 z3) (rw offset within) in
-    rw (inside, take_front text rest t (sym long), classification, identifier, stamp, options, offset, kind_is, text_is, sym image) refl
+    rw (inside, take_front text rest t (sym long), classification, identifier, stamp, options, method, offset, kind_is, text_is, sym image) refl
 component_reads file part rest c is = absurd is
 
 component_size : (file part rest : List ℕ) (c : ComponentOf) → IsComponent file part c → 22 + slice_index (part ++ rest) 21 ≡ length part
-component_size file (c0 ∷ c1 ∷ i0 ∷ i1 ∷ s0 ∷ s1 ∷ s2 ∷ s3 ∷ o0 ∷ o1 ∷ m0 ∷ m1 ∷ f0 ∷ f1 ∷ f2 ∷ f3 ∷ z0 ∷ z1 ∷ z2 ∷ z3 ∷ kind ∷ t ∷ text) rest c (classification, identifier, stamp, options, offset, kind_is, text_is, long, within, image) = omega (arith, long)
+component_size file (c0 ∷ c1 ∷ i0 ∷ i1 ∷ s0 ∷ s1 ∷ s2 ∷ s3 ∷ o0 ∷ o1 ∷ m0 ∷ m1 ∷ f0 ∷ f1 ∷ f2 ∷ f3 ∷ z0 ∷ z1 ∷ z2 ∷ z3 ∷ kind ∷ t ∷ text) rest c (classification, identifier, stamp, options, method, offset, kind_is, text_is, long, within, image) = omega (arith, long)
 component_size file part rest c is = absurd is
 
 pub components_reads : (file bytes rest : List ℕ) (cs : List ComponentOf) → AreInTurn (IsComponent file) bytes cs → components_of file (length cs) (bytes ++ rest) ≡ Ok cs

@@ -13,7 +13,7 @@ use Rattle.fw_package.specs.Crc.{crc_of}
 use Rattle.fw_package.specs.Grammar.{IsPackage, two_bytes}
 use Rattle.fw_package.specs.Layout.{LayoutOf, bytes_after, after_components, after_records, closed_layout, layout_from_components, layout_from_records, layout_of}
 use Rattle.fw_package.specs.Package.{ComponentOf, PackageText, RecordOf}
-use Rattle.fw_package.specs.Reading.{bitmap_size_of, header_before_checksum, header_of, package_identifier, package_of, parts_of}
+use Rattle.fw_package.specs.Reading.{bitmap_size_of, header_before_checksum, header_of, package_identifier, package_of, parts_of, release_of, version_of}
 use Rattle.fw_package.specs.Records.{records_of}
 use Rattle.fw_package.specs.declared.fault.PackageFault.{PackageFault}
 use Rattle.fw_package.specs.declared.fault.PackageFault.TheVariants as faults
@@ -183,10 +183,21 @@ spelled_as : (i j : List ℕ) (r q h0 h1 b0 b1 kind t u : ℕ) (release rest mor
     → i ++ r ∷ h0 ∷ h1 ∷ (release ++ b0 ∷ b1 ∷ kind ∷ t ∷ rest) ≡ j ++ q ∷ h0 ∷ h1 ∷ (release ++ b0 ∷ b1 ∷ kind ∷ u ∷ more)
 spelled_as i j r q h0 h1 b0 b1 kind t u release rest more ei er et em = rw (ei, er, et, em) refl
 
+abbrev result_ok : PackageText → Result PackageText PackageFault
+result_ok x = Ok x
+
+-- equal results have equal values
+same_value : (x y : PackageText) → result_ok x ≡ result_ok y → x ≡ y
+same_value x y h = cc
+
+abbrev package_with_header : List ℕ → List RecordOf → List ComponentOf → PackageText
+package_with_header header rs cs =
+    record { header_size = length header; release = release_of header; version = version_of header; records = rs; components = cs }
+
 whole_built : (bytes header : List ℕ) (l : LayoutOf) (bitmap_size : ℕ) (rs : List RecordOf) (cs : List ComponentOf) (checked_before : List ℕ)
     → HeaderBuilt bytes header → LayoutBuilt header l → BitmapBuilt (little_number 2 (drop 32 header)) l.component_count bitmap_size
     → records_of bitmap_size l.component_count l.record_count l.records ≡ Ok rs → header_before_checksum header ≡ Ok checked_before → components_of bytes l.component_count l.components ≡ Ok cs
-    → IsPackage bytes (record { header_size = length header; records = rs; components = cs })
+    → IsPackage bytes (package_with_header header rs cs)
 whole_built bytes header l bitmap_size rs cs checked_before head walk bits records_are checked_is components_are =
     let size : ℕ = little_number 2 (drop 17 bytes) in
     let after : List ℕ = drop size bytes in
@@ -228,7 +239,6 @@ whole_built bytes header l bitmap_size rs cs checked_before head walk bits recor
       h1 = h1;
       b0 = b0;
       b1 = b1;
-      kind = kind;
       m = l.record_count;
       n0 = n0;
       n1 = n1;
@@ -236,8 +246,6 @@ whole_built bytes header l bitmap_size rs cs checked_before head walk bits recor
       x1 = slice_index walk.sum 1;
       x2 = slice_index walk.sum 2;
       x3 = slice_index walk.sum 3;
-      release = release;
-      version = version;
       records = records;
       components = components;
       before = before;
@@ -267,7 +275,7 @@ package_built bytes p h =
     let records = through (records_of bitmap.value layout.value.component_count layout.value.record_count layout.value.records) _ p bitmap.gives in
     let signed = through (header_before_checksum header.value) _ p records.gives in
     let components = through (components_of bytes layout.value.component_count layout.value.components) _ p signed.gives in
-    let same : record { header_size = length header.value; records = records.value; components = components.value } ≡ p = let e = components.gives in cc in
+    let same : package_with_header header.value records.value components.value ≡ p = same_value _ p components.gives in
     subst (IsPackage bytes) same
     (whole_built bytes header.value layout.value bitmap.value records.value components.value signed.value (header_built bytes header.value header.is)
     (layout_built header.value layout.value (some_layout (layout_of header.value) layout.value layout.is))

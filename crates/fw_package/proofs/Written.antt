@@ -222,6 +222,7 @@ components_written file front offset (c ∷ cs) (image ∷ images) is at sizes w
         two_back c.identifier width.identifier,
         four_back c.stamp width.stamp,
         two_back c.options width.options,
+        two_back c.method width.method,
         place,
         refl,
         refl,
@@ -274,7 +275,6 @@ package_asked a images fit widths small sizes =
       h1 = header_size a / 256 % 256;
       b0 = 8 * size % 256;
       b1 = 8 * size / 256 % 256;
-      kind = 1;
       m = length a.records;
       n0 = count % 256;
       n1 = count / 256 % 256;
@@ -282,8 +282,6 @@ package_asked a images fit widths small sizes =
       x1 = crc_of (body_bytes a) / 256 % 256;
       x2 = crc_of (body_bytes a) / 65536 % 256;
       x3 = crc_of (body_bytes a) / 16777216 % 256;
-      release = a.release;
-      version = a.version;
       records = flat_map (record_bytes size) a.records;
       components = components_bytes (header_size a) a.components;
       before = body_bytes a;

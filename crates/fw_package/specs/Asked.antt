@@ -101,6 +101,7 @@ component_asked offset c image =
       identifier = c.identifier;
       stamp = c.stamp;
       options = c.options;
+      method = c.method;
       offset = offset;
       text = text_asked c.text;
       image = image;
@@ -114,6 +115,8 @@ abbrev pub package_for : AskedPackageOf → List (List ℕ) → PackageText
 package_for a images =
     record {
       header_size = header_size a;
+      release = a.release;
+      version = text_asked a.version;
       records = map record_asked a.records;
       components = components_asked (header_size a) a.components images;
     }

@@ -18,7 +18,7 @@ abbrev pub no_record : RecordOf
 no_record = record { flags = 0; set_text = no_text; descriptors = []; uses = [] }
 
 abbrev pub no_component : ComponentOf
-no_component = record { classification = 0; identifier = 0; stamp = 0; options = 0; offset = 0; text = no_text; image = [] }
+no_component = record { classification = 0; identifier = 0; stamp = 0; options = 0; method = 0; offset = 0; text = no_text; image = [] }
 
 -- the record of this number, counted from 0
 abbrev pub record_at : PackageText → ℕ → RecordOf

@@ -13,6 +13,7 @@ pub record PlaceOf : Type 0 where
   pub identifier : ℕ
   pub stamp : ℕ
   pub options : ℕ
+  pub method : ℕ
   pub offset : ℕ
   pub size : ℕ
   pub text : TextOf
@@ -25,13 +26,13 @@ component_at_place file c =
       identifier = c.identifier;
       stamp = c.stamp;
       options = c.options;
+      method = c.method;
       offset = c.offset;
       text = c.text;
       image = take c.size (drop c.offset file);
     }
 
--- the component at the beginning of the bytes; the activation method, two bytes from the tenth on,
--- is ignored
+-- the component at the beginning of the bytes
 abbrev pub place_of : List ℕ → PlaceOf
 place_of bytes =
     record {
@@ -39,6 +40,7 @@ place_of bytes =
       identifier = little_number 2 (drop 2 bytes);
       stamp = little_number 4 (drop 4 bytes);
       options = little_number 2 (drop 8 bytes);
+      method = little_number 2 (drop 10 bytes);
       offset = little_number 4 (drop 12 bytes);
       size = little_number 4 (drop 16 bytes);
       text = record { kind = slice_index bytes 20; bytes = take (text_size_of 21 bytes) (drop 22 bytes) };

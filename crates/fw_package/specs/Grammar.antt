@@ -53,7 +53,8 @@ IsRecord bitmap_size component_count _ r = ⊥
 abbrev pub IsComponent : List ℕ → List ℕ → ComponentOf → Type 0
 IsComponent file (c0 ∷ c1 ∷ i0 ∷ i1 ∷ s0 ∷ s1 ∷ s2 ∷ s3 ∷ o0 ∷ o1 ∷ m0 ∷ m1 ∷ f0 ∷ f1 ∷ f2 ∷ f3 ∷ z0 ∷ z1 ∷ z2 ∷ z3 ∷ kind ∷ t ∷ text) c =
     (two_bytes c0 c1 ≡ c.classification) × (two_bytes i0 i1 ≡ c.identifier) × (four_bytes s0 s1 s2 s3 ≡ c.stamp)
-    × (two_bytes o0 o1 ≡ c.options) × (four_bytes f0 f1 f2 f3 ≡ c.offset) × (kind ≡ c.text.kind) × (text ≡ c.text.bytes) × (t ≡ length text)
+    × (two_bytes o0 o1 ≡ c.options) × (two_bytes m0 m1 ≡ c.method) × (four_bytes f0 f1 f2 f3 ≡ c.offset)
+    × (kind ≡ c.text.kind) × (text ≡ c.text.bytes) × (t ≡ length text)
     × (c.offset + four_bytes z0 z1 z2 z3 ≤ length file) × (c.image ≡ take (four_bytes z0 z1 z2 z3) (drop c.offset file))
 IsComponent file _ c = ⊥
 
@@ -65,7 +66,6 @@ pub record IsPackage (bytes : List ℕ) (p : PackageText) : Type 0 where
   pub h1 : ℕ
   pub b0 : ℕ
   pub b1 : ℕ
-  pub kind : ℕ
   pub m : ℕ
   pub n0 : ℕ
   pub n1 : ℕ
@@ -73,15 +73,13 @@ pub record IsPackage (bytes : List ℕ) (p : PackageText) : Type 0 where
   pub x1 : ℕ
   pub x2 : ℕ
   pub x3 : ℕ
-  pub release : List ℕ
-  pub version : List ℕ
   pub records : List ℕ
   pub components : List ℕ
   pub before : List ℕ
   pub after : List ℕ
   pub bytes_are : bytes ≡ before ++ x0 ∷ x1 ∷ x2 ∷ x3 ∷ after
-  pub before_is : before ≡ package_identifier ++ 1 ∷ h0 ∷ h1 ∷ (release ++ b0 ∷ b1 ∷ kind ∷ length version ∷ (version ++ m ∷ (records ++ n0 ∷ n1 ∷ components)))
-  pub release_fits : length release ≡ 13
+  pub before_is : before ≡ package_identifier ++ 1 ∷ h0 ∷ h1 ∷ (p.release ++ b0 ∷ b1 ∷ p.version.kind ∷ length p.version.bytes ∷ (p.version.bytes ++ m ∷ (records ++ n0 ∷ n1 ∷ components)))
+  pub release_fits : length p.release ≡ 13
   pub size : two_bytes h0 h1 ≡ p.header_size
   pub whole : p.header_size ≡ length before + 4
   pub signed : four_bytes x0 x1 x2 x3 ≡ crc_of before

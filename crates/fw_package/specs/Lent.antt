@@ -17,6 +17,7 @@ component_seen c =
       identifier = c.identifier;
       stamp = c.stamp;
       options = c.options;
+      method = c.method;
       offset = c.offset;
       text = text_of c.text;
       image = c.image.now;
@@ -29,6 +30,7 @@ place_seen p =
       identifier = p.identifier;
       stamp = p.stamp;
       options = p.options;
+      method = p.method;
       offset = p.offset;
       size = p.size;
       text = text_of p.text;
@@ -36,4 +38,11 @@ place_seen p =
 
 abbrev pub contents_seen : Contents → ContentsOf
 contents_seen c =
-    record { header_size = c.header_size; records = c.records; component_count = c.component_count; components = c.components.now }
+    record {
+      header_size = c.header_size;
+      release = c.release.now;
+      version = text_of c.version;
+      records = c.records;
+      component_count = c.component_count;
+      components = c.components.now;
+    }

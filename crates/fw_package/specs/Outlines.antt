@@ -4,8 +4,8 @@ use Rattle.std.specs.Prelude.{ℕ, zero, suc, ◌≡◌, ◌+◌, nat_lt, if◌t
 use Rattle.byteorder.specs.Endian.{little_number}
 use Rattle.fw_package.specs.Components.{PlaceOf, place_of}
 use Rattle.fw_package.specs.Layout.{layout_of, text_size_of}
-use Rattle.fw_package.specs.Package.{ComponentOf, PackageText, RecordOf}
-use Rattle.fw_package.specs.Reading.{bitmap_size_of, header_before_checksum, header_of, parts_of}
+use Rattle.fw_package.specs.Package.{ComponentOf, PackageText, RecordOf, TextOf}
+use Rattle.fw_package.specs.Reading.{bitmap_size_of, header_before_checksum, header_of, parts_of, release_of, version_of}
 use Rattle.fw_package.specs.Records.{◌>>=◌, records_of}
 use Rattle.fw_package.specs.declared.fault.PackageFault.{PackageFault}
 use Rattle.fw_package.specs.declared.fault.PackageFault.TheVariants.{ImageRange}
@@ -13,6 +13,8 @@ use Rattle.fw_package.specs.declared.fault.PackageFault.TheVariants.{ImageRange}
 -- a package without its images
 pub record OutlineOf : Type 0 where
   pub header_size : ℕ
+  pub release : List ℕ
+  pub version : TextOf
   pub records : List RecordOf
   pub places : List PlaceOf
 
@@ -24,6 +26,7 @@ its_place c =
       identifier = c.identifier;
       stamp = c.stamp;
       options = c.options;
+      method = c.method;
       offset = c.offset;
       size = length c.image;
       text = c.text;
@@ -31,7 +34,14 @@ its_place c =
 
 -- a package, each component by its place
 abbrev pub outline_of_package : PackageText → OutlineOf
-outline_of_package p = record { header_size = p.header_size; records = p.records; places = map its_place p.components }
+outline_of_package p =
+    record {
+      header_size = p.header_size;
+      release = p.release;
+      version = p.version;
+      records = p.records;
+      places = map its_place p.components;
+    }
 
 -- The bytes are the beginning of a file of this length: the first 65,535 bytes, since a header's
 -- size is two bytes, or all.
@@ -52,10 +62,12 @@ places_of file_length (suc n) bytes = do
   others ← places_of file_length n (drop (22 + text_size_of 21 bytes) bytes)
   Ok (first ∷ others)
 
--- the contents of a header: its size, its records, and the number of its components, with the
--- header from the first component on
+-- the contents of a header: its size, release time, version text and records, and the number of its
+-- components, with the header from the first component on
 pub record ContentsOf : Type 0 where
   pub header_size : ℕ
+  pub release : List ℕ
+  pub version : TextOf
   pub records : List RecordOf
   pub component_count : ℕ
   pub components : List ℕ
@@ -68,11 +80,24 @@ contents_of bytes = do
   bitmap_size ← bitmap_size_of (little_number 2 (drop 32 header)) layout.component_count
   records ← records_of bitmap_size layout.component_count layout.record_count layout.records
   before ← header_before_checksum header
-  Ok (record { header_size = length header; records = records; component_count = layout.component_count; components = layout.components })
+  Ok (record {
+    header_size = length header;
+    release = release_of header;
+    version = version_of header;
+    records = records;
+    component_count = layout.component_count;
+    components = layout.components;
+  })
 
 -- the outline of the package of this length that begins with the bytes, or the first fault
 unfoldable pub outline_of : List ℕ → ℕ → Result OutlineOf PackageFault
 outline_of beginning file_length = do
   contents ← contents_of beginning
   places ← places_of file_length contents.component_count contents.components
-  Ok (record { header_size = contents.header_size; records = contents.records; places = places })
+  Ok (record {
+    header_size = contents.header_size;
+    release = contents.release;
+    version = contents.version;
+    records = contents.records;
+    places = places;
+  })

@@ -20,19 +20,23 @@ pub record RecordOf : Type 0 where
   pub descriptors : List DescriptorOf
   pub uses : List ℕ
 
--- a component and its image, which is at this offset from the package's start
+-- a component, with the activation methods that it requests, and its image, which is at this offset
+-- from the package's start
 pub record ComponentOf : Type 0 where
   pub classification : ℕ
   pub identifier : ℕ
   pub stamp : ℕ
   pub options : ℕ
+  pub method : ℕ
   pub offset : ℕ
   pub text : TextOf
   pub image : List ℕ
 
--- a package
+-- A package. Its release time is a timestamp104 of DSP0240 in its encoded form, 13 bytes.
 pub record PackageText : Type 0 where
   pub header_size : ℕ
+  pub release : List ℕ
+  pub version : TextOf
   pub records : List RecordOf
   pub components : List ComponentOf
 

@@ -6,8 +6,8 @@ use Rattle.std.specs.List.Sorted.{IsStrictlyIncreasing}
 use Rattle.byteorder.specs.Endian.{little_number}
 use Rattle.fw_package.specs.Components.{components_of}
 use Rattle.fw_package.specs.Crc.{crc_of}
-use Rattle.fw_package.specs.Layout.{LayoutOf, layout_of}
-use Rattle.fw_package.specs.Package.{PackageText, RecordOf}
+use Rattle.fw_package.specs.Layout.{LayoutOf, layout_of, text_size_of}
+use Rattle.fw_package.specs.Package.{PackageText, RecordOf, TextOf}
 use Rattle.fw_package.specs.Records.{◌>>=◌, records_of}
 use Rattle.fw_package.specs.declared.fault.PackageFault.{PackageFault}
 use Rattle.fw_package.specs.declared.fault.PackageFault.TheVariants.{BitmapLength, Checksum, HeaderSize, Identifier, Revision, Short}
@@ -41,6 +41,13 @@ unfoldable pub header_before_checksum : List ℕ → Result (List ℕ) PackageFa
 header_before_checksum header =
     if crc_of (take (length header - 4) header) == little_number 4 (drop (length header - 4) header) then Ok (take (length header - 4) header) else Err Checksum
 
+-- the release time and the version text of a header
+abbrev pub release_of : List ℕ → List ℕ
+release_of header = take 13 (drop 19 header)
+
+abbrev pub version_of : List ℕ → TextOf
+version_of header = record { kind = slice_index header 34; bytes = take (text_size_of 35 header) (drop 36 header) }
+
 -- the package with these bytes, or the first fault
 unfoldable pub package_of : List ℕ → Result PackageText PackageFault
 package_of bytes = do
@@ -50,7 +57,13 @@ package_of bytes = do
   records ← records_of bitmap_size layout.component_count layout.record_count layout.records
   before ← header_before_checksum header
   components ← components_of bytes layout.component_count layout.components
-  Ok (record { header_size = length header; records = records; components = components })
+  Ok (record {
+    header_size = length header;
+    release = release_of header;
+    version = version_of header;
+    records = records;
+    components = components;
+  })
 
 -- the components that a record uses are rising, and there
 pub record IsUsing (count : ℕ) (r : RecordOf) : Type 0 where

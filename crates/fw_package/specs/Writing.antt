@@ -85,6 +85,7 @@ pub record HasAskedComponentWidths (c : AskedComponentOf) : Type 0 where
   pub identifier : c.identifier < 65536
   pub stamp : c.stamp < 4294967296
   pub options : c.options < 65536
+  pub method : c.method < 65536
 
 pub record HasAskedWidths (a : AskedPackageOf) : Type 0 where
   pub release : length a.release ≡ 13

@@ -24,6 +24,8 @@ pub struct Component<'a> {
     pub stamp: u32,
     /// The options: bit 0 forces the update, bit 1 uses the stamp.
     pub options: u16,
+    /// The requested activation methods.
+    pub method: u16,
     /// The image's offset in bytes from the file's start.
     pub offset: usize,
     /// The version text.
@@ -58,6 +60,7 @@ impl<'a> Component<'a> {
             identifier: place.identifier,
             stamp: place.stamp,
             options: place.options,
+            method: place.method,
             offset: place.offset,
             text: place.text,
             image: &file[place.offset..place.offset + place.size],

@@ -1,23 +1,29 @@
 //! The content of a header, without the components' images.
 
-ghost use Rattle.std.specs.Prelude.{◌≡◌, ◌≤◌, All, IfOk, IsSome};
+ghost use Rattle.std.specs.Prelude.{◌≡◌, ◌+◌, ◌≤◌, All, IfOk, IsSome, length};
 ghost use Rattle.std.specs.Result.{result_map_both};
-ghost use Rattle.fw_package.specs.Layout.{after_components};
+ghost use Rattle.fw_package.specs.Layout.{after_components, text_size_of};
 ghost use Rattle.fw_package.specs.Lent.{contents_seen};
 ghost use Rattle.fw_package.specs.Outlines.{contents_of};
-ghost use Rattle.fw_package.specs.Reading.{IsUsing};
+ghost use Rattle.fw_package.specs.Package.{text_of};
+ghost use Rattle.fw_package.specs.Reading.{IsUsing, version_of};
 
 use crate::fault::PackageFault;
-use crate::layout::{BITMAP_BITS, walk};
+use crate::layout::{BITMAP_BITS, FIXED_SIZE, RELEASE, VERSION_LENGTH, VERSION_TYPE, walk};
 use crate::numbers::u16_at;
 use crate::reading::{bitmap_size, check, header};
 use crate::records::Records;
+use crate::texts::Text;
 
-/// A header's size, its records, and its components' bytes.
+/// A header's size, its release time and version text, its records, and its components' bytes.
 #[derive(Drop)]
 pub(crate) struct Contents<'a> {
     /// The header's size in bytes.
     pub header_size: usize,
+    /// The release time, 13 bytes.
+    pub release: &'a [u8],
+    /// The version text.
+    pub version: Text<'a>,
     /// The records.
     pub records: Records<'a>,
     /// The number of components.
@@ -56,9 +62,23 @@ impl<'a> Contents<'a> {
         check(header)?;
         Ok(Contents {
             header_size: header.len(),
+            release: &header[RELEASE..BITMAP_BITS],
+            version: version_text(header),
             records,
             component_count: usize::from(layout.component_count),
             components: layout.components,
         })
+    }
+}
+
+/// Returns the version text of a header.
+fn version_text(header: &[u8]) -> Text<'_>
+    requires { FIXED_SIZE + text_size_of VERSION_LENGTH header.now ≤ length header.now }
+    ensures { text_of result ≡ version_of header.now }
+{
+    let size = usize::from(header[VERSION_LENGTH]);
+    Text {
+        kind: header[VERSION_TYPE],
+        bytes: &header[FIXED_SIZE..FIXED_SIZE + size],
     }
 }

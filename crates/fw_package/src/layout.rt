@@ -16,8 +16,14 @@ pub const REVISION: usize = 16;
 /// The place of the header size.
 pub const HEADER_SIZE: usize = 17;
 
-/// The place of the bitmap's bit length, after the release time of 13 bytes.
+/// The place of the release time, 13 bytes.
+pub const RELEASE: usize = 19;
+
+/// The place of the bitmap's bit length, after the release time.
 pub const BITMAP_BITS: usize = 32;
+
+/// The place of the version text's type.
+pub const VERSION_TYPE: usize = 34;
 
 /// The place of the version text's length, after its type.
 pub const VERSION_LENGTH: usize = 35;
@@ -58,7 +64,7 @@ pub fn walk(header: &[u8]) -> Option<Layout<'_>>
     ensures parts { option_map layout_seen result ≡ layout_of header.now }
     ensures records { IfSome result (λ l. IsSome (after_records l.record_count l.records.now)) }
     ensures components { IfSome result (λ l. IsSome (after_components l.component_count l.components.now)) }
-    ensures long { IfSome result (λ l. FIXED_SIZE ≤ length header.now) }
+    ensures long { IfSome result (λ l. FIXED_SIZE + text_size_of VERSION_LENGTH header.now ≤ length header.now) }
     ensures inside { IfSome result (λ l. length l.components.now ≤ length header.now) }
 {
     let rest = skip(header, FIXED_SIZE + text_size(header, VERSION_LENGTH))?;

@@ -7,6 +7,7 @@ use crate::contents::Contents;
 use crate::fault::PackageFault;
 use crate::places::ComponentPlaces;
 use crate::records::Records;
+use crate::texts::Text;
 use std::marker::Model;
 
 /// The most bytes at the beginning of a file that a package's header takes: a header's size is two
@@ -18,22 +19,32 @@ pub const BEGINNING_SIZE: usize = 65_535;
 #[derive(Drop)]
 pub struct Outline<'a> {
     header_size: usize,
+    release: &'a [u8],
+    version: Text<'a>,
     records: Records<'a>,
     places: ComponentPlaces<'a>,
 }
 
 impl<'a> Model for Outline<'a> {
     ghost use Rattle.fw_package.specs.Outlines.{OutlineOf};
+    ghost use Rattle.fw_package.specs.Package.{text_of};
 
     ghost Value = { OutlineOf };
 
-    ghost view = { λ o. record { header_size = o.header_size; records = o.records; places = o.places } };
+    ghost view = { λ o. record {
+      header_size = o.header_size;
+      release = o.release.now;
+      version = text_of o.version;
+      records = o.records;
+      places = o.places;
+    } };
 }
 
 impl<'a> Outline<'a> {
     ghost use Rattle.std.specs.Prelude.{List, ℕ};
     ghost use Rattle.std.specs.Result.{result_map_both};
     ghost use Rattle.fw_package.specs.Outlines.{IsBeginning, outline_of_package};
+    ghost use Rattle.fw_package.specs.Package.{text_of};
     ghost use Rattle.fw_package.specs.Reading.{package_of};
 
     /// Reads the outline of a package from its first 65,535 bytes, or all if it has fewer, and from
@@ -64,6 +75,8 @@ impl<'a> Outline<'a> {
         )?;
         Ok(Outline {
             header_size: contents.header_size,
+            release: contents.release,
+            version: contents.version,
             records: contents.records,
             places,
         })
@@ -74,6 +87,20 @@ impl<'a> Outline<'a> {
         ensures { result ≡ self.now.header_size }
     {
         self.header_size
+    }
+
+    /// Returns the release time, a timestamp104 of DSP0240 in its encoded form, 13 bytes.
+    pub fn release(&self) -> &'a [u8]
+        ensures { result.now ≡ self.now.release }
+    {
+        self.release
+    }
+
+    /// Returns the version text of the whole package.
+    pub fn version(&self) -> Text<'a>
+        ensures { text_of result ≡ self.now.version }
+    {
+        self.version
     }
 
     /// Returns the number of records.

@@ -5,7 +5,7 @@ ghost use Rattle.std.specs.List.Sorted.{IsStrictlyIncreasing};
 ghost use Rattle.fw_package.specs.Choice.{component_at, has_large_image, has_long_text, has_twin, plan_of, record_at, record_number};
 ghost use Rattle.fw_package.specs.Faults.{IsFirstPackageFault};
 ghost use Rattle.fw_package.specs.Lent.{component_seen, record_seen};
-ghost use Rattle.fw_package.specs.Package.{descriptor_of};
+ghost use Rattle.fw_package.specs.Package.{descriptor_of, text_of};
 ghost use Rattle.fw_package.specs.Reading.{package_of};
 
 use crate::components::{Component, Components};
@@ -13,7 +13,7 @@ use crate::contents::Contents;
 use crate::fault::{PackageFault, PlanFault};
 use crate::plans::Plan;
 use crate::records::{Record, Records};
-use crate::texts::Descriptor;
+use crate::texts::{Descriptor, Text};
 use crate::used::{KEY_LIMIT, Used};
 use crate::uses::Uses;
 use std::marker::Model;
@@ -29,18 +29,26 @@ const TEXT_LIMIT: usize = 200;
 #[derive(Drop)]
 pub struct Package<'a> {
     header_size: usize,
+    release: &'a [u8],
+    version: Text<'a>,
     records: Records<'a>,
     components: Components<'a>,
 }
 
 impl<'a> Model for Package<'a> {
     ghost use Rattle.std.specs.Prelude.{All, length, ◌≤◌};
-    ghost use Rattle.fw_package.specs.Package.{PackageText};
+    ghost use Rattle.fw_package.specs.Package.{PackageText, text_of};
     ghost use Rattle.fw_package.specs.Reading.{IsUsing};
 
     ghost Value = { PackageText };
 
-    ghost view = { λ p. record { header_size = p.header_size; records = p.records; components = p.components } };
+    ghost view = { λ p. record {
+      header_size = p.header_size;
+      release = p.release.now;
+      version = text_of p.version;
+      records = p.records;
+      components = p.components;
+    } };
 
     ghost invariant = { λ p. All (IsUsing (length p.components)) p.records × (length p.components ≤ 2978) };
 }
@@ -73,6 +81,8 @@ impl<'a> Package<'a> {
         match Components::read(bytes, contents.components, contents.component_count) {
             Ok(components) => Ok(Package {
                 header_size: contents.header_size,
+                release: contents.release,
+                version: contents.version,
                 records: contents.records,
                 components,
             }),
@@ -85,6 +95,20 @@ impl<'a> Package<'a> {
         ensures { result ≡ self.now.header_size }
     {
         self.header_size
+    }
+
+    /// Returns the release time, a timestamp104 of DSP0240 in its encoded form, 13 bytes.
+    pub fn release(&self) -> &'a [u8]
+        ensures { result.now ≡ self.now.release }
+    {
+        self.release
+    }
+
+    /// Returns the version text of the whole package.
+    pub fn version(&self) -> Text<'a>
+        ensures { text_of result ≡ self.now.version }
+    {
+        self.version
     }
 
     /// Returns the number of records.

@@ -27,7 +27,10 @@ const STAMP: usize = 4;
 /// The place of the component options.
 const OPTIONS: usize = 8;
 
-/// The place of the image's offset, after the activation method.
+/// The place of the requested activation methods.
+const METHOD: usize = 10;
+
+/// The place of the image's offset.
 const OFFSET: usize = 12;
 
 /// The place of the image's size.
@@ -47,6 +50,8 @@ pub struct Place<'a> {
     pub stamp: u32,
     /// The options: bit 0 forces the update, bit 1 uses the stamp.
     pub options: u16,
+    /// The requested activation methods.
+    pub method: u16,
     /// The image's offset in bytes from the file's start.
     pub offset: usize,
     /// The image's length in bytes.
@@ -84,6 +89,7 @@ impl<'a> Place<'a> {
             identifier: u16_at(bytes, IDENTIFIER),
             stamp: u32_at(bytes, STAMP),
             options: u16_at(bytes, OPTIONS),
+            method: u16_at(bytes, METHOD),
             offset: u32_at(bytes, OFFSET) as usize,
             size: u32_at(bytes, IMAGE_SIZE) as usize,
             text,

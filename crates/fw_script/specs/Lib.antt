@@ -2,6 +2,7 @@ pub mod Configs
 pub mod Faults
 pub mod Lines
 pub mod PackageSpecs
+pub mod ReleaseTimes
 pub mod Reports
 pub mod ScheduleLines
 pub mod ScheduleTexts

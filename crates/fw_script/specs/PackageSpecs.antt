@@ -17,7 +17,8 @@ use Rattle.fw_script.specs.declared.spec_lines.Directive.TheVariants as directiv
 use Rattle.fw_script.specs.Configs.{key_of, mapped_value}
 use Rattle.fw_script.specs.Faults.{both}
 use Rattle.fw_script.specs.Lines.{is_skipped, lines_of, words_of}
-use Rattle.fw_script.specs.SpecFields.{image_path_of, package_text_of, release_of, uses_of, whole_fields}
+use Rattle.fw_script.specs.ReleaseTimes.{release_of}
+use Rattle.fw_script.specs.SpecFields.{image_path_of, package_text_of, uses_of, whole_fields}
 use Rattle.fw_script.specs.Values.{bytes_of, kind_of, number_in}
 
 -- a record: the line that begins it, its option flags, set text and descriptors, and the components

@@ -2,12 +2,11 @@
 use Rattle.std.specs.Prelude.{ℕ, ◌*◌, ◌+◌, ◌-◌, ◌==◌, ◌&&◌, nat_le, nat_lt, Bool, List, [], ◌∷◌, Option, None, Some, Result, Ok, Err, if◌then◌else◌, length}
 use Rattle.std.specs.Char.{is_ascii_digit}
 use Rattle.std.specs.List.{list_all, list_any}
-use Rattle.hex.specs.Hex.{decode_sized}
 use Rattle.fw_script.specs.declared.faults.ScriptCause.{ScriptCause}
 use Rattle.fw_script.specs.declared.faults.ScriptCause.TheVariants as causes
 use Rattle.fw_script.specs.Configs.{mapped_value, path_of}
 use Rattle.fw_script.specs.Lines.{is_nothing}
-use Rattle.fw_script.specs.Values.{decoded_digits, is_dash, number_in}
+use Rattle.fw_script.specs.Values.{is_dash, number_in}
 
 -- the fields after a line's first word, in any number; none is empty
 abbrev pub whole_fields : List (List ℕ) → Result (List (List ℕ)) ScriptCause
@@ -46,10 +45,6 @@ short_text (Some bytes) = if nat_lt 255 (length bytes) then Err causes.Limit els
 
 unfoldable pub package_text_of : List ℕ → Result (List ℕ) ScriptCause
 package_text_of word = short_text (if is_dash word then Some [] else unescaped_word word)
-
--- a release time: thirteen bytes
-unfoldable pub release_of : List ℕ → Result (List ℕ) ScriptCause
-release_of word = decoded_digits (decode_sized word 13)
 
 -- The components that a record uses. In the text they are counted from 1, and each number is
 -- greater than the one before it; the description counts them from 0.

@@ -9,6 +9,7 @@ mod faults;
 mod lines;
 mod names;
 mod package_spec;
+mod release_times;
 mod reports;
 mod schedule;
 mod schedule_laws;

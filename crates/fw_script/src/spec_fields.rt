@@ -3,7 +3,7 @@
 ghost use Rattle.std.specs.Prelude.{◌≡◌, ◌+◌, ◌<◌, ◌≤◌, ◌⊎◌, ◌∷◌, [], IfErr, IfOk, IfSome, MatchOption, None, Ok, Some, length, map, option_map, string_bytes};
 ghost use Rattle.fw_script.specs.Faults.{AnswersUnlessMemory, both as both_of};
 ghost use Rattle.fw_script.specs.Lines.{words_from};
-ghost use Rattle.fw_script.specs.SpecFields.{are_numbers as are_all_numbers, byte_escaped, image_path_of, numbers_used, package_text_of, release_of, unescaped_word, upper_digit_of, uses_from, uses_of, whole_fields, with_byte};
+ghost use Rattle.fw_script.specs.SpecFields.{are_numbers as are_all_numbers, byte_escaped, image_path_of, numbers_used, package_text_of, unescaped_word, upper_digit_of, uses_from, uses_of, whole_fields, with_byte};
 
 use crate::draft::read_path;
 use crate::faults::ScriptCause;
@@ -119,18 +119,6 @@ pub(crate) fn package_text(alloc: Global, word: &[u8]) -> Result<Vec<u8>, Script
         Ok(bytes) if bytes.len() > MAX_TEXT => Err(ScriptCause::Limit),
         Ok(bytes) => Ok(bytes),
         Err(cause) => Err(cause),
-    }
-}
-
-/// A release time.
-#[tactic(auto, unfolding(crate::specs::SpecFields::release_of))]
-pub(crate) fn release(word: &[u8]) -> Result<[u8; 13], ScriptCause>
-    ensures { result ≡ release_of word.now }
-{
-    let mut release = [0; 13];
-    match hex::decode_to_slice(word, &mut release) {
-        Ok(()) => Ok(release),
-        Err(_) => Err(ScriptCause::Hex),
     }
 }
 

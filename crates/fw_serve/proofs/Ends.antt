@@ -1,5 +1,5 @@
 -- The line of packets, from the packets with a space after each.
-use Rattle.std.proofs.Common.{◌≡◌, ◌≤◌, ◌∙◌, ℕ, List, [], ◌∷◌, ◌++◌, codes, length, length-append, refl, sym, ap, append_assoc, append-nil, arith}
+use Rattle.std.proofs.Common.{◌≡◌, ◌∙◌, ℕ, List, [], ◌∷◌, ◌++◌, codes, length, length-append, refl, sym, ap, append_assoc, append-nil, arith}
 use Rattle.hex.specs.Hex.{encode_upper}
 use Rattle.fw_serve.specs.Texts.{packets_line, packets_spaced}
 

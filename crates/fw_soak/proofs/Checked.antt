@@ -1,5 +1,5 @@
 -- The checker's answer is whether a world is clean.
-use Rattle.std.proofs.Common.{◌≡◌, ◌∙◌, ◌⊎◌, ◌==◌, ◌&&◌, ◌||◌, ◌++◌, ℕ, nat_eq, Bool, true, false, List, [], ◌∷◌, Option, Some, None, inl, inr, refl, sym, ap, subst, map}
+use Rattle.std.proofs.Common.{◌≡◌, ◌⊎◌, ◌==◌, ◌&&◌, ◌||◌, ◌++◌, ℕ, nat_eq, Bool, true, false, List, [], ◌∷◌, Option, Some, None, inl, inr, refl, sym, ap, subst}
 use Rattle.std.specs.Cmp.Lexicographic.{pointwise}
 use Rattle.std.specs.List.{AllByRecursion, list_all}
 use Rattle.std.specs.Prelude.{IsSomeAnd, option_map}
@@ -7,12 +7,11 @@ use Rattle.std.proofs.lemmas.Bool.{and_parts, eq-eqb, eqb-true}
 use Rattle.fw_package.specs.Choice.{image_for}
 use Rattle.fw_package.specs.Package.{DescriptorOf, PackageText}
 use Rattle.fwup_wire.proofs.SameCommands.{bytes_means, bytes_self}
-use Rattle.fwup_wire.specs.declared.values.Key.{Key}
-use Rattle.fd_core.specs.Images.{ImageOf, KeyedImage, RowOf, active_of, row_of, same_key}
+use Rattle.fd_core.specs.Images.{ImageOf, KeyedImage, active_of, row_of, same_key}
 use Rattle.fw_node.specs.Nodes.{DeviceNodeOf}
 use Rattle.fw_message.specs.Headline.{EntryOf, same_image}
-use Rattle.fw_message.specs.Worlds.{NotedOf, noted_of}
-use Rattle.fw_script.specs.Configs.{ComponentConfigOf, DeviceConfigOf}
+use Rattle.fw_message.specs.Worlds.{NotedOf}
+use Rattle.fw_script.specs.Configs.{DeviceConfigOf}
 use Rattle.fw_steps.specs.Worlds.{SiteOf, WorldOf, site_for}
 use Rattle.fw_soak.specs.Checking.{applies, are_right, has_applied, is_clean, is_named_for, is_right, is_running, runs_it, runs_them, runs_what_it_may}
 use Rattle.fw_soak.specs.Checks.{AreLawfulEntries, HasApplied, IsClean, IsNamedImage, IsNamedFor, IsLawfulEntry, RunsImage, RunsImages, RunsAllowedImages, device_for, recorded_image, runs_after}

@@ -1,7 +1,6 @@
 -- A run continues.
-use Rattle.std.proofs.Common.{◌≡◌, ◌++◌, List, [], ◌∷◌, refl, subst, sym}
+use Rattle.std.proofs.Common.{◌≡◌, ◌++◌, [], ◌∷◌, refl, subst, sym}
 use Rattle.fw_steps.specs.Steps.{StepsTo, Run}
-use Rattle.fw_steps.specs.Worlds.{WorldOf}
 use Rattle.fw_steps.specs.declared.step.Step.{Step}
 use Rattle.fw_edge.proofs.Going.{run_append}
 use Rattle.fw_soak.specs.Courses.{CourseOf, ContinuesRun, IsCourse, SetupOf, opening_of}

@@ -1,5 +1,5 @@
 -- A packet is given its fate.
-use Rattle.std.proofs.Common.{◌≡◌, ◌∙◌, ℕ, Option, Some, ap, refl, slice_get, subst, sym, true}
+use Rattle.std.proofs.Common.{◌≡◌, ◌∙◌, ℕ, Some, ap, refl, slice_get, subst, sym, true}
 use Rattle.fw_soak.specs.Looks.{next_arrival}
 use Rattle.fw_soak.specs.Turns.{MeetsIf, MeetsNext, MeetsPacket, SoakingOf, met_at, next_met}
 use Rattle.fw_soak.specs.declared.traffic.Arrival.{Arrival}

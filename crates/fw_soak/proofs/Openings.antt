@@ -1,5 +1,5 @@
 -- The state of a run before its first step.
-use Rattle.std.proofs.Common.{◌≡◌, ◌*◌, ◌∙◌, ℕ, List, [], ap, length, min, refl, subst, sym}
+use Rattle.std.proofs.Common.{◌≡◌, ◌*◌, ℕ, [], length, min, refl, subst}
 use Rattle.std.specs.Prelude.{replicate}
 use Rattle.fwupd_base.specs.declared.roughness.Roughness.{Roughness}
 use Rattle.fw_soak.specs.Chances.{generator_of, generator_past}

@@ -1,10 +1,10 @@
 -- One more run of a soak, and what its observer has seen.
-use Rattle.std.proofs.Common.{◌≡◌, ◌∙◌, ◌+◌, ◌++◌, ℕ, zero, suc, Bool, List, [], ◌∷◌, Option, Some, None, arith, ap, length, refl, subst, sym}
+use Rattle.std.proofs.Common.{◌≡◌, ◌∙◌, ◌+◌, ◌++◌, ℕ, suc, Bool, List, [], ◌∷◌, Option, Some, None, arith, ap, length, refl, subst, sym}
 use Rattle.std.specs.Prelude.{IfSome}
 use Rattle.fwupd_base.specs.declared.roughness.Roughness.{Roughness}
 use Rattle.fw_steps.specs.declared.step.Step.{Step}
 use Rattle.fw_soak.specs.Courses.{CourseOf, IsCourse, SetupOf}
-use Rattle.fw_soak.specs.Summaries.{SoakOk, SoaksRuns, ends_clean, first_kept_with, no_runs, seen_after, totals_after, with_run}
+use Rattle.fw_soak.specs.Summaries.{SoaksRuns, ends_clean, first_kept_with, no_runs, seen_after, totals_after, with_run}
 use Rattle.fw_soak.specs.Turns.{AreSoakRuns, IsSoakRun}
 use Rattle.fw_soak.specs.declared.summary.Summary.{Summary}
 use Rattle.fw_soak.proofs.Summing.{first_more, length_more, summed_next, summed_none}

@@ -1,5 +1,5 @@
 -- The only image among components.
-use Rattle.std.proofs.Common.{◌≡◌, ◌<◌, ◌∙◌, ℕ, suc, List, [], ◌∷◌, Bool, true, false, Option, Some, None, All, arith, filter, length, map, refl, subst, sym, ap}
+use Rattle.std.proofs.Common.{◌≡◌, ◌<◌, ◌∙◌, ℕ, suc, List, [], ◌∷◌, true, false, Option, Some, None, All, arith, filter, length, map, refl, subst, sym, ap}
 use Rattle.std.specs.Prelude.{is_some, option_map}
 use Rattle.fw_package.specs.Choice.{component_at, has_key, sole_image}
 use Rattle.fw_package.specs.Package.{ComponentOf, PackageText}

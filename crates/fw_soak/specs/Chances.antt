@@ -1,5 +1,5 @@
 -- The random numbers of a run, and what they decide: the seed and the run's number determine all.
-use Rattle.std.specs.Prelude.{ℕ, zero, suc, [], ◌∷◌, ◌+◌, ◌*◌, ◌%◌, ◌^◌, ◌==◌, ◌&&◌, ◌||◌, Bool, List, None, Option, Some, if◌then◌else◌, nat_lt, not}
+use Rattle.std.specs.Prelude.{ℕ, zero, suc, [], ◌∷◌, ◌+◌, ◌*◌, ◌%◌, ◌^◌, ◌==◌, ◌&&◌, ◌||◌, Bool, List, if◌then◌else◌, nat_lt, not}
 use Rattle.fd_core.specs.declared.states.Verdict.{Verdict}
 use Rattle.fw_edge.specs.Fates.{word_after, word_of}
 use Rattle.fw_edge.specs.declared.fates.Fate.{Fate}

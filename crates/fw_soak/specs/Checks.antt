@@ -1,6 +1,6 @@
 -- The requirements of the checker. It knows the images of the packages and of the configuration,
 -- and nothing of sessions, packets or time.
-use Rattle.std.specs.Prelude.{ℕ, ◌≡◌, ◌⊎◌, ◌==◌, ◌++◌, Bool, true, false, if◌then◌else◌, IsSomeAnd, List, [], ◌∷◌, Option, Some, None, map}
+use Rattle.std.specs.Prelude.{ℕ, ◌≡◌, ◌⊎◌, ◌==◌, ◌++◌, Bool, true, if◌then◌else◌, IsSomeAnd, List, [], ◌∷◌, Option, Some, None, map}
 use Rattle.std.specs.List.{AllByRecursion}
 use Rattle.fw_package.specs.Choice.{component_at, image_for}
 use Rattle.fw_package.specs.Package.{DescriptorOf, PackageText}

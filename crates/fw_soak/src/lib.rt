@@ -16,4 +16,4 @@ mod turns;
 pub use checker::{is_clean, is_right_history};
 pub use setup::Setup;
 pub use soaking::{SoakObserver, Soaked, soak};
-pub use summary::{Summary, summary_text};
+pub use summary::{Summary, summary_in};

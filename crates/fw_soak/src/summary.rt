@@ -2,9 +2,10 @@
 
 ghost use Rattle.std.specs.Prelude.{◌≡◌, IfOk, OnOk};
 ghost use Rattle.fw_text.specs.Printing.{AppendsText, word_and_number};
-ghost use Rattle.fw_soak.specs.SummaryTexts.{line_of, summary_text};
+ghost use Rattle.fw_soak.specs.SummaryTexts.{line_of, summary_in, summary_json, summary_text};
 
 use fw_text::{push_number, push_words};
+use fwupd_base::Form;
 use std::alloc::{AllocError, Global};
 
 /// The totals of many runs. Each count stops at 2^64 - 1.
@@ -37,7 +38,7 @@ fn push_line(alloc: Global, text: &mut Vec<u8>, word: &str, number: u64) -> Resu
 ///
 /// # Errors
 /// `AllocError` if memory is refused.
-pub fn summary_text(alloc: Global, summary: &Summary) -> Result<Vec<u8>, AllocError>
+fn summary_text(alloc: Global, summary: &Summary) -> Result<Vec<u8>, AllocError>
     ensures { IfOk result (λ text. text.items ≡ summary_text summary.now) }
 {
     let mut text = Vec::new(alloc);
@@ -48,4 +49,52 @@ pub fn summary_text(alloc: Global, summary: &Summary) -> Result<Vec<u8>, AllocEr
     push_line(alloc, &mut text, "longest ", summary.longest)?;
     push_line(alloc, &mut text, "violations ", summary.violations)?;
     Ok(text)
+}
+
+/// The totals as a JSON object, on one line.
+fn summary_json(alloc: Global, summary: &Summary) -> Result<Vec<u8>, AllocError>
+    ensures { IfOk result (λ text. text.items ≡ summary_json summary.now) }
+{
+    let mut text = Vec::new(alloc);
+    push_number(
+        alloc,
+        &mut text,
+        "{\"format\":\"fwupd-soak/1\",\"runs\":",
+        summary.runs as usize,
+    )?;
+    push_number(
+        alloc,
+        &mut text,
+        ",\"activations\":",
+        summary.activations as usize,
+    )?;
+    push_number(alloc, &mut text, ",\"losses\":", summary.losses as usize)?;
+    push_number(
+        alloc,
+        &mut text,
+        ",\"restarts\":",
+        summary.restarts as usize,
+    )?;
+    push_number(alloc, &mut text, ",\"longest\":", summary.longest as usize)?;
+    push_number(
+        alloc,
+        &mut text,
+        ",\"violations\":",
+        summary.violations as usize,
+    )?;
+    push_words(&mut text, "}\n")?;
+    Ok(text)
+}
+
+/// Returns the totals in a format.
+///
+/// # Errors
+/// `AllocError` if memory is refused.
+pub fn summary_in(alloc: Global, summary: &Summary, form: Form) -> Result<Vec<u8>, AllocError>
+    ensures { IfOk result (λ text. text.items ≡ summary_in form summary.now) }
+{
+    match form {
+        Form::Text => summary_text(alloc, summary),
+        Form::Json => summary_json(alloc, summary),
+    }
 }

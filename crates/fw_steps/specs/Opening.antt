@@ -2,7 +2,7 @@
 -- devices and of the agent are new, no packet was sent, and the history is empty. What the devices
 -- and packages hold fits the fields of messages (`Widths`), which `World::new` finds by itself.
 --
--- This page included, it rests on 102 definitions, 435 lines in 39 files. To be read first, in
+-- This page included, it rests on 102 definitions, 438 lines in 39 files. To be read first, in
 -- this order, with the lines that it needs of each:
 -- 1. `crates/fw_steps/specs/Worlds.antt`, 12 lines: `WorldOf`, a world, and `SiteOf`, a device's
 --    node with the packets between it and the agent.

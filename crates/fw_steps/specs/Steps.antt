@@ -1,7 +1,7 @@
 -- The steps of the packet world: when each may be taken (`may_step`), what it makes of a world
 -- (`world_after`), and runs of steps (`Run`).
 --
--- This page included, it rests on 754 definitions, 2,911 lines in 83 files. To be read first, in
+-- This page included, it rests on 754 definitions, 2,914 lines in 83 files. To be read first, in
 -- this order, with the lines that it needs of each:
 -- 1. `crates/fw_steps/src/step.rt`, 25 lines: `Step`, a step; `StepFault` and `Refusal`, the
 --    reasons why one isn't taken.

@@ -1,5 +1,7 @@
 mod Answering
+mod DeviceSets
 mod Digits
+mod PackageChoices
 mod SerialLines
 mod Servers
 mod Streams

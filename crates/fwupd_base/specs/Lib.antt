@@ -1,7 +1,9 @@
 pub mod Answering
 pub mod Answers
+pub mod DeviceSets
 pub mod Inspection
 pub mod Lines
+pub mod PackageChoices
 pub mod Serial
 pub mod Serving
 pub mod Stream

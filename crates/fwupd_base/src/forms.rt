@@ -1,4 +1,4 @@
-//! The format of output.
+//! The formats of output.
 
 /// The format of output.
 #[derive(Clone, Copy, PartialEq, Eq)]
@@ -7,4 +7,15 @@ pub enum Form {
     Text,
     /// One line of JSON, for programs.
     Json,
+}
+
+/// The format of a trace.
+#[derive(Clone, Copy, PartialEq, Eq)]
+pub enum TraceForm {
+    /// One line a packet, with its bytes in hexadecimal digits.
+    Hex,
+    /// One line a packet, with its decoded fields.
+    Text,
+    /// A capture file, as Linux captures on an MCTP interface.
+    Capture,
 }

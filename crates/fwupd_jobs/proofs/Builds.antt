@@ -40,6 +40,13 @@ parts_more a b c header images i image bytes lt is e p q =
     (append_assoc header (concat (map (λ x. x.items) (take i images))) bytes ∙ ap (λ xs. header ++ xs) (concat_next images i image bytes lt is e))
     (Appends-trans a b c (header ++ concat (map (λ x. x.items) (take i images))) bytes p q))
 
+pub bytes_more : (header before after bytes : List ℕ) (images : List (Vec ℕ Global)) (i : ℕ) (image : Vec ℕ Global) → i < length images → image ≡ get_or images i image → bytes ≡ image.items
+    → before ≡ header ++ concat (map (λ x. x.items) (take i images)) → after ≡ before ++ bytes → after ≡ header ++ concat (map (λ x. x.items) (take (i + 1) images))
+bytes_more header before after bytes images i image lt is e h more =
+    let next : suc i ≡ i + 1 = omega arith in
+    more ∙ ap (λ xs. xs ++ bytes) h ∙ append_assoc header (concat (map (λ x. x.items) (take i images))) bytes
+    ∙ ap (λ xs. header ++ xs) (concat_next images i image bytes lt is e) ∙ ap (λ n. header ++ concat (map (λ x. x.items) (take n images))) next
+
 -- one more image is read
 images_more : (files : List ℕ → FileOf) (cs : List SpecComponentOf) (images : List (List ℕ)) (c : SpecComponentOf) (image : List ℕ) → AreImages files cs images → IsImage files c.path image
     → AreImages files (cs ++ c ∷ []) (images ++ image ∷ [])
@@ -92,13 +99,13 @@ put_whole : (files : List ℕ → FileOf) (path : List ℕ) (w held : Option (Li
 put_whole files path None held bytes h p e = absurd p
 put_whole files path (Some x) held bytes h p e = subst (λ o. IsSomeAnd o (λ b. IsBuilt files path b)) (sym e) (subst (IsBuilt files path) (sym p) h)
 
-pub built : (files : List ℕ → FileOf) (path : List ℕ) (spec : PackageSpecOf) (images : List (List ℕ)) (header : List ℕ) (known : Bool) (begun w held : Option (List ℕ))
+-- the bytes of a header and images are the package
+pub whole_built : (files : List ℕ → FileOf) (path : List ℕ) (spec : PackageSpecOf) (images : List (List ℕ)) (header bytes : List ℕ)
     → Says package_spec_of (files path) spec → AreImages files spec.components images → header ≡ header_bytes (asked_by spec images) → IsHeaderOf (asked_by spec images) header
-    → (known ≡ true → begun ≡ Some []) → Appends begun w (header ++ concat images) → (known ≡ true → IfSome w (λ b. held ≡ Some b)) → Builds files path known held
-built files path spec images header known begun w held says are is of begins written put = λ yes.
+    → bytes ≡ header ++ concat images → IsBuilt files path bytes
+whole_built files path spec images header bytes says are is of all =
     let sizes = sizes_of files spec.components images are in
-    put_whole files path w held (header ++ concat images)
-    (record {
+    subst (IsBuilt files path) (sym all) (record {
       spec = spec;
       images = images;
       says = says;
@@ -107,6 +114,12 @@ built files path spec images header known begun w held says are is of begins wri
       is = of.is images sizes;
       reads = of.reads images sizes;
     })
+
+pub built : (files : List ℕ → FileOf) (path : List ℕ) (spec : PackageSpecOf) (images : List (List ℕ)) (header : List ℕ) (known : Bool) (begun w held : Option (List ℕ))
+    → Says package_spec_of (files path) spec → AreImages files spec.components images → header ≡ header_bytes (asked_by spec images) → IsHeaderOf (asked_by spec images) header
+    → (known ≡ true → begun ≡ Some []) → Appends begun w (header ++ concat images) → (known ≡ true → IfSome w (λ b. held ≡ Some b)) → Builds files path known held
+built files path spec images header known begun w held says are is of begins written put = λ yes.
+    put_whole files path w held (header ++ concat images) (whole_built files path spec images header (header ++ concat images) says are is of refl)
     (subst (λ o. Appends o w (header ++ concat images)) (begins yes) written) (put yes)
 
 -- the content of a file at its place, and after a loss of power

@@ -5,8 +5,6 @@ use Rattle.fw_package.specs.Package.{PackageText}
 use Rattle.fw_package.specs.Reading.{package_of}
 use Rattle.fw_package.specs.declared.fault.PackageFault.{PackageFault}
 use Rattle.fwupd_jobs.specs.Inspected.{BreaksInspection, Inspects, job_fault_of_inspection}
-use Rattle.fw_json.specs.Forms.{inspection_in}
-use Rattle.fwupd_base.specs.declared.forms.Form.{Form}
 use Rattle.fwupd_watch.specs.Outputs.{FailsToWriteOutput, OutputOf, WritesOutput}
 use Rattle.fwupd_watch.specs.Files.{FileOf, MayHold}
 use Rattle.fwupd_nodes.specs.Setups.{IsNone, PackageFails}
@@ -27,18 +25,18 @@ inspection_fails files path bytes (inspected.Package f) told held e first =
     inr (inr (subst (IsNone (files path)) (sym e) (record { bytes = bytes; held = held; is = refused (package_of bytes) f (first (λ h. cc)) })))
 
 -- the file is a package
-read : (form : Form) (r : Result PackageText PackageFault) (text : List ℕ) → result_map_both (inspection_in form) (λ e. e) r ≡ Ok text → (p : PackageText) × (r ≡ Ok p) × (text ≡ inspection_in form p)
-read form (Ok p) text e = (p, refl, (let same : Ok (inspection_in form p) ≡ Ok text = e in cc))
-read form (Err f) text e = absurd cc
+read : (shown : PackageText → List ℕ) (r : Result PackageText PackageFault) (text : List ℕ) → result_map_both shown (λ e. e) r ≡ Ok text → (p : PackageText) × (r ≡ Ok p) × (text ≡ shown p)
+read shown (Ok p) text e = (p, refl, (let same : Ok (shown p) ≡ Ok text = e in cc))
+read shown (Err f) text e = absurd cc
 
-pub inspects : (file : FileOf) (form : Form) (bytes text : List ℕ) (before now : OutputOf) → MayHold file bytes → result_map_both (inspection_in form) (λ e. e) (package_of bytes) ≡ Ok text → WritesOutput before now text
-    → Inspects file form before now
-inspects file form bytes text before now held is written =
-    let found = read form (package_of bytes) text is in
+pub inspects : (file : FileOf) (shown : PackageText → List ℕ) (bytes text : List ℕ) (before now : OutputOf) → MayHold file bytes → result_map_both shown (λ e. e) (package_of bytes) ≡ Ok text → WritesOutput before now text
+    → Inspects file shown before now
+inspects file shown bytes text before now held is written =
+    let found = read shown (package_of bytes) text is in
     record { contents = found.0; is = record { bytes = bytes; held = held; is = found.1 }; written = subst (WritesOutput before now) found.2 written }
 
-pub breaks : (file : FileOf) (form : Form) (bytes text : List ℕ) (told : JobFault) (before now : OutputOf) → told ≡ faults.Output → MayHold file bytes → result_map_both (inspection_in form) (λ e. e) (package_of bytes) ≡ Ok text → FailsToWriteOutput before now text
-    → BreaksInspection file form told before now
-breaks file form bytes text told before now e held is begun =
-    let found = read form (package_of bytes) text is in
+pub breaks : (file : FileOf) (shown : PackageText → List ℕ) (bytes text : List ℕ) (told : JobFault) (before now : OutputOf) → told ≡ faults.Output → MayHold file bytes → result_map_both shown (λ e. e) (package_of bytes) ≡ Ok text → FailsToWriteOutput before now text
+    → BreaksInspection file shown told before now
+breaks file shown bytes text told before now e held is begun =
+    let found = read shown (package_of bytes) text is in
     record { is = e; contents = found.0; read = record { bytes = bytes; held = held; is = found.1 }; begun = subst (FailsToWriteOutput before now) found.2 begun }

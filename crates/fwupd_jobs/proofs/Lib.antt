@@ -1,6 +1,7 @@
 mod Barred
 mod Builds
 mod Checks
+mod Chosen
 mod Examined
 mod Foretold
 mod Lines
@@ -12,4 +13,5 @@ mod Performed
 mod Recorded
 mod Seen
 mod Soakings
+mod Standing
 mod Told

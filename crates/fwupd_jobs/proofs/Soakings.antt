@@ -9,7 +9,8 @@ use Rattle.fw_script.specs.Seen.{config_seen, device_of}
 use Rattle.fw_script.specs.declared.config.Config.{Config}
 use Rattle.fw_script.specs.declared.config.DeviceConfig.{DeviceConfig}
 use Rattle.fw_soak.specs.Summaries.{SoakOk}
-use Rattle.fw_soak.specs.SummaryTexts.{summary_text}
+use Rattle.fw_soak.specs.SummaryTexts.{summary_in}
+use Rattle.fwupd_base.specs.declared.forms.Form.{Form}
 use Rattle.fw_soak.specs.declared.summary.Summary.{Summary}
 use Rattle.fw_steps.specs.declared.step.Step.{Step}
 use Rattle.fwupd_words.specs.declared.asked.SoakOrder.{SoakOrder}
@@ -68,9 +69,9 @@ unmapped f None e = refl
 unmapped f (Some x) e = absurd (cc)
 
 -- no run had a violation
-pub ends_clean : (files : List ℕ → FileOf) (path : List ℕ) (order : SoakOrder) (file : Option (List ℕ)) (sum : Summary) (kept : Option (List Step)) (before now : OutputOf) → kept ≡ None
-    → Soaks files path file order.runs sum kept → sum.violations ≡ 0 → WritesOutput before now (summary_text sum) → SoaksClean files path order file before now
-ends_clean files path order file sum kept before now e h none written = record {
+pub ends_clean : (files : List ℕ → FileOf) (path : List ℕ) (order : SoakOrder) (form : Form) (file : Option (List ℕ)) (sum : Summary) (kept : Option (List Step)) (before now : OutputOf) → kept ≡ None
+    → Soaks files path file order.runs sum kept → sum.violations ≡ 0 → WritesOutput before now (summary_in form sum) → SoaksClean files path order form file before now
+ends_clean files path order form file sum kept before now e h none written = record {
   sum = sum;
   soaks = subst (Soaks files path file order.runs sum) e h;
   none = none;
@@ -78,16 +79,16 @@ ends_clean files path order file sum kept before now e h none written = record {
 }
 
 -- a run had a violation
-pub ends_wrong : (files : List ℕ → FileOf) (path : List ℕ) (order : SoakOrder) (file : Option (List ℕ)) (told : JobFault) (is_known : Bool) (held : List ℕ → Option (List ℕ)) (sum : Summary)
-    (kept : Option (List Step)) (before now : OutputOf) → ReportsViolation kept file told is_known held → Soaks files path file order.runs sum kept → WritesOutput before now (summary_text sum)
-    → SoakEnds files path order file told is_known held before now
-ends_wrong files path order file told is_known held sum None before now judged h written = absurd judged
-ends_wrong files path order file told is_known held sum (Some steps) before now judged h written =
+pub ends_wrong : (files : List ℕ → FileOf) (path : List ℕ) (order : SoakOrder) (form : Form) (file : Option (List ℕ)) (told : JobFault) (is_known : Bool) (held : List ℕ → Option (List ℕ)) (sum : Summary)
+    (kept : Option (List Step)) (before now : OutputOf) → ReportsViolation kept file told is_known held → Soaks files path file order.runs sum kept → WritesOutput before now (summary_in form sum)
+    → SoakEnds files path order form file told is_known held before now
+ends_wrong files path order form file told is_known held sum None before now judged h written = absurd judged
+ends_wrong files path order form file told is_known held sum (Some steps) before now judged h written =
     inl (record { sum = sum; steps = steps; soaks = h; written = written; judged = judged })
 
 -- the totals aren't written as a whole
-pub ends_broken : (files : List ℕ → FileOf) (path : List ℕ) (order : SoakOrder) (file : Option (List ℕ)) (told : JobFault) (is_known : Bool) (held : List ℕ → Option (List ℕ)) (sum : Summary)
-    (kept : Option (List Step)) (before now : OutputOf) → told ≡ faults.Output → Soaks files path file order.runs sum kept → FailsToWriteOutput before now (summary_text sum)
-    → SoakEnds files path order file told is_known held before now
-ends_broken files path order file told is_known held sum kept before now is h begun =
+pub ends_broken : (files : List ℕ → FileOf) (path : List ℕ) (order : SoakOrder) (form : Form) (file : Option (List ℕ)) (told : JobFault) (is_known : Bool) (held : List ℕ → Option (List ℕ)) (sum : Summary)
+    (kept : Option (List Step)) (before now : OutputOf) → told ≡ faults.Output → Soaks files path file order.runs sum kept → FailsToWriteOutput before now (summary_in form sum)
+    → SoakEnds files path order form file told is_known held before now
+ends_broken files path order form file told is_known held sum kept before now is h begun =
     inr (inl (record { is = is; sum = sum; kept = kept; soaks = h; begun = begun }))

@@ -1,11 +1,13 @@
 -- The faults of a job on a world.
-use Rattle.std.proofs.Common.{◌++◌, ◌∷◌, arith, sym, take, true, ◌≡◌, ◌⊎◌, ◌<◌, ◌+◌, ℕ, Bool, List, Option, None, Some, inl, inr, length, refl, ap, subst}
-use Rattle.std.specs.Prelude.{IfSome}
+use Rattle.std.proofs.Common.{◌++◌, ◌∷◌, arith, sym, take, true, false, ◌≡◌, ◌⊎◌, ◌<◌, ◌+◌, ℕ, Bool, Global, List, String, Option, None, Some, inl, inr, length, map, refl, ap, subst}
+use Rattle.std.specs.Prelude.{IfSome, string_bytes}
 use Rattle.std.proofs.lemmas.List.{take_all}
 use Rattle.fw_json.specs.Forms.{report_in}
 use Rattle.fwupd_base.specs.declared.forms.Form.{Form}
-use Rattle.fw_script.specs.Configs.{ConfigOf, config_of}
+use Rattle.fw_script.specs.Configs.{ConfigOf, DeviceConfigOf, config_of}
 use Rattle.fw_script.specs.Schedules.{script_of}
+use Rattle.fw_script.specs.Seen.{config_seen, device_of}
+use Rattle.fw_script.specs.declared.config.Config.{Config}
 use Rattle.fw_edge.proofs.Going.{run_append}
 use Rattle.fw_steps.specs.Clocks.{RunsKeepTime}
 use Rattle.fw_steps.specs.Opening.{IsOpeningWorld}
@@ -23,16 +25,17 @@ use Rattle.fwupd_jobs.specs.Updated.{DrivingEnds, IsPromisedUpdate, IsUnlinked, 
 use Rattle.fwupd_watch.specs.Apart.{IsApart, IsBarred}
 use Rattle.fwupd_watch.specs.Running.{IsBrokenRun, ShowOf, RunsSteps, RunsStepsSeen, ObserverOf, shown_of, starts_of, job_fault_of_observer}
 use Rattle.fwupd_watch.specs.Files.{FileOf}
-use Rattle.fwupd_nodes.specs.Setups.{IsSetup, LacksPackage, NumberedSetupFails, PackagesFail, Says, SourceOf, StoresFail, TellsStore, TextFails}
+use Rattle.fwupd_nodes.specs.Setups.{AreChosen, ChoiceFails, ChosenSetupFails, ChosenStoresFail, IsSetup, LacksChosen, LacksChosenPackage, PackagesFail, Says, SourceOf, StoresFail, TellsStore, TextFails, chosen_in, have_packages}
+use Rattle.fwupd_jobs.proofs.Numbered.{numbered_in}
 use Rattle.fw_edge.specs.declared.driving.EdgeFault.TheVariants as edges
 use Rattle.fwupd_watch.specs.declared.faults.JobFault.{JobFault}
 use Rattle.fwupd_watch.specs.declared.faults.JobFault.TheVariants as faults
 
 -- the world after the steps is safe
-pub safe_reached : (number : ℕ) (w v : WorldOf) → RunsArePromised → IsOpeningWorld w → RunsSteps number w v → IsPromisedUpdate number w v
-safe_reached number w v law opens h = record {
+pub safe_reached : (numbers : ℕ → ℕ) (w v : WorldOf) → RunsArePromised → IsOpeningWorld w → RunsSteps numbers w v → IsPromisedUpdate numbers w v
+safe_reached numbers w v law opens h = record {
   reached = h;
-  promised = record { begins = opens; promised = law w v (starts_of number (take h.started w.sites) ++ h.steps) opens h.run };
+  promised = record { begins = opens; promised = law w v (starts_of numbers (take h.started w.sites) ++ h.steps) opens h.run };
 }
 
 -- a replay is a run of the steps that were taken
@@ -64,37 +67,78 @@ replayed_by w x v steps fault form text is opens laws left report =
     })
 
 -- the observer doesn't begin
-pub unbegun : (files : List ℕ → FileOf) (source : SourceOf) (number : ℕ) (show : ShowOf) (refuses : List ℕ → Bool) (lacks : ℕ → Bool) (told : JobFault) (watched : ObserverOf) (before : OutputOf)
-    → (told ≡ faults.Memory) ⊎ LacksTrace files source number show refuses told watched → UpdateEnds files source number show refuses lacks told watched before before
-unbegun files source number show refuses lacks told watched before (inl e) = inr (inr (inl e, refl))
-unbegun files source number show refuses lacks told watched before (inr h) = inr (inr (inr (inr (inr (inr (inl h)))), refl))
+pub unbegun : (files : List ℕ → FileOf) (source : SourceOf) (numbers : ℕ → ℕ) (show : ShowOf) (refuses : List ℕ → Bool) (lacks : ℕ → Bool) (told : JobFault) (watched : ObserverOf) (before : OutputOf)
+    → (told ≡ faults.Memory) ⊎ LacksTrace files source numbers show refuses told watched → UpdateEnds files source numbers show refuses lacks told watched before before
+unbegun files source numbers show refuses lacks told watched before (inl e) = inr (inr (inl e, refl))
+unbegun files source numbers show refuses lacks told watched before (inr h) = inr (inr (inr (inr (inr (inr (inl h)))), refl))
 
 -- a link can't be opened
-unopened : (files : List ℕ → FileOf) (source : SourceOf) (number : ℕ) (show : ShowOf) (refuses : List ℕ → Bool) (lacks : ℕ → Bool) (w : WorldOf) (told : JobFault) (watched : ObserverOf) → IsObservedSetup files source number show w
+unopened : (files : List ℕ → FileOf) (source : SourceOf) (numbers : ℕ → ℕ) (show : ShowOf) (refuses : List ℕ → Bool) (lacks : ℕ → Bool) (w : WorldOf) (told : JobFault) (watched : ObserverOf) → IsObservedSetup files source numbers show w
     → (told ≡ faults.Memory) ⊎ IsUnlinked w lacks told
     → (told ≡ faults.Memory)
-    ⊎ (NumberedSetupFails files source.path number told
-    ⊎ (((told ≡ faults.NoPackage) × LacksPackage files source.path number) ⊎ (StoresFail files source told ⊎ (LacksTrace files source number show refuses told watched ⊎ LacksLink files source number show lacks told))))
-unopened files source number show refuses lacks w told watched begins (inl e) = inl e
-unopened files source number show refuses lacks w told watched begins (inr u) = inr (inr (inr (inr (inr (record { world = w; begins = begins; unlinked = u })))))
+    ⊎ (ChosenSetupFails files source numbers told
+    ⊎ (((told ≡ faults.NoPackage) × LacksChosenPackage files source numbers)
+    ⊎ (ChosenStoresFail files source told ⊎ (LacksTrace files source numbers show refuses told watched ⊎ (LacksLink files source numbers show lacks told ⊎ LacksChosen files source told)))))
+unopened files source numbers show refuses lacks w told watched begins (inl e) = inl e
+unopened files source numbers show refuses lacks w told watched begins (inr u) =
+    inr (inr (inr (inr (inr (inl (record { world = w; begins = begins; unlinked = u }))))))
 
 -- a run over links that failed
-pub update_ends : (files : List ℕ → FileOf) (source : SourceOf) (number : ℕ) (show : ShowOf) (refuses : List ℕ → Bool) (lacks : ℕ → Bool) (w v : WorldOf) (told : JobFault) (watched : ObserverOf) (before now : OutputOf)
-    → IsObservedSetup files source number show w → watched.shows ≡ shown_of show → IsPromisedUpdate number w v → RunsStepsSeen number w v watched.seen → (told ≡ faults.Edge edges.Frame → NamesLost v watched.lost)
-    → (IsBrokenRun told → watched.fault ≡ None → IfSome watched.recording (HasRecordedSteps w v)) → (IsBrokenRun told → MayHaveHistoryLines watched.history v.history) → DrivingEnds number show.form lacks w v told watched before now
-    → UpdateEnds files source number show refuses lacks told watched before now
-update_ends files source number show refuses lacks w v told watched before now begins shown promised sees lost recorded kept (inl h) =
+pub update_ends : (files : List ℕ → FileOf) (source : SourceOf) (numbers : ℕ → ℕ) (show : ShowOf) (refuses : List ℕ → Bool) (lacks : ℕ → Bool) (w v : WorldOf) (told : JobFault) (watched : ObserverOf) (before now : OutputOf)
+    → IsObservedSetup files source numbers show w → watched.shows ≡ shown_of show → IsPromisedUpdate numbers w v → RunsStepsSeen numbers w v watched.seen → (told ≡ faults.Edge edges.Frame → NamesLost v watched.lost)
+    → (IsBrokenRun told → watched.fault ≡ None → IfSome watched.recording (HasRecordedSteps w v)) → (IsBrokenRun told → MayHaveHistoryLines watched.history v.history) → DrivingEnds numbers show.form lacks w v told watched before now
+    → UpdateEnds files source numbers show refuses lacks told watched before now
+update_ends files source numbers show refuses lacks w v told watched before now begins shown promised sees lost recorded kept (inl h) =
     inl (record { world = w; begins = begins; shown = shown; left = v; promised = promised; caused = h.0; sees = sees; lost = lost; recorded = recorded h.0.broken; kept_up = kept h.0.broken; written = h.1 })
-update_ends files source number show refuses lacks w v told watched before now begins shown promised sees lost recorded kept (inr (inl h)) =
+update_ends files source numbers show refuses lacks w v told watched before now begins shown promised sees lost recorded kept (inr (inl h)) =
     inr (inl (record { is = h.0; world = w; begins = begins; left = v; promised = promised; begun = h.1 }))
-update_ends files source number show refuses lacks w v told watched before now begins shown promised sees lost recorded kept (inr (inr h)) =
-    inr (inr (unopened files source number show refuses lacks w told watched begins h.0, h.1))
+update_ends files source numbers show refuses lacks w v told watched before now begins shown promised sees lost recorded kept (inr (inr h)) =
+    inr (inr (unopened files source numbers show refuses lacks w told watched begins h.0, h.1))
+
+-- a chosen device is missing, or has no package of its number
+pub choice_end : (files : List ℕ → FileOf) (source : SourceOf) (numbers : ℕ → ℕ) (show : ShowOf) (refuses : List ℕ → Bool) (lacks : ℕ → Bool) (told : JobFault) (watched : ObserverOf) (before : OutputOf) (config : Config) (count : ℕ)
+    → Says config_of (files source.path) (config_seen config) → count ≡ config.packages.len → ChoiceFails source.chosen numbers count (map device_of config.devices.items) told
+    → UpdateEnds files source numbers show refuses lacks told watched before before
+choice_end files source numbers show refuses lacks told watched before config count says is (inl missing) =
+    inr (inr (inr (inr (inr (inr (inr (inr (record { config = config_seen config; says = says; missing = missing })))))), refl))
+choice_end files source numbers show refuses lacks told watched before config count says is (inr (same, there, none)) =
+    let pick : AreChosen source.chosen (map device_of config.devices.items) (chosen_in source.chosen (map device_of config.devices.items)) = record { there = there; are = refl } in
+    inr (inr (
+      inr (inr (inl (
+        same,
+        record {
+          config = config_seen config;
+          says = says;
+          there = there;
+          none = numbered_in source numbers config count (chosen_in source.chosen (map device_of config.devices.items)) false pick is none;
+        },
+      ))),
+      refl,
+    ))
+
+-- a package can't be read
+pub packages_end : (files : List ℕ → FileOf) (source : SourceOf) (numbers : ℕ → ℕ) (show : ShowOf) (refuses : List ℕ → Bool) (lacks : ℕ → Bool) (told : JobFault) (watched : ObserverOf) (before : OutputOf) (config : Config) (count : ℕ)
+    (picked : List DeviceConfigOf) (slice : List (String Global)) → Says config_of (files source.path) (config_seen config) → AreChosen source.chosen (map device_of config.devices.items) picked → count ≡ config.packages.len
+    → have_packages numbers count picked ≡ true → slice ≡ config.packages.items → (told ≡ faults.Memory) ⊎ PackagesFail files (map (λ q. string_bytes q) slice) told
+    → UpdateEnds files source numbers show refuses lacks told watched before before
+packages_end files source numbers show refuses lacks told watched before config count picked slice says pick is numbered same (inl e) = inr (inr (inl e, refl))
+packages_end files source numbers show refuses lacks told watched before config count picked slice says pick is numbered same (inr fails) =
+    inr (inr (
+      inr (inl (inr (record {
+        config = config_seen config;
+        says = says;
+        there = pick.there;
+        numbered = numbered_in source numbers config count picked true pick is numbered;
+        fail = subst (λ xs. PackagesFail files (map (λ q. string_bytes q) xs) told) same fails;
+      }))),
+      refl,
+    ))
 
 -- the store of a device can't be opened
-pub stores_end : (files : List ℕ → FileOf) (source : SourceOf) (number : ℕ) (show : ShowOf) (refuses : List ℕ → Bool) (lacks : ℕ → Bool) (told : JobFault) (watched : ObserverOf) (before : OutputOf)
-    → (told ≡ faults.Memory) ⊎ StoresFail files source told → UpdateEnds files source number show refuses lacks told watched before before
-stores_end files source number show refuses lacks told watched before (inl e) = inr (inr (inl e, refl))
-stores_end files source number show refuses lacks told watched before (inr h) = inr (inr (inr (inr (inr (inl h))), refl))
+pub stores_end : (files : List ℕ → FileOf) (source : SourceOf) (numbers : ℕ → ℕ) (show : ShowOf) (refuses : List ℕ → Bool) (lacks : ℕ → Bool) (told : JobFault) (watched : ObserverOf) (before : OutputOf)
+    → (told ≡ faults.Memory) ⊎ ChosenStoresFail files source told → UpdateEnds files source numbers show refuses lacks told watched before before
+stores_end files source numbers show refuses lacks told watched before (inl e) = inr (inr (inl e, refl))
+stores_end files source numbers show refuses lacks told watched before (inr h) = inr (inr (inr (inr (inr (inl h))), refl))
 
 pub stores_end_replay : (files : List ℕ → FileOf) (config : SourceOf) (schedule : List ℕ) (show : ShowOf) (refuses : List ℕ → Bool) (told : JobFault) (watched : ObserverOf) (before : OutputOf)
     → (told ≡ faults.Memory) ⊎ StoresFail files config told → ReplayEnds files config schedule show refuses told watched before before
@@ -124,11 +168,11 @@ nothing_of_none : (w : WorldOf) (lacks : ℕ → Bool) (told : JobFault) → (to
 nothing_of_none w lacks told (inl e) tells = subst TellsStore e tells
 nothing_of_none w lacks told (inr u) tells = subst TellsStore u.is tells
 
-pub driven_of_none : (number : ℕ) (form : Form) (lacks : ℕ → Bool) (w v : WorldOf) (told : JobFault) (watched : ObserverOf) (before now : OutputOf) → DrivingEnds number form lacks w v told watched before now
+pub driven_of_none : (numbers : ℕ → ℕ) (form : Form) (lacks : ℕ → Bool) (w v : WorldOf) (told : JobFault) (watched : ObserverOf) (before now : OutputOf) → DrivingEnds numbers form lacks w v told watched before now
     → TellsStore told → ⊥
-driven_of_none number form lacks w v told watched before now (inl h) tells = broken_of_none told h.0.broken tells
-driven_of_none number form lacks w v told watched before now (inr (inl h)) tells = subst TellsStore h.0 tells
-driven_of_none number form lacks w v told watched before now (inr (inr h)) tells = nothing_of_none w lacks told h.0 tells
+driven_of_none numbers form lacks w v told watched before now (inl h) tells = broken_of_none told h.0.broken tells
+driven_of_none numbers form lacks w v told watched before now (inr (inl h)) tells = subst TellsStore h.0 tells
+driven_of_none numbers form lacks w v told watched before now (inr (inr h)) tells = nothing_of_none w lacks told h.0 tells
 
 -- a replay whose schedule can't be read
 pub schedule_ends : (files : List ℕ → FileOf) (config : SourceOf) (schedule : List ℕ) (show : ShowOf) (refuses : List ℕ → Bool) (w : WorldOf) (told : JobFault) (watched : ObserverOf) (before : OutputOf) → IsSetup files config w

@@ -12,6 +12,7 @@ use Rattle.fw_script.specs.declared.faults.ScriptCause.{ScriptCause}
 use Rattle.fw_script.specs.declared.faults.ScriptCause.TheVariants as causes
 use Rattle.fw_script.specs.declared.faults.ScriptFault.{ScriptFault}
 use Rattle.fwupd_watch.specs.Files.{FileOf, IsApartFrom, IsOver, MayHold}
+use Rattle.fwupd_watch.specs.Outputs.{FailsToWriteOutput, OutputOf, WritesOutput}
 use Rattle.fwupd_nodes.specs.Setups.{IsUnread, Says, TextFails}
 use Rattle.fwupd_watch.specs.declared.faults.JobFault.{JobFault}
 use Rattle.fwupd_watch.specs.declared.faults.JobFault.TheVariants as faults
@@ -132,3 +133,25 @@ pub record BuildsApart (files : List ℕ → FileOf) (path written : List ℕ) :
 -- If the content of a path is known, it is the package.
 abbrev pub Builds : (files : List ℕ → FileOf) → (path : List ℕ) → (is_known : Bool) → Option (List ℕ) → Type 0
 Builds files path is_known held = is_known ≡ true → IsSomeAnd held (λ bytes. IsBuilt files path bytes)
+
+-- The package of the description in a file is written to the output.
+pub record PrintsPackage (files : List ℕ → FileOf) (path : List ℕ) (before now : OutputOf) : Type 0 where
+  pub bytes : List ℕ
+  pub built : IsBuilt files path bytes
+  pub written : WritesOutput before now bytes
+
+-- A beginning of it is written.
+pub record BreaksPackage (files : List ℕ → FileOf) (path : List ℕ) (told : JobFault) (before now : OutputOf) : Type 0 where
+  pub is : told ≡ faults.Output
+  pub bytes : List ℕ
+  pub built : IsBuilt files path bytes
+  pub begun : FailsToWriteOutput before now bytes
+
+-- why there is no package of the description in a file
+abbrev pub LacksPackageOf : (files : List ℕ → FileOf) → (path : List ℕ) → JobFault → Type 0
+LacksPackageOf files path told =
+    (told ≡ faults.Memory) ⊎ (TextFails package_spec_of files path told ⊎ (SpecFails files path told ⊎ PackageRefused files path told))
+
+-- The result of a build to the output that failed. If there is no package, nothing is written.
+abbrev pub PrintingEnds : (files : List ℕ → FileOf) → (path : List ℕ) → (told : JobFault) → (before now : OutputOf) → Type 0
+PrintingEnds files path told before now = BreaksPackage files path told before now ⊎ (LacksPackageOf files path told × (now ≡ before))

@@ -1,8 +1,10 @@
 -- The clues to why a job failed.
 use Rattle.std.specs.Prelude.{ℕ, List, Option, None, Some, option_map, string_bytes}
+use Rattle.fwupd_words.specs.declared.asked.BuildOutput.{BuildOutput}
+use Rattle.fwupd_words.specs.declared.asked.BuildOutput.TheVariants as targets
 use Rattle.fwupd_words.specs.declared.asked.Job.{Job}
 use Rattle.fwupd_words.specs.declared.asked.Job.TheVariants as jobs
-use Rattle.fwupd_words.specs.declared.asked.Show.{Show}
+use Rattle.fwupd_base.specs.declared.shows.Show.{Show}
 use Rattle.fwupd_jobs.specs.declared.clues.Clue.{Clue}
 use Rattle.fwupd_jobs.specs.declared.clues.Clue.TheVariants as clues
 use Rattle.fw_script.specs.declared.faults.ScriptFault.{ScriptFault}
@@ -46,6 +48,7 @@ abbrev pub clue_to_store : Job → (device : ℕ) → OpenFault → Option ClueO
 clue_to_store (jobs.Replay r) device why = option_map (λ root. ClueOf.OfStore root.now device why) r.show.store
 clue_to_store (jobs.Run u) device why = option_map (λ root. ClueOf.OfStore root.now device why) u.show.store
 clue_to_store (jobs.Plan p) device why = option_map (λ root. ClueOf.OfStore root.now device why) p.store
+clue_to_store (jobs.Status s) device why = option_map (λ root. ClueOf.OfStore root.now device why) s.store
 clue_to_store (jobs.Device d) device why = option_map (λ root. ClueOf.OfStore root.now device why) d.store
 clue_to_store (jobs.DeviceProcess d) device why = option_map (λ root. ClueOf.OfStore root.now device why) d.store
 clue_to_store (jobs.AgentProcess a) device why = option_map (λ root. ClueOf.OfAgentStore root.now why) a.store
@@ -53,7 +56,7 @@ clue_to_store job device why = None
 
 -- a job that reads a package, or those of a configuration
 abbrev pub clue_to_package : Job → Option ClueOf
-clue_to_package (jobs.Inspect path form) = Some (ClueOf.NotAPackage path.now)
+clue_to_package (jobs.Inspect path form digested) = Some (ClueOf.NotAPackage path.now)
 clue_to_package (jobs.Replay r) = Some (ClueOf.NoPackage r.config.now)
 clue_to_package (jobs.Run u) = Some (ClueOf.NoPackage u.config.now)
 clue_to_package (jobs.Soak s) = Some (ClueOf.NoPackage s.config.now)
@@ -64,10 +67,16 @@ abbrev pub clue_to_step : Job → (number : ℕ) → Option ClueOf
 clue_to_step (jobs.Replay r) number = Some (ClueOf.OfStep r.schedule.now number)
 clue_to_step job number = None
 
+-- the file of a package that can't be written
+abbrev pub clue_to_package_file : BuildOutput → Option ClueOf
+clue_to_package_file (targets.File path) = Some (ClueOf.Unwritten path.now)
+clue_to_package_file (targets.ToldFile path) = Some (ClueOf.Unwritten path.now)
+clue_to_package_file targets.Standard = None
+
 -- the file that a job makes and can't write
 abbrev pub clue_to_output : Job → JobFault → Option ClueOf
 clue_to_output (jobs.Soak s) faults.Record = option_map (λ p. ClueOf.Unwritten p.now) s.record
-clue_to_output (jobs.Build spec path) faults.Output = Some (ClueOf.Unwritten path.now)
+clue_to_output (jobs.Build spec output) faults.Output = clue_to_package_file output
 clue_to_output (jobs.Replay r) fault = clue_to_shown r.show fault
 clue_to_output (jobs.Run u) fault = clue_to_shown u.show fault
 clue_to_output job fault = None

@@ -15,4 +15,6 @@ pub mod Recorded
 pub mod Replayed
 pub mod Soaked
 pub mod Sockets
+pub mod Statuses
 pub mod Updated
+pub mod Warnings

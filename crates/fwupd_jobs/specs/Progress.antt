@@ -8,8 +8,8 @@ abbrev pub runs_of_job : Job → ℕ
 runs_of_job (jobs.Soak s) = s.order.runs
 runs_of_job job = 0
 
--- the line after `runs` runs, in which `violations` violations were found; it overwrites the line
--- before it
-abbrev pub soak_line : (runs violations : ℕ) → List ℕ
-soak_line runs violations =
-    codes "\r" ++ (decimal runs ++ (codes " runs, " ++ (decimal violations ++ codes " violations        ")))
+-- the line after `runs` of `all` runs, in which `violations` violations were found; it overwrites
+-- the line before it
+abbrev pub soak_line : (runs all violations : ℕ) → List ℕ
+soak_line runs all violations =
+    codes "\r" ++ (decimal runs ++ (codes " of " ++ (decimal all ++ (codes " runs, " ++ (decimal violations ++ codes " violations        ")))))

@@ -2,12 +2,13 @@
 use Rattle.std.specs.Prelude.{ℕ, ◌≡◌, ◌⊎◌, Bool, List, ◌∷◌, Option, None, Some, IfSome, IsSome, IsSomeAnd, true}
 use Rattle.std.specs.List.{AllByRecursion}
 use Rattle.fw_package.specs.Package.{PackageText}
+use Rattle.fwupd_base.specs.declared.forms.Form.{Form}
 use Rattle.fw_script.specs.Configs.{ConfigOf, config_of}
 use Rattle.fw_script.specs.ScheduleTexts.{schedule_text}
 use Rattle.fw_steps.specs.declared.step.Step.{Step}
 use Rattle.fw_soak.specs.Courses.{SetupOf}
 use Rattle.fw_soak.specs.Summaries.{SoakOk}
-use Rattle.fw_soak.specs.SummaryTexts.{summary_text}
+use Rattle.fw_soak.specs.SummaryTexts.{summary_in}
 use Rattle.fw_soak.specs.declared.summary.Summary.{Summary}
 use Rattle.fwupd_words.specs.declared.asked.SoakOrder.{SoakOrder}
 use Rattle.fwupd_watch.specs.Outputs.{FailsToWriteOutput, OutputOf, WritesOutput}
@@ -31,11 +32,11 @@ pub record Soaks (files : List ℕ → FileOf) (path : List ℕ) (file : Option 
   pub soaked : SoakOk (setup_of_config config packages) runs sum kept
 
 -- There was no violation, and the totals are written.
-pub record SoaksClean (files : List ℕ → FileOf) (path : List ℕ) (order : SoakOrder) (file : Option (List ℕ)) (before now : OutputOf) : Type 0 where
+pub record SoaksClean (files : List ℕ → FileOf) (path : List ℕ) (order : SoakOrder) (form : Form) (file : Option (List ℕ)) (before now : OutputOf) : Type 0 where
   pub sum : Summary
   pub soaks : Soaks files path file order.runs sum None
   pub none : sum.violations ≡ 0
-  pub written : WritesOutput before now (summary_text sum)
+  pub written : WritesOutput before now (summary_in form sum)
 
 -- The fault after a violation. Its file, if one is given, holds the schedule of the steps; or they
 -- couldn't be written, or memory was refused.
@@ -47,20 +48,20 @@ ReportsViolation (Some steps) file told is_known held =
 
 -- There was a violation, and the totals are written. If a file is given for the steps and the fault
 -- is the violation, the file holds them.
-pub record SoaksWrong (files : List ℕ → FileOf) (path : List ℕ) (order : SoakOrder) (file : Option (List ℕ)) (told : JobFault) (is_known : Bool) (held : List ℕ → Option (List ℕ)) (before now : OutputOf) : Type 0 where
+pub record SoaksWrong (files : List ℕ → FileOf) (path : List ℕ) (order : SoakOrder) (form : Form) (file : Option (List ℕ)) (told : JobFault) (is_known : Bool) (held : List ℕ → Option (List ℕ)) (before now : OutputOf) : Type 0 where
   pub sum : Summary
   pub steps : List Step
   pub soaks : Soaks files path file order.runs sum (Some steps)
-  pub written : WritesOutput before now (summary_text sum)
+  pub written : WritesOutput before now (summary_in form sum)
   pub judged : ReportsViolation (Some steps) file told is_known held
 
 -- The totals can't be written.
-pub record BreaksSoak (files : List ℕ → FileOf) (path : List ℕ) (order : SoakOrder) (file : Option (List ℕ)) (told : JobFault) (before now : OutputOf) : Type 0 where
+pub record BreaksSoak (files : List ℕ → FileOf) (path : List ℕ) (order : SoakOrder) (form : Form) (file : Option (List ℕ)) (told : JobFault) (before now : OutputOf) : Type 0 where
   pub is : told ≡ faults.Output
   pub sum : Summary
   pub kept : Option (List Step)
   pub soaks : Soaks files path file order.runs sum kept
-  pub begun : FailsToWriteOutput before now (summary_text sum)
+  pub begun : FailsToWriteOutput before now (summary_in form sum)
 
 -- The steps would overwrite an input. The packages are read before.
 pub record WouldWriteOver (files : List ℕ → FileOf) (path : List ℕ) (file : Option (List ℕ)) (told : JobFault) : Type 0 where
@@ -72,9 +73,9 @@ pub record WouldWriteOver (files : List ℕ → FileOf) (path : List ℕ) (file 
   pub over : IsSomeAnd file (λ p. IsOverOne files p (path ∷ config.packages))
 
 -- The result of a soak that failed. In the other cases nothing is written.
-abbrev pub SoakEnds : (files : List ℕ → FileOf) (path : List ℕ) (order : SoakOrder) (file : Option (List ℕ)) (told : JobFault) (is_known : Bool) (held : List ℕ → Option (List ℕ)) (before now : OutputOf) → Type 0
-SoakEnds files path order file told is_known held before now =
-    SoaksWrong files path order file told is_known held before now
-    ⊎ (BreaksSoak files path order file told before now
+abbrev pub SoakEnds : (files : List ℕ → FileOf) (path : List ℕ) (order : SoakOrder) (form : Form) (file : Option (List ℕ)) (told : JobFault) (is_known : Bool) (held : List ℕ → Option (List ℕ)) (before now : OutputOf) → Type 0
+SoakEnds files path order form file told is_known held before now =
+    SoaksWrong files path order form file told is_known held before now
+    ⊎ (BreaksSoak files path order form file told before now
     ⊎ (((told ≡ faults.Memory) ⊎ (NumberedSetupFails files path 1 told ⊎ (((told ≡ faults.NoPackage) × LacksPackage files path 1) ⊎ WouldWriteOver files path file told)))
     × (now ≡ before)))

@@ -7,18 +7,21 @@ ghost use Rattle.fw_package.specs.Asked.{asked_component_of, asked_package_of, a
 ghost use Rattle.fw_package.specs.Package.{descriptor_of};
 ghost use Rattle.fw_package.specs.Writing.{IsHeaderOf, header_bytes};
 ghost use Rattle.fw_script.specs.PackageSpecs.{package_spec_of, spec_component_of, spec_descriptor_of, spec_record_of, spec_seen};
-ghost use Rattle.fwupd_jobs.specs.Built.{AreImages, BuildEnds, Builds, BuildsApart, ImageFails, ImagesFail, IsApartFromImages, IsImage, IsOverImage, IsBuildFault, asked_by, component_by, components_by, record_by, script_fault_of_refusal};
+ghost use Rattle.fwupd_jobs.specs.Built.{AreImages, BuildEnds, Builds, BuildsApart, ImageFails, ImagesFail, IsApartFromImages, IsBuilt, IsImage, IsOverImage, IsBuildFault, LacksPackageOf, PrintingEnds, PrintsPackage, asked_by, component_by, components_by, record_by, script_fault_of_refusal};
+ghost use Rattle.fwupd_jobs.specs.Inspected.{InspectEnds, Inspects};
 ghost use Rattle.fwupd_nodes.specs.Setups.{Says, TextFails, TextFault};
+ghost use Rattle.fw_json.specs.Digests.{digested_in};
 
+use crate::inspecting::digest_file;
 use fw_package::{AskedComponent, AskedFault, AskedPackage, AskedRecord, Descriptor, Header};
 use fw_script::{
     PackageSpec, ScriptCause, ScriptFault, SpecComponent, SpecDescriptor, SpecRecord,
     read_package_spec,
 };
-use fwupd_base::write_whole;
-use fwupd_nodes::{read_fault, text_fault};
-use fwupd_watch::{Files, JobFault, OutputPlaces, is_same_file};
-use std::alloc::Global;
+use fwupd_base::{Form, write_whole};
+use fwupd_nodes::{Host, Parts, read_fault, text_fault};
+use fwupd_watch::{Files, JobFault, Output, OutputPlaces, is_same_file};
+use std::alloc::{AllocError, Global};
 use std::io::Write;
 
 /// The package description in the file of a path.
@@ -284,6 +287,62 @@ fn write_parts<W: Write>(writer: &mut W, header: &[u8], images: &[Vec<u8>]) -> R
     Ok(())
 }
 
+/// The bytes of a header and images.
+fn whole(alloc: Global, header: &[u8], images: &[Vec<u8>]) -> Result<Vec<u8>, AllocError>
+    ensures { IfOk result (λ bytes. bytes.items ≡ header.now ++ concat (map (λ i. i.items) images.now)) }
+{
+    let mut bytes = Vec::new(alloc);
+    bytes.extend_from_slice(header)?;
+    for image in images {
+        bytes.extend_from_slice(image)?;
+    }
+    Ok(bytes)
+}
+
+/// The package that the description at `path` specifies.
+fn package_bytes<F: Files>(alloc: Global, files: &F, path: &str) -> Result<Vec<u8>, JobFault>
+    ensures built { IfOk result (λ bytes. IsBuilt (F.holds files.now) path.now bytes.items) }
+    ensures fault { IfErr result (λ e. LacksPackageOf (F.holds files.now) path.now e) }
+{
+    let spec = match package_spec(alloc, files, path) {
+        Ok(spec) => spec,
+        Err(fault) => return Err(fault),
+    };
+    let images = match images(alloc, files, spec.components.as_slice()) {
+        Ok(images) => images,
+        Err(fault) => return Err(fault),
+    };
+    let mut header = Header::new();
+    match header_of(alloc, path, &spec, images.as_slice(), &mut header) {
+        Ok(()) => {}
+        Err(fault) => return Err(fault),
+    }
+    match whole(alloc, header.as_slice(), images.as_slice()) {
+        Ok(bytes) => Ok(bytes),
+        Err(_) => Err(JobFault::Memory),
+    }
+}
+
+/// Builds the package that the description at `path` specifies, and writes it to the output.
+///
+/// # Errors
+/// Those of `build_file` before the file is made; nothing is written then. `Output` if the package
+/// can't be written; a beginning of it may be written.
+pub fn build_printed<F: Files, W: Write + Drop>(
+    alloc: Global,
+    files: &F,
+    path: &str,
+    output: &mut Output<W>,
+) -> Result<(), JobFault>
+    ensures ok { OnOk result (PrintsPackage (F.holds files.now) path.now output.old output.new) }
+    ensures fault { IfErr result (λ e. PrintingEnds (F.holds files.now) path.now e output.old output.new) }
+{
+    match package_bytes(alloc, files, path) {
+        Ok(bytes) => output.write(&bytes),
+        Err(fault) => Err(fault),
+    }
+}
+
 /// Whether a path may name the image file of a component.
 fn is_over_image<F: Files>(files: &F, path: &str, components: &[SpecComponent]) -> bool
     ensures over { result ≡ true → IsOverImage (F.holds files.now) path.now (map spec_component_of components.now) }
@@ -349,5 +408,35 @@ pub fn build_file<F: Files, W: Write + Drop, P: OutputPlaces<W>>(
             places.discard(file);
             Err(fault)
         }
+    }
+}
+
+/// Builds a package as `build_file` does, and then writes what its file holds: a line of JSON, with
+/// the SHA-256 of each image.
+///
+/// # Errors
+/// Those of `build_file`; and if the package is built, those of `digest_file`.
+pub fn build_told<H: Parts>(
+    alloc: Global,
+    path: &str,
+    file: &str,
+    host: &mut Host<H>,
+) -> Result<(), JobFault>
+    ensures built { OnOk result (Builds (H.Files.holds host.old.files) path.now
+        (H.Places.is_known host.old.places) (H.Places.held host.new.places file.now)) }
+    ensures told { OnOk result (Inspects (H.Files.holds host.old.files file.now)
+        (digested_in Form.Json) host.old.output host.new.output) }
+    ensures fault { IfErr result (λ e. (BuildEnds (H.Files.holds host.old.files) path.now e
+        × ((H.Places.held host.new.places ≡ H.Places.held host.old.places)
+        × (host.new.output ≡ host.old.output)))
+        ⊎ (Builds (H.Files.holds host.old.files) path.now
+        (H.Places.is_known host.old.places) (H.Places.held host.new.places file.now)
+        × InspectEnds (H.Files.holds host.old.files) file.now (digested_in Form.Json) e
+        host.old.output host.new.output)) }
+    ensures untouched { host.new.watch ≡ host.old.watch }
+{
+    match build_file(alloc, &host.files, path, file, &mut host.places) {
+        Ok(()) => digest_file(alloc, &host.files, file, Form::Json, &mut host.output),
+        Err(fault) => Err(fault),
     }
 }

@@ -7,7 +7,7 @@ ghost use Rattle.fwupd_watch.specs.Running.{HasObserverFault, show_of};
 ghost use Rattle.fwupd_nodes.specs.Setups.{TellsStore, source_of};
 
 use crate::updating::update_files;
-use fwupd_nodes::{Host, Parts, undone_fault};
+use fwupd_nodes::{Host, Parts};
 use fwupd_watch::JobFault;
 use fwupd_words::Update;
 use std::alloc::Global;
@@ -16,8 +16,8 @@ use std::alloc::Global;
 /// report of the last world.
 ///
 /// # Errors
-/// Those of `update_files`; and `Session`, if that check is requested, with the first session in
-/// configured order that isn't Done. The report is written then.
+/// Those of `update_files`; and `Undone` or `Skipped`, if that check is requested, which names the
+/// sessions that aren't Done, in configured order. The report is written then.
 #[tactic(auto, using(crate::proofs::Checks::checking))]
 pub fn update_checked<H: Parts>(
     alloc: Global,
@@ -47,8 +47,5 @@ pub fn update_checked<H: Parts>(
     if !job.order.is_checked {
         return Ok(());
     }
-    match undone {
-        Some(undone) => Err(undone_fault(undone)),
-        None => Ok(()),
-    }
+    undone.check()
 }

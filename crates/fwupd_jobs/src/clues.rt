@@ -1,12 +1,13 @@
 //! The clues to why a job failed.
 
 ghost use Rattle.std.specs.Prelude.{◌≡◌, option_map};
-ghost use Rattle.fwupd_jobs.specs.Clues.{clue_of, clue_seen, clue_to_shown, clue_to_store};
+ghost use Rattle.fwupd_jobs.specs.Clues.{clue_of, clue_seen, clue_to_package_file, clue_to_shown, clue_to_store};
 
 use fw_script::ScriptFault;
 use fw_store::OpenFault;
+use fwupd_base::Show;
 use fwupd_watch::JobFault;
-use fwupd_words::{Job, Plan, Replay, Show, Soak, Update};
+use fwupd_words::{BuildOutput, Job, Plan, Replay, Soak, Update};
 
 /// A clue to why a job failed.
 #[derive(Clone, Copy)]
@@ -52,10 +53,21 @@ fn clue_to_store<'a>(job: &Job<'a>, device: u8, why: OpenFault) -> Option<Clue<'
         Job::Replay(replay) => Some(Clue::Store(replay.show.store?, device, why)),
         Job::Run(update) => Some(Clue::Store(update.show.store?, device, why)),
         Job::Plan(plan) => Some(Clue::Store(plan.store?, device, why)),
+        Job::Status(status) => Some(Clue::Store(status.store?, device, why)),
         Job::Device(alone) => Some(Clue::Store(alone.store?, device, why)),
         Job::DeviceProcess(process) => Some(Clue::Store(process.store?, device, why)),
         Job::AgentProcess(process) => Some(Clue::AgentStore(process.store?, why)),
         _ => None,
+    }
+}
+
+/// The clue to why a package can't be written, if it is written to a file.
+fn clue_to_package_file(output: BuildOutput<'_>) -> Option<Clue<'_>>
+    ensures { option_map clue_seen result ≡ clue_to_package_file output.entry }
+{
+    match output {
+        BuildOutput::File(path) | BuildOutput::ToldFile(path) => Some(Clue::Unwritten(path)),
+        BuildOutput::Standard => None,
     }
 }
 
@@ -76,7 +88,7 @@ pub fn clue_to<'a>(job: &Job<'a>, fault: &'a JobFault) -> Option<Clue<'a>>
             Some(Clue::Step(replay.schedule, *number))
         }
         (JobFault::Record, Job::Soak(soak)) => Some(Clue::Unwritten(soak.record?)),
-        (JobFault::Output, Job::Build { package, .. }) => Some(Clue::Unwritten(package)),
+        (JobFault::Output, Job::Build { output, .. }) => clue_to_package_file(*output),
         (fault, Job::Replay(replay)) => clue_to_shown(&replay.show, fault),
         (fault, Job::Run(update)) => clue_to_shown(&update.show, fault),
         _ => None,

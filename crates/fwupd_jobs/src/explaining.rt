@@ -1,4 +1,5 @@
-//! Explains why a job failed, below the line that reports it, on a terminal or where it is wanted.
+//! Explains why a job failed, below the line that reports it, and warns of what a package is built
+//! of, on a terminal or where it is wanted.
 
 ghost use Rattle.std.specs.Prelude.{◌≡◌, is_err};
 ghost use Rattle.fw_package.specs.Reading.{package_of};
@@ -7,15 +8,17 @@ use crate::clue_lines::{line_at, package_lines, step_line};
 use crate::clues::{Clue, clue_to};
 use crate::identifiers::later_version;
 use crate::reasons::{reason, store_reason};
+use crate::warnings::warnings;
 use fw_package::Package;
-use fw_script::ScriptFault;
+use fw_script::{ScriptFault, read_package_spec};
 use fw_store::OpenFault;
 use fwupd_watch::{
     Files, JobFault, SystemFiles, explains, folder_and_name, history_path, is_special,
 };
 use fwupd_words::Job;
 use std::fs::OpenOptions;
-use std::{io, str};
+use std::io::{self, Write};
+use std::str;
 
 /// The most bytes of a line that an explanation shows.
 const LONGEST: usize = 100;
@@ -29,10 +32,10 @@ fn explain_unreadable(rt: &HostRuntime, path: &str) {
     }
 }
 
-/// The bytes of a file, read once more. A pipe, a device or a socket isn't read again, since that
-/// may block.
+/// The bytes of a file, read once more. Standard input, a pipe, a device or a socket isn't read
+/// again, since that may block.
 fn read_again(rt: &HostRuntime, path: &str) -> Option<Vec<u8>> {
-    if is_special(rt, path) {
+    if path == "-" || is_special(rt, path) {
         return None;
     }
     SystemFiles::new(rt).read(rt.alloc(), path).ok()
@@ -174,5 +177,25 @@ pub fn explain(rt: &HostRuntime, job: &Job<'_>, fault: &JobFault) {
         Some(Clue::Store(root, device, why)) => explain_store(rt, root, device, why),
         Some(Clue::AgentStore(root, why)) => explain_agent_store(rt, root, why),
         None => {}
+    }
+}
+
+/// The warnings about the description of a package, which is read once more.
+fn warnings_again(rt: &HostRuntime, path: &str) -> Option<Vec<u8>> {
+    let bytes = read_again(rt, path)?;
+    let spec = read_package_spec(rt.alloc(), &bytes).ok()?;
+    warnings(rt.alloc(), path, &spec).ok()
+}
+
+/// Prints on standard error the warnings about the description of a package that was built, where
+/// faults are explained. If the description can't be read again, nothing is printed.
+pub fn warn(rt: &HostRuntime, job: &Job<'_>) {
+    let Job::Build { spec, .. } = job else {
+        return;
+    };
+    if explains(rt)
+        && let Some(text) = warnings_again(rt, spec)
+    {
+        let _ = rt.stderr().write_all(&text);
     }
 }

@@ -4,6 +4,7 @@
 
 mod building;
 mod checking;
+mod choosing;
 mod clue_lines;
 mod clues;
 mod explaining;
@@ -22,15 +23,20 @@ mod soak_progress;
 mod soaking;
 mod socket_names;
 mod sockets;
+mod statuses;
 mod system_wiring;
 mod telling;
 mod updating;
+mod warnings;
 mod words;
 mod write_behind;
 
-pub use building::build_file;
+pub use building::{build_file, build_printed, build_told};
 pub use checking::update_checked;
 pub use fw_store::Durable;
+pub use fwupd_base::{
+    AgentAlone, AgentProcess, DeviceAlone, DeviceProcess, Serving, Show, TraceForm, Watching, Wire,
+};
 pub use fwupd_nodes::{
     Host, Joined, Network, Parts, Undone, Wires, Wiring, agent_file, answer_serial, decode_file,
     device_file, run_agent, run_device,
@@ -40,16 +46,14 @@ pub use fwupd_watch::{
     Beginning, FileCalls, FileFault, FileIdentity, Files, HistoryFile, JobFault, Observer,
     ObserverFault, Output, OutputPlaces, Recording, WholeFiles, texts_are_lines,
 };
-pub use fwupd_words::{
-    AgentAlone, AgentProcess, DeviceAlone, DeviceProcess, Job, Order, Plan, Replay, Serving, Show,
-    Soak, SoakOrder, TraceForm, Update, Watching, Wire, parse,
-};
-pub use inspecting::{inspect_file, inspection_fault};
+pub use fwupd_words::{Job, Order, Plan, Replay, Soak, SoakOrder, Status, Update, parse};
+pub use inspecting::{digest_file, inspect_file, inspection_fault};
 pub use jobs::perform_job;
 pub use planning::plan_file;
 pub use program::perform;
 pub use recording_laws::records_replay;
 pub use replaying::replay_files;
 pub use soaking::soak_file;
+pub use statuses::status_file;
 pub use telling::{names_causes, sel_file};
 pub use updating::update_files;

@@ -1,12 +1,14 @@
 //! The numbers of packages, counted from 1.
 
 ghost use Rattle.std.specs.Prelude.{◌≡◌, ◌≤◌, ◌<◌, ◌⊎◌, IfNone, IfSome, false, length, true};
+ghost use Rattle.fwupd_nodes.specs.Setups.{is_numbered};
 ghost use Rattle.ua_core.specs.Lent.{package_at};
 
 use fw_package::Package;
 
 /// Returns whether `number`, counted from 1, is that of one of `count` packages.
 pub fn is_numbered(count: usize, number: usize) -> bool
+    ensures value { result ≡ is_numbered count number }
     ensures there { result ≡ true → (1 ≤ number) × (number ≤ count) }
     ensures none { result ≡ false → (number ≡ 0) ⊎ (count < number) }
 {

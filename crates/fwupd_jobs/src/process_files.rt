@@ -1,9 +1,9 @@
 //! The files that are written of a process while it runs, and its progress on a terminal.
 
+use fwupd_base::Watching;
 use fwupd_nodes::Observed;
 use fwupd_traces::{NodeRecord, PacketObserver, PacketTrace, ProcessWatch, TracedNode, WatchFault};
 use fwupd_watch::{JobFault, PacketProgress, process_fault};
-use fwupd_words::Watching;
 use mctp_wire::RawPacket;
 use std::alloc::Global;
 use std::fs::File;

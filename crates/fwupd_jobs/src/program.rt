@@ -7,10 +7,11 @@ ghost use Rattle.clap.specs.Values.{kind_of};
 ghost use Rattle.clap.specs.declared.error.kind.ErrorKind.TheVariants.{DisplayHelp, DisplayVersion, OutOfMemory};
 ghost use Rattle.fw_setup.specs.Stocks.{stores_in};
 ghost use Rattle.fwupd_nodes.specs.Hosts.{FoundOf, LeftOf, agent_store_in};
+ghost use Rattle.fwupd_jobs.specs.Failures.{status_of};
 ghost use Rattle.fwupd_jobs.specs.Jobs.{Performs, StatusSays, SystemSays};
 ghost use Rattle.fwupd_jobs.specs.Progress.{runs_of_job};
 
-use crate::explaining::explain;
+use crate::explaining::{explain, warn};
 use crate::jobs::perform_job;
 use crate::soak_progress::SoakProgress;
 use crate::sockets::{SocketLink, Sockets};
@@ -32,6 +33,9 @@ use std::process::ExitCode;
 /// The exit status of a usage error.
 pub(crate) const USAGE: u8 = 2;
 
+/// The exit status where sessions aren't Done since nothing was to be updated on their devices.
+const SKIPPED: u8 = 3;
+
 /// The line that reports the fault of a job.
 #[derive(Drop)]
 struct FailureLine<'a, F> {
@@ -51,17 +55,22 @@ impl<'a, F: Display> Display for FailureLine<'a, F> {
 
 /// Prints a fault on standard error, and returns its exit status.
 pub(crate) fn failed(rt: &HostRuntime, fault: &JobFault) -> ExitCode
-    ensures { exit_status result ≡ 1 }
+    ensures is { exit_status result ≡ status_of fault.now }
+    ensures known { exit_status result ≤ 3 }
 {
     let line = FailureLine { fault };
     let _ = eprint!(rt; "{line}");
-    ExitCode::FAILURE
+    match fault {
+        JobFault::Skipped(_) => ExitCode::from(SKIPPED),
+        _ => ExitCode::FAILURE,
+    }
 }
 
-/// Performs a job on a host. Returns the exit status: 0, or 1 after printing the fault and, on a
-/// terminal, its clue.
+/// Performs a job on a host. Returns the exit status: 0, on a terminal after printing the warnings
+/// about a package that was built; or that of the fault, after printing it and, on a terminal, its
+/// clue.
 fn status<H: Parts>(rt: &HostRuntime, job: &Job<'_>, host: &mut Host<H>) -> ExitCode
-    ensures { StatusSays (exit_status result) job.now (record {
+    ensures says { StatusSays (exit_status result) job.now (record {
       files = H.Files.holds host.old.files;
       stores = stores_in (H.Stores.is_known host.old.stores) (H.Stores.files host.old.stores);
       agent_store = agent_store_in (H.Stores.is_known host.old.stores) (H.Stores.agent_files host.old.stores);
@@ -77,9 +86,13 @@ fn status<H: Parts>(rt: &HostRuntime, job: &Job<'_>, host: &mut Host<H>) -> Exit
       held = H.Places.held host.new.places;
       output = host.new.output;
     }) }
+    ensures known { exit_status result ≤ 3 }
 {
     match perform_job(rt.alloc(), job, host) {
-        Ok(()) => ExitCode::SUCCESS,
+        Ok(()) => {
+            warn(rt, job);
+            ExitCode::SUCCESS
+        }
         Err(fault) => {
             let status = failed(rt, &fault);
             explain(rt, job, &fault);
@@ -137,7 +150,8 @@ fn run<'a, R: Read + Drop, W: Write + Drop>(
     input: R,
     output: Output<W>,
 ) -> (ExitCode, Output<W>)
-    ensures { SystemSays (exit_status result.0) job.now output result.1 }
+    ensures says { SystemSays (exit_status result.0) job.now output result.1 }
+    ensures known { exit_status result.0 ≤ 3 }
 {
     let mut host: Host<SystemParts<'a, R, W>> = Host {
         files: SystemFiles::new(rt),
@@ -198,7 +212,7 @@ fn no_job(rt: &HostRuntime, error: &clap::Error) -> ExitCode
 /// Performs the job that arguments request, with the program's name first, and returns the exit
 /// status.
 fn perform_words(rt: &HostRuntime, words: &[String]) -> ExitCode
-    ensures known { exit_status result ≤ 2 }
+    ensures known { exit_status result ≤ 3 }
     ensures performs { Performs (map string_bytes words.now) (exit_status result) }
 {
     let job = match parse(rt.alloc(), words) {
@@ -213,9 +227,10 @@ fn perform_words(rt: &HostRuntime, words: &[String]) -> ExitCode
 }
 
 /// Performs the job that the command line's arguments request, and returns the exit status: 0; 1
-/// after printing a fault on standard error; 2 for a usage error.
+/// after printing a fault on standard error; 2 for a usage error; 3 after printing the sessions
+/// that aren't Done, if nothing was to be updated on their devices.
 pub fn perform(rt: &HostRuntime) -> ExitCode
-    ensures { exit_status result ≤ 2 }
+    ensures { exit_status result ≤ 3 }
 {
     match words(rt) {
         Ok(words) => perform_words(rt, words.as_slice()),

@@ -24,12 +24,12 @@ use fw_setup::opening_world;
 use fw_world::{
     Missed, Step, StepFault, World, clocks_keep_time, moments_are_tied, replay, runs_are_promised,
 };
-use fwupd_base::Form;
+use fwupd_base::{Form, Show};
 use fwupd_nodes::{Host, Parts, configuration, package_files, packages_in, read_kept, schedule};
 use fwupd_watch::{
     Files, JobFault, Observer, ObserverFault, begin_apart, is_one_path, observer_fault,
 };
-use fwupd_words::{Replay, Show};
+use fwupd_words::Replay;
 use mctp_ctl::Endpoint;
 use mctp_wire::Unit;
 use std::alloc::{AllocError, Global};

@@ -15,6 +15,8 @@ use std::time::Instant;
 struct SoakLine {
     /// The number of runs made.
     runs: u64,
+    /// The number of runs to make.
+    all: u64,
     /// The number of violations found in them.
     violations: u64,
 }
@@ -23,22 +25,25 @@ impl Display for SoakLine {
     ghost use Rattle.std.specs.Prelude.{Some};
     ghost use Rattle.fwupd_jobs.specs.Progress.{soak_line};
 
-    ghost output = { λ line. Some (soak_line line.runs line.violations) };
+    ghost output = { λ line. Some (soak_line line.runs line.all line.violations) };
 
     fn fmt<W: fmt::Write>(&self, f: &mut fmt::Formatter<W>) -> fmt::Result {
         let runs = self.runs;
+        let all = self.all;
         let violations = self.violations;
-        write!(f, "\r{runs} runs, {violations} violations        ")
+        write!(f, "\r{runs} of {all} runs, {violations} violations        ")
     }
 }
 
-/// The progress line of a soak with these totals so far.
-fn line_of(summary: &Summary) -> SoakLine
+/// The progress line of a soak of `all` runs with these totals so far.
+fn line_of(summary: &Summary, all: u64) -> SoakLine
     ensures runs { result.runs ≡ summary.now.runs }
+    ensures all { result.all ≡ all }
     ensures violations { result.violations ≡ summary.now.violations }
 {
     SoakLine {
         runs: summary.runs,
+        all,
         violations: summary.violations,
     }
 }
@@ -107,7 +112,7 @@ impl<'a> SoakObserver for SoakProgress<'a> {
             return;
         }
         if self.is_terminal && self.is_due() {
-            let line = line_of(summary);
+            let line = line_of(summary, self.runs);
             let _ = eprint!(self.rt; "{line}");
         }
     }

@@ -6,7 +6,7 @@ ghost use Rattle.fwupd_jobs.specs.Soaked.{ReportsViolation, SoakEnds, SoaksClean
 
 use crate::numbering::is_numbered;
 use fw_script::{Config, write_schedule};
-use fw_soak::{Setup, soak, summary_text};
+use fw_soak::{Setup, soak, summary_in};
 use fw_world::Step;
 use fwupd_nodes::{Host, Parts, configuration, package_files, packages_in};
 use fwupd_watch::{JobFault, OutputPlaces, is_over_read, write_file};
@@ -90,10 +90,10 @@ fn judge<W: Write + Drop, P: OutputPlaces<W>>(
 /// `Record` or `Memory` if the steps can't be written, else `Violation` if there was one.
 pub fn soak_file<H: Parts>(alloc: Global, job: Soak<'_>, host: &mut Host<H>) -> Result<(), JobFault>
     ensures ok { OnOk result (SoaksClean (H.Files.holds host.old.files) job.entry.config.now
-        job.entry.order (option_map (λ p. p.now) job.entry.record) host.old.output
+        job.entry.order job.entry.form (option_map (λ p. p.now) job.entry.record) host.old.output
         host.new.output) }
     ensures fault { IfErr result (λ e. SoakEnds (H.Files.holds host.old.files)
-        job.entry.config.now job.entry.order (option_map (λ p. p.now) job.entry.record) e
+        job.entry.config.now job.entry.order job.entry.form (option_map (λ p. p.now) job.entry.record) e
         (H.Places.is_known host.old.places) (H.Places.held host.new.places) host.old.output
         host.new.output) }
     ensures clean { OnOk result (H.Places.held host.new.places ≡ H.Places.held host.old.places) }
@@ -140,7 +140,7 @@ pub fn soak_file<H: Parts>(alloc: Global, job: Soak<'_>, host: &mut Host<H>) -> 
     ) else {
         return Err(JobFault::Memory);
     };
-    let Ok(text) = summary_text(alloc, &soaked.summary) else {
+    let Ok(text) = summary_in(alloc, &soaked.summary, job.form) else {
         return Err(JobFault::Memory);
     };
     match host.output.write(&text) {

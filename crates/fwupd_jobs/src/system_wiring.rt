@@ -4,13 +4,13 @@ ghost use Rattle.std.specs.Prelude.{◌≡◌, None, Some, if◌then◌else◌};
 
 use crate::process_files::{SystemWatch, open_watch};
 use crate::sockets::{explain_socket, socket_path};
+use fwupd_base::{DeviceProcess, Serving, Watching, Wire};
 use fwupd_nodes::{Joined, Network, Observed, Wiring};
 use fwupd_watch::{JobFault, explains};
 use fwupd_wires::{
     AgentSockets, AgentWire, DeviceSockets, DeviceWire, Front, FrontedLine, MachineClock, Port,
     SerialLine,
 };
-use fwupd_words::{DeviceProcess, Serving, Watching, Wire};
 use std::alloc::Global;
 use std::io;
 

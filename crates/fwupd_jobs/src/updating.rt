@@ -4,16 +4,17 @@ ghost use Rattle.std.specs.Prelude.{◌≡◌, ◌⊎◌, Bool, IfErr, IfOk, IfS
 ghost use Rattle.std.specs.List.{AllByRecursion};
 ghost use Rattle.fw_json.specs.Forms.{report_in};
 ghost use Rattle.fw_setup.specs.Stocks.{stores_in};
+ghost use Rattle.fwupd_base.specs.PackageChoices.{number_for};
 ghost use Rattle.fw_steps.specs.Opening.{IsOpeningWorld};
 ghost use Rattle.fwupd_watch.specs.Outputs.{FailsToWriteOutput, WritesOutput};
 ghost use Rattle.fwupd_nodes.specs.Sessions.{undone_in};
-ghost use Rattle.fwupd_nodes.specs.Setups.{SourceOf, TellsStore, source_of};
+ghost use Rattle.fwupd_nodes.specs.Setups.{SourceOf, TellsStore, chosen_source, source_of};
 ghost use Rattle.fwupd_watch.specs.Histories.{HasHistoryLinesIfAny, MayHaveHistoryLines};
 ghost use Rattle.fwupd_watch.specs.Recordings.{IsNewRecording, HasRecordedSteps};
 ghost use Rattle.fwupd_jobs.specs.Updated.{HaveLinks, DrivingEnds, IsLost, IsNumberedSetup, IsRoughLink, IsUnlinked, NamesLost, ReportsUpdate, TellsLost, UpdateEnds};
 ghost use Rattle.fwupd_watch.specs.Running.{ReportsLinkFailures, IsBrokenRun, IsCaused, HasObserverFault, UpdateOk, RunsSteps, RunsStepsSeen, UpdatesDevices, show_of};
 
-use crate::numbering::is_numbered;
+use crate::choosing::ordered_devices;
 use fd_core::Bank;
 use fw_edge::{EdgeFault, Link, Rough};
 use fw_json::report_in;
@@ -22,7 +23,7 @@ use fw_setup::{opening_world, opening_world_over};
 use fw_world::{World, runs_are_promised};
 use fwupd_base::{Form, Roughness};
 use fwupd_nodes::{
-    Host, Parts, Undone, Wires, configuration, first_undone, open_kept, package_files, packages_in,
+    Host, Parts, Undone, Wires, configuration, open_kept, package_files, packages_in, undone_in,
 };
 use fwupd_watch::{JobFault, Observer, Output, begin_apart, update_observed};
 use fwupd_words::{Order, Update};
@@ -67,23 +68,27 @@ fn open_all<B: Bank + Drop, L: Link + Drop, S: Wires<L>>(
     Ok(links)
 }
 
-/// Writes the report of a world in a format.
+/// Writes the report of a world in a format, and returns its sessions that aren't Done.
 fn write_report<B: Bank + Drop, W: Write + Drop>(
     alloc: Global,
     world: &World<'_, B>,
     form: Form,
     output: &mut Output<W>,
-) -> Result<(), JobFault>
+) -> Result<Undone, JobFault>
     ensures ok { OnOk result (WritesOutput output.old output.new (report_in form world.now)) }
+    ensures undone { IfOk result (λ u. u ≡ undone_in world.now) }
     ensures fault { IfErr result (λ e. ((e ≡ JobFault.Memory) × (output.new ≡ output.old))
         ⊎ ((e ≡ JobFault.Output)
         × FailsToWriteOutput output.old output.new (report_in form world.now))) }
 {
+    let Ok(undone) = undone_in(alloc, world) else {
+        return Err(JobFault::Memory);
+    };
     let Ok(text) = report_in(alloc, world, form) else {
         return Err(JobFault::Memory);
     };
     match output.write(&text) {
-        Ok(()) => Ok(()),
+        Ok(()) => Ok(undone),
         Err(fault) => Err(fault),
     }
 }
@@ -144,8 +149,8 @@ fn update_reporting<B: Bank + Drop, L: Link + Drop, V: Observer>(
     requires each { length links.old ≡ length world.old.sites }
     requires rough { HaveLinks (λ unit device link. IsRoughLink order.roughness device
         link.roughness link.generator) world.old.sites links.old }
-    ensures updated { OnOk result (UpdateOk order.number world.old world.new) }
-    ensures reached { RunsSteps order.number world.old world.new }
+    ensures updated { OnOk result (UpdateOk (number_for order.packages) world.old world.new) }
+    ensures reached { RunsSteps (number_for order.packages) world.old world.new }
     ensures seen { OnOk result ((V.watched watch.new).fault ≡ None) }
     ensures recorded { OnOk result (IfSome (V.watched watch.old).recording IsNewRecording
         → IfSome (V.watched watch.new).recording (HasRecordedSteps world.old world.new)) }
@@ -160,17 +165,17 @@ fn update_reporting<B: Bank + Drop, L: Link + Drop, V: Observer>(
     ensures ended { (V.watched watch.new).has_ended ≡ true }
     ensures same { (V.watched watch.new).shows ≡ (V.watched watch.old).shows }
     ensures turns { OnOk result ((V.watched watch.old).seen ≡ 0
-        → UpdatesDevices order.number world.old world.new (V.watched watch.new).seen) }
+        → UpdatesDevices (number_for order.packages) world.old world.new (V.watched watch.new).seen) }
     ensures lost { IfErr result (λ e. e ≡ JobFault.Edge EdgeFault.Frame
         → TellsLost world.new (map (λ l. l.tally.failures) links.new) (V.watched watch.new).lost) }
     ensures none_lost { OnOk result ((V.watched watch.new).lost ≡ (V.watched watch.old).lost) }
-    ensures fault { IfErr result (λ e. (e ≡ JobFault.Memory) ⊎ IsCaused order.number world.old world.new e (V.watched watch.new)) }
+    ensures fault { IfErr result (λ e. (e ≡ JobFault.Memory) ⊎ IsCaused (number_for order.packages) world.old world.new e (V.watched watch.new)) }
     ensures kept { OnOk result (map (λ l. l.tally.failures) links.new ≡ map (λ l. l.tally.failures) links.old) }
     ensures failed { IfErr result (λ e. ReportsLinkFailures e
         (map (λ l. l.tally.failures) links.old) (map (λ l. l.tally.failures) links.new)) }
-    ensures sees { (V.watched watch.old).seen ≡ 0 → RunsStepsSeen order.number world.old world.new (V.watched watch.new).seen }
+    ensures sees { (V.watched watch.old).seen ≡ 0 → RunsStepsSeen (number_for order.packages) world.old world.new (V.watched watch.new).seen }
 {
-    match update_observed(alloc, world, order.number, links, watch) {
+    match update_observed(alloc, world, &order.packages, links, watch) {
         Ok(()) => Ok(()),
         Err(JobFault::Memory) => Err(JobFault::Memory),
         Err(fault) => {
@@ -180,15 +185,15 @@ fn update_reporting<B: Bank + Drop, L: Link + Drop, V: Observer>(
     }
 }
 
-/// Updates each device of a new world over its own link, with the requested package, and writes the
-/// report of the last world.
+/// Updates each device of a new world over its own link, with its package, and writes the report of
+/// the last world.
 fn update_over<B: Bank + Drop, H: Parts>(
     alloc: Global,
     world: &mut World<'_, B>,
     job: Update<'_>,
     host: &mut Host<H>,
-) -> Result<Option<Undone>, JobFault>
-    ensures updated { OnOk result (UpdateOk job.entry.order.number world.old world.new) }
+) -> Result<Undone, JobFault>
+    ensures updated { OnOk result (UpdateOk (number_for job.entry.order.packages) world.old world.new) }
     ensures seen { OnOk result ((H.Watch.watched host.new.watch).fault ≡ None) }
     ensures recorded { OnOk result (IfSome (H.Watch.watched host.old.watch).recording IsNewRecording
         → IfSome (H.Watch.watched host.new.watch).recording (HasRecordedSteps world.old world.new)) }
@@ -204,7 +209,7 @@ fn update_over<B: Bank + Drop, H: Parts>(
         → MayHaveHistoryLines (H.Watch.watched host.new.watch).history world.new.history) }
     ensures let_end { OnOk result ((H.Watch.watched host.new.watch).has_ended ≡ true) }
     ensures turns { OnOk result ((H.Watch.watched host.old.watch).seen ≡ 0
-        → UpdatesDevices job.entry.order.number world.old world.new (H.Watch.watched host.new.watch).seen) }
+        → UpdatesDevices (number_for job.entry.order.packages) world.old world.new (H.Watch.watched host.new.watch).seen) }
     ensures lost { IfErr result (λ e. e ≡ JobFault.Edge EdgeFault.Frame
         → NamesLost world.new (H.Watch.watched host.new.watch).lost) }
     ensures none_lost { OnOk result ((H.Watch.watched host.new.watch).lost ≡ (H.Watch.watched host.old.watch).lost) }
@@ -212,10 +217,10 @@ fn update_over<B: Bank + Drop, H: Parts>(
     ensures same { (H.Watch.watched host.new.watch).shows ≡ (H.Watch.watched host.old.watch).shows }
     ensures written { OnOk result (WritesOutput host.old.output host.new.output (report_in job.entry.show.form world.new)) }
     ensures undone { IfOk result (λ u. u ≡ undone_in world.new) }
-    ensures reached { RunsSteps job.entry.order.number world.old world.new }
+    ensures reached { RunsSteps (number_for job.entry.order.packages) world.old world.new }
     ensures sees { (H.Watch.watched host.old.watch).seen ≡ 0
-        → RunsStepsSeen job.entry.order.number world.old world.new (H.Watch.watched host.new.watch).seen }
-    ensures fault { IfErr result (λ e. DrivingEnds job.entry.order.number job.entry.show.form
+        → RunsStepsSeen (number_for job.entry.order.packages) world.old world.new (H.Watch.watched host.new.watch).seen }
+    ensures fault { IfErr result (λ e. DrivingEnds (number_for job.entry.order.packages) job.entry.show.form
         (H.Wires.lacks host.old.wires job.entry.folder.now)
         world.old world.new e (H.Watch.watched host.new.watch) host.old.output host.new.output) }
 {
@@ -240,20 +245,20 @@ fn update_over<B: Bank + Drop, H: Parts>(
         Err(JobFault::Memory) => return Err(JobFault::Memory),
         Err(fault) => {
             match write_report(alloc, world, job.show.form, &mut host.output) {
-                Ok(()) => {}
+                Ok(_) => {}
                 Err(other) => return Err(other),
             }
             return Err(fault);
         }
     }
     match write_report(alloc, world, job.show.form, &mut host.output) {
-        Ok(()) => Ok(first_undone(world)),
+        Ok(undone) => Ok(undone),
         Err(fault) => Err(fault),
     }
 }
 
-/// Begins the observer, updates each device of a new world over its own link, with the requested
-/// package, and writes the report of the last world. The first world is that of the configuration
+/// Begins the observer, updates each device of a new world over its own link, with its package, and
+/// writes the report of the last world. The first world is that of the configuration
 /// in a file with these packages.
 fn update_new<B: Bank + Drop, H: Parts>(
     alloc: Global,
@@ -261,19 +266,19 @@ fn update_new<B: Bank + Drop, H: Parts>(
     world: &mut World<'_, B>,
     job: Update<'_>,
     host: &mut Host<H>,
-) -> Result<Option<Undone>, JobFault>
+) -> Result<Undone, JobFault>
     requires { IsOpeningWorld world.old }
     ensures ok { IfOk result (λ undone. (source : SourceOf) (named : IsNumberedSetup
-        (H.Files.holds host.old.files) source job.entry.order.number world.old)
+        (H.Files.holds host.old.files) source (number_for job.entry.order.packages) world.old)
         → source.path ≡ job.entry.config.now
         → named.setup.config.packages ≡ map (λ p. string_bytes p) packages.now
-        → ReportsUpdate (H.Files.holds host.old.files) source job.entry.order.number (show_of job.entry.show)
+        → ReportsUpdate (H.Files.holds host.old.files) source (number_for job.entry.order.packages) (show_of job.entry.show)
         (H.Watch.watched host.new.watch) host.old.output host.new.output undone) }
     ensures fault { IfErr result (λ e. (source : SourceOf) (named : IsNumberedSetup
-        (H.Files.holds host.old.files) source job.entry.order.number world.old)
+        (H.Files.holds host.old.files) source (number_for job.entry.order.packages) world.old)
         → source.path ≡ job.entry.config.now
         → named.setup.config.packages ≡ map (λ p. string_bytes p) packages.now
-        → UpdateEnds (H.Files.holds host.old.files) source job.entry.order.number (show_of job.entry.show)
+        → UpdateEnds (H.Files.holds host.old.files) source (number_for job.entry.order.packages) (show_of job.entry.show)
         (H.Watch.refuses host.old.watch) (H.Wires.lacks host.old.wires job.entry.folder.now) e
         (H.Watch.watched host.new.watch) host.old.output host.new.output) }
     ensures untouched { IfErr result (λ e. (host.new.watch ≡ host.old.watch)
@@ -298,14 +303,15 @@ fn update_new<B: Bank + Drop, H: Parts>(
     }
 }
 
-/// Updates the devices of the configuration in a file over links, with the requested package and
-/// roughness, and writes the report of the last world. Returns the first session in configured
-/// order that isn't Done. If a folder of stores is given, each device begins with the images in its
-/// store, and writes activated images there.
+/// Updates the requested devices of the configuration in a file over links, each with its package,
+/// with the requested roughness, and writes the report of the last world, in which are only these
+/// devices. Returns the sessions that aren't Done, in configured order. If a folder of stores is
+/// given, each device begins with the images in its store, and writes activated images there.
 ///
 /// # Errors
-/// The first fault, in this order: of the configuration; `NoPackage` if it has no package of this
-/// number; of each of its packages; `Store` of the first device whose store can't be opened;
+/// The first fault, in this order: of the configuration; `NoDevice` with the least requested
+/// endpoint identifier that is that of no device; `NoPackage` if it has no package of the number of
+/// one of them; of each of its packages; `Store` of the first device whose store can't be opened;
 /// `Trace`, `Log`, `Record` or `History` if the observer can't begin, or if an output would
 /// overwrite one of these files or another output, or is in a store; `Socket` if a link can't be
 /// opened.
@@ -317,14 +323,16 @@ pub fn update_files<H: Parts>(
     alloc: Global,
     job: Update<'_>,
     host: &mut Host<H>,
-) -> Result<Option<Undone>, JobFault>
+) -> Result<Undone, JobFault>
     ensures ok { IfOk result (λ undone. ReportsUpdate (H.Files.holds host.old.files)
-        (source_of (stores_in (H.Stores.is_known host.old.stores) (H.Stores.files host.old.stores))
-        (option_map (λ p. p.now) job.entry.show.store) job.entry.config.now) job.entry.order.number (show_of job.entry.show)
+        (chosen_source (source_of (stores_in (H.Stores.is_known host.old.stores) (H.Stores.files host.old.stores))
+        (option_map (λ p. p.now) job.entry.show.store) job.entry.config.now) job.entry.order.devices)
+        (number_for job.entry.order.packages) (show_of job.entry.show)
         (H.Watch.watched host.new.watch) host.old.output host.new.output undone) }
     ensures fault { IfErr result (λ e. UpdateEnds (H.Files.holds host.old.files)
-        (source_of (stores_in (H.Stores.is_known host.old.stores) (H.Stores.files host.old.stores))
-        (option_map (λ p. p.now) job.entry.show.store) job.entry.config.now) job.entry.order.number (show_of job.entry.show)
+        (chosen_source (source_of (stores_in (H.Stores.is_known host.old.stores) (H.Stores.files host.old.stores))
+        (option_map (λ p. p.now) job.entry.show.store) job.entry.config.now) job.entry.order.devices)
+        (number_for job.entry.order.packages) (show_of job.entry.show)
         (H.Watch.refuses host.old.watch) (H.Wires.lacks host.old.wires job.entry.folder.now) e
         (H.Watch.watched host.new.watch) host.old.output host.new.output) }
     ensures untouched { IfErr result (λ e. (host.new.watch ≡ host.old.watch)
@@ -340,9 +348,10 @@ pub fn update_files<H: Parts>(
         Ok(config) => config,
         Err(fault) => return Err(fault),
     };
-    if !is_numbered(paths.len(), job.order.number) {
-        return Err(JobFault::NoPackage);
-    }
+    let devices = match ordered_devices(devices, &job.order, paths.len()) {
+        Ok(devices) => devices,
+        Err(fault) => return Err(fault),
+    };
     let contents = match package_files(alloc, &host.files, paths.as_slice()) {
         Ok(contents) => contents,
         Err(fault) => return Err(fault),

@@ -1,61 +1,49 @@
 -- Sessions that are Done, one after the other.
-use Rattle.std.proofs.Common.{◌≡◌, ◌+◌, ◌∙◌, ℕ, zero, suc, List, [], ◌∷◌, Some, None, Bool, false, true, if◌then◌else◌, refl, sym, ap, arith}
-use Rattle.std.specs.Prelude.{Option, drop, option_map, slice_get}
-use Rattle.std.specs.List.{AllByRecursion}
+use Rattle.std.proofs.Common.{◌≡◌, ◌+◌, ◌++◌, ◌∙◌, ℕ, zero, suc, List, [], ◌∷◌, Some, None, Bool, false, true, if◌then◌else◌, refl, sym, ap, arith}
+use Rattle.std.specs.Prelude.{Option, decimal, drop, option_map, slice_get}
 use Rattle.fw_node.specs.Agents.{AgentOf}
 use Rattle.fw_node.specs.Nodes.{DeviceNodeOf}
 use Rattle.fw_script.specs.Reports.{session_of}
-use Rattle.fw_steps.specs.Worlds.{SiteOf, WorldOf}
+use Rattle.fw_steps.specs.Worlds.{SiteOf}
 use Rattle.ua_core.specs.declared.state.SessionState.{SessionState}
 use Rattle.ua_core.specs.declared.state.SessionState.TheVariants as sessions
-use Rattle.fwupd_nodes.specs.Sessions.{AllDone, devices_at, first_undone, is_done, undone_in}
-use Rattle.fwupd_nodes.specs.declared.sessions.Undone.{Undone}
+use Rattle.fwupd_nodes.specs.Sessions.{AreDone, UndoneOf, devices_at, is_done, named_after, none_undone, undone_after, undone_of, undone_word, with_session}
 
-abbrev undone_at : AgentOf → List SiteOf → Option Undone
-undone_at a xs = first_undone a (devices_at xs)
+-- the sessions of the devices from a place on, after others
+abbrev undone_at : UndoneOf → AgentOf → List SiteOf → UndoneOf
+undone_at u a xs = undone_after u a (devices_at xs)
 
--- the first session from a place on that isn't Done
-abbrev from_one : AgentOf → (device : ℕ) → List SiteOf → Option Undone
-from_one a device xs = if is_done (session_of a device) then undone_at a xs else Some (record { eid = device; state = session_of a device })
+abbrev from_one : UndoneOf → AgentOf → (device : ℕ) → List SiteOf → UndoneOf
+from_one u a device xs = undone_at (with_session u device (session_of a device)) a xs
 
-undone_from : (a : AgentOf) (xs : List SiteOf) (place : ℕ) (n : DeviceNodeOf) → option_map (λ x. x.node) (slice_get xs place) ≡ Some n
-    → undone_at a (drop place xs) ≡ from_one a n.endpoint.eid (drop (suc place) xs)
-undone_from a [] place n e = absurd cc
-undone_from a (x ∷ xs) zero n e =
+undone_from : (u : UndoneOf) (a : AgentOf) (xs : List SiteOf) (place : ℕ) (n : DeviceNodeOf) → option_map (λ x. x.node) (slice_get xs place) ≡ Some n
+    → undone_at u a (drop place xs) ≡ from_one u a n.endpoint.eid (drop (suc place) xs)
+undone_from u a [] place n e = absurd cc
+undone_from u a (x ∷ xs) zero n e =
     let same : Some x.node ≡ Some n = e in
     let node : x.node ≡ n = cc in
-    ap (λ (m : DeviceNodeOf). from_one a m.endpoint.eid xs) node
-undone_from a (x ∷ xs) (suc place) n e = undone_from a xs place n e
+    ap (λ (m : DeviceNodeOf). from_one u a m.endpoint.eid xs) node
+undone_from u a (x ∷ xs) (suc place) n e = undone_from u a xs place n e
 
--- the session at a place is Done, or it is the first that isn't
-by_done : (d : Bool) (o p q : Option Undone) → o ≡ (if d then p else q) → d ≡ true → o ≡ p
-by_done true o p q e h = e
-by_done false o p q e h = absurd (let bad : false ≡ true = h in cc)
-
-by_undone : (d : Bool) (o p q : Option Undone) → o ≡ (if d then p else q) → d ≡ false → o ≡ q
-by_undone true o p q e h = absurd (let bad : true ≡ false = h in cc)
-by_undone false o p q e h = e
-
-pub undone_next : (a : AgentOf) (xs : List SiteOf) (place device : ℕ) (n : DeviceNodeOf) (o : Option Undone) → option_map (λ x. x.node) (slice_get xs place) ≡ Some n → device ≡ n.endpoint.eid
-    → is_done (session_of a device) ≡ true → undone_at a (drop place xs) ≡ o → undone_at a (drop (place + 1) xs) ≡ o
-undone_next a xs place device n o at is done before =
+pub undone_next : (u v : UndoneOf) (a : AgentOf) (xs : List SiteOf) (place device : ℕ) (n : DeviceNodeOf) (all : UndoneOf) → option_map (λ x. x.node) (slice_get xs place) ≡ Some n → device ≡ n.endpoint.eid
+    → v ≡ with_session u device (session_of a device) → undone_at u a (drop place xs) ≡ all → undone_at v a (drop (place + 1) xs) ≡ all
+undone_next u v a xs place device n all at is told before =
     let next : suc place ≡ place + 1 = omega arith in
-    let from : undone_at a (drop place xs) ≡ from_one a device (drop (suc place) xs) =
-    undone_from a xs place n at ∙ ap (λ d. from_one a d (drop (suc place) xs)) (sym is) in
-    ap (λ k. undone_at a (drop k xs)) (sym next)
-    ∙ sym (by_done (is_done (session_of a device)) _ _ _ from done) ∙ before
+    ap (λ k. undone_at v a (drop k xs)) (sym next)
+    ∙ ap (λ t. undone_at t a (drop (suc place) xs)) told
+    ∙ ap (λ d. from_one u a d (drop (suc place) xs)) is
+    ∙ sym (undone_from u a xs place n at) ∙ before
 
-abbrev undone_of : ℕ → Option SessionState → Undone
-undone_of device state = record { eid = device; state = state }
+-- a text in which a device is named isn't empty
+never_empty : (xs : List ℕ) (c : ℕ) (ys : List ℕ) → xs ++ c ∷ ys ≡ [] → ⊥
+never_empty [] c ys e = absurd cc
+never_empty (x ∷ xs) c ys e = absurd cc
 
-pub undone_here : (a : AgentOf) (xs : List SiteOf) (place device : ℕ) (n : DeviceNodeOf) (state : Option SessionState) (o : Option Undone) → option_map (λ x. x.node) (slice_get xs place) ≡ Some n → device ≡ n.endpoint.eid
-    → state ≡ session_of a device → is_done (session_of a device) ≡ false → undone_at a (drop place xs) ≡ o → Some (record { eid = device; state = state }) ≡ o
-undone_here a xs place device n state o at is told undone before =
-    let from : undone_at a (drop place xs) ≡ from_one a device (drop (suc place) xs) =
-    undone_from a xs place n at ∙ ap (λ d. from_one a d (drop (suc place) xs)) (sym is) in
-    ap (λ (s : Option SessionState). Some (undone_of device s)) told ∙ sym (by_undone (is_done (session_of a device)) _ _ _ from undone) ∙ before
+named_some : (text : List ℕ) (device : ℕ) (state : Option SessionState) → named_after text device state ≡ [] → ⊥
+named_some [] device state e = never_empty (decimal device) 58 (32 ∷ undone_word state) e
+named_some (c ∷ text) device state e = absurd cc
 
--- If no session is undone, each is Done.
+-- If no session is named, each is Done.
 done_so : (s : Option SessionState) → is_done s ≡ true → s ≡ Some sessions.Done
 done_so None h = absurd (let bad : false ≡ true = h in cc)
 done_so (Some sessions.Idle) h = absurd (let bad : false ≡ true = h in cc)
@@ -74,16 +62,16 @@ done_so (Some sessions.Done) h = refl
 done_so (Some sessions.Cancelling) h = absurd (let bad : false ≡ true = h in cc)
 done_so (Some (sessions.Failed cause)) h = absurd (let bad : false ≡ true = h in cc)
 
-all_done_one : (a : AgentOf) (device : ℕ) (xs : List SiteOf) (d : Bool)
-    → (None ≡ undone_at a xs → AllByRecursion (λ x. session_of a x.node.endpoint.eid ≡ Some sessions.Done) xs) → is_done (session_of a device) ≡ d
-    → None ≡ (if d then undone_at a xs else Some (record { eid = device; state = session_of a device }))
-    → (session_of a device ≡ Some sessions.Done) × AllByRecursion (λ x. session_of a x.node.endpoint.eid ≡ Some sessions.Done) xs
-all_done_one a device xs true rest is e = (done_so (session_of a device) is, rest e)
-all_done_one a device xs false rest is e = absurd cc
+silent_so : (d : Bool) (u told : UndoneOf) → (told.text ≡ [] → ⊥) → (if d then u else told).text ≡ [] → (d ≡ true) × (u.text ≡ [])
+silent_so true u told named h = (refl, h)
+silent_so false u told named h = absurd (named h)
 
-all_done_from : (a : AgentOf) (xs : List SiteOf) → None ≡ undone_at a xs → AllByRecursion (λ x. session_of a x.node.endpoint.eid ≡ Some sessions.Done) xs
-all_done_from a [] h = tt
-all_done_from a (x ∷ xs) h = all_done_one a x.node.endpoint.eid xs (is_done (session_of a x.node.endpoint.eid)) (all_done_from a xs) refl h
+done_after : (u : UndoneOf) (a : AgentOf) (devices : List ℕ) → (undone_after u a devices).text ≡ [] → (u.text ≡ []) × AreDone a devices
+done_after u a [] h = (h, tt)
+done_after u a (device ∷ devices) h =
+    let later = done_after (with_session u device (session_of a device)) a devices h in
+    let here = silent_so (is_done (session_of a device)) u _ (named_some u.text device (session_of a device)) later.0 in
+    (here.1, (done_so (session_of a device) here.0, later.1))
 
-pub all_done : (w : WorldOf) → None ≡ undone_in w → AllDone w
-all_done w h = all_done_from w.agent w.sites h
+pub all_done : (a : AgentOf) (devices : List ℕ) → (undone_of a devices).text ≡ [] → AreDone a devices
+all_done a devices h = (done_after none_undone a devices h).1

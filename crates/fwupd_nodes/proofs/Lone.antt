@@ -26,8 +26,8 @@ use Rattle.fwupd_nodes.proofs.Packed.{none_stocked, packages_so, some_stocked}
 use Rattle.fwupd_watch.specs.Serving.{ServesAll, ServingEnds}
 use Rattle.fwupd_watch.specs.declared.faults.JobFault.{JobFault}
 use Rattle.fwupd_watch.specs.declared.faults.JobFault.TheVariants as faults
-use Rattle.fwupd_words.specs.declared.asked.AgentAlone.{AgentAlone}
-use Rattle.fwupd_words.specs.declared.asked.DeviceAlone.{DeviceAlone}
+use Rattle.fwupd_base.specs.declared.alone.AgentAlone.{AgentAlone}
+use Rattle.fwupd_base.specs.declared.alone.DeviceAlone.{DeviceAlone}
 
 -- a device's place among the read ones is that among the configured ones
 flip : (b : Bool) (x y : ℕ) → cond (not b) y x ≡ cond b x y

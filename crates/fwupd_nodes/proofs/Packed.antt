@@ -18,7 +18,7 @@ use Rattle.fw_steps.specs.Worlds.{WorldOf}
 use Rattle.fw_setup.specs.Nodes.{nodes_made}
 use Rattle.fw_setup.specs.Stocks.{HaveStoredImages, IsUnopened, StoresOf}
 use Rattle.fw_setup.specs.declared.stores.Unopened.{Unopened}
-use Rattle.fwupd_nodes.specs.Setups.{AreDevices, ArePackages, ArePacked, IsPacked, IsSetup, IsUnreadable, HasNoText, NumberedSetupFails, PackageFails, PackagesFail, Says, SourceOf, StoresFail, TellsUnopened, TextFails, TextFault, misread_by, job_fault_of_misread, job_fault_of_unread}
+use Rattle.fwupd_nodes.specs.Setups.{AreDevices, ArePackages, ArePacked, IsPacked, IsSetup, IsUnreadable, HasNoText, NumberedSetupFails, PackageFails, PackagesFail, Says, SourceOf, StoresFail, TellsUnopened, TextFails, TextFault, misread_by, job_fault_of_misread, job_fault_of_unread, AreConfigured, ChosenStoresFail, chosen_in, chosen_source}
 use Rattle.fwupd_watch.specs.Files.{FileOf, MayHold}
 use Rattle.fwupd_watch.specs.declared.faults.JobFault.{JobFault}
 use Rattle.fwupd_watch.specs.declared.faults.JobFault.TheVariants as faults
@@ -48,7 +48,8 @@ unsaid_so read path text file fault faults.Report h held is = absurd h
 unsaid_so read path text file fault faults.Record h held is = absurd h
 unsaid_so read path text file fault faults.History h held is = absurd h
 unsaid_so read path text file fault (faults.Edge f) h held is = absurd h
-unsaid_so read path text file fault (faults.Session device word) h held is = absurd h
+unsaid_so read path text file fault (faults.Undone sessions) h held is = absurd h
+unsaid_so read path text file fault (faults.Skipped sessions) h held is = absurd h
 unsaid_so read path text file fault faults.Output h held is = absurd h
 unsaid_so read path text file fault faults.Memory h held is = absurd h
 
@@ -215,13 +216,14 @@ named_there files config names contents slice ps named packed same read =
 pub set_up : (files : List ℕ → FileOf) (source : SourceOf) (config : Config) (ps packs : List PackageText) (devices : List DeviceConfigOf) (w : WorldOf)
     → Says config_of (files source.path) (config_seen config) → ArePackages files (map (λ p. string_bytes p) config.packages.items) ps
     → AreDevices source.stores (map device_of config.devices.items) devices → packs ≡ ps
-    → w ≡ new_world config.agent (nodes_made config.unit config.agent.eid devices) packs → IsSetup files source w
+    → w ≡ new_world config.agent (nodes_made config.unit config.agent.eid devices) packs → IsSetup files (chosen_source source None) w
 set_up files source config ps packs devices w says are stocked lent is = record {
   config = config_seen config;
   packages = ps;
   devices = devices;
   says = says;
   are = are;
+  there = tt;
   stocked = stocked;
   world = is ∙ ap (λ q. new_world config.agent (nodes_made config.unit config.agent.eid devices) q) lent;
 }
@@ -232,6 +234,21 @@ pub stores_fail : (files : List ℕ → FileOf) (source : SourceOf) (config : Co
     → (told ≡ faults.Memory) ⊎ StoresFail files source told
 stores_fail files source config ps told says are (inl e) = inl e
 stores_fail files source config ps told says are (inr u) = inr (record { config = config_seen config; says = says; packages = ps; are = are; unopened = u })
+
+-- or that of a chosen device
+pub chosen_stores_fail : (files : List ℕ → FileOf) (source : SourceOf) (config : Config) (chosen : List DeviceConfigOf) (ps : List PackageText) (told : JobFault) → Says config_of (files source.path) (config_seen config)
+    → ArePackages files (map (λ p. string_bytes p) config.packages.items) ps → AreConfigured source.chosen (map device_of config.devices.items) → chosen ≡ chosen_in source.chosen (map device_of config.devices.items)
+    → (told ≡ faults.Memory) ⊎ IsSomeAnd source.stores (λ s. TellsUnopened s chosen told)
+    → (told ≡ faults.Memory) ⊎ ChosenStoresFail files source told
+chosen_stores_fail files source config chosen ps told says are there is (inl e) = inl e
+chosen_stores_fail files source config chosen ps told says are there is (inr u) = inr (record {
+  config = config_seen config;
+  says = says;
+  packages = ps;
+  are = are;
+  there = there;
+  unopened = subst (λ ds. IsSomeAnd source.stores (λ s. TellsUnopened s ds told)) is u;
+})
 
 -- the content of a vector that was written as a slice of its length
 pub all_written : {A : Type 0} (n : ℕ) (xs ys : List A) → length ys ≡ length xs → n ≡ length xs → take n (ys ++ drop (length ys) xs) ≡ ys

@@ -25,8 +25,8 @@ use Rattle.fwupd_watch.specs.Files.{FileOf}
 use Rattle.fwupd_watch.specs.Outputs.{OutputOf, WritesOutput}
 use Rattle.fwupd_watch.specs.declared.faults.JobFault.{JobFault}
 use Rattle.fwupd_watch.specs.declared.faults.JobFault.TheVariants as faults
-use Rattle.fwupd_words.specs.declared.processes.AgentProcess.{AgentProcess}
-use Rattle.fwupd_words.specs.declared.processes.DeviceProcess.{DeviceProcess}
+use Rattle.fwupd_base.specs.declared.processes.AgentProcess.{AgentProcess}
+use Rattle.fwupd_base.specs.declared.processes.DeviceProcess.{DeviceProcess}
 
 -- A DEVICE
 

@@ -22,8 +22,8 @@ use Rattle.fwupd_watch.specs.Files.{FileOf, IsApartFrom, IsOverOne}
 use Rattle.fwupd_watch.specs.Serving.{ServesAll, ServingEnds, StreamsOf}
 use Rattle.fwupd_watch.specs.declared.faults.JobFault.{JobFault}
 use Rattle.fwupd_watch.specs.declared.faults.JobFault.TheVariants as faults
-use Rattle.fwupd_words.specs.declared.asked.AgentAlone.{AgentAlone}
-use Rattle.fwupd_words.specs.declared.asked.DeviceAlone.{DeviceAlone}
+use Rattle.fwupd_base.specs.declared.alone.AgentAlone.{AgentAlone}
+use Rattle.fwupd_base.specs.declared.alone.DeviceAlone.{DeviceAlone}
 
 -- the input and the output that a job finds, and those that it leaves
 abbrev pub streams_found : FoundOf → StreamsOf

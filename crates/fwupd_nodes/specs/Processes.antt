@@ -1,5 +1,5 @@
 -- A device or the agent of a configuration as a process of its own.
-use Rattle.std.specs.Prelude.{ℕ, ◌≡◌, ◌≤◌, ◌⊎◌, ◌+◌, ◌-◌, ◌^◌, Bool, Err, IfSome, IsSomeAnd, List, [], ◌∷◌, None, Ok, Option, Some, if◌then◌else◌, map, nat_le, option_map, true}
+use Rattle.std.specs.Prelude.{ℕ, ◌≡◌, ◌≤◌, ◌⊎◌, ◌+◌, ◌-◌, ◌^◌, Bool, Err, IfSome, List, [], ◌∷◌, None, Ok, Option, Some, if◌then◌else◌, map, nat_le, option_map, true}
 use Rattle.fw_json.specs.Alone.{agent_alone_value}
 use Rattle.fw_json.specs.Values.{line_of}
 use Rattle.fw_node.specs.Nodes.{DeviceNodeOf}
@@ -22,7 +22,7 @@ use Rattle.fw_store.specs.Folders.{Files}
 use Rattle.fw_store.specs.declared.kept_line.KeptLine.{KeptLine}
 use Rattle.fwupd_nodes.specs.AgentStores.{AgentSetupOf, BeginsWithStore, keeps_lines, keeps_nothing}
 use Rattle.fwupd_nodes.specs.Alone.{DeviceSetupFails, DeviceSetupOf, IsDeviceSetup}
-use Rattle.fwupd_nodes.specs.Sessions.{TellsUndone, first_undone}
+use Rattle.fwupd_nodes.specs.Sessions.{AreDone, TellsUndone, undone_of}
 use Rattle.fwupd_nodes.specs.Setups.{AreDevices, ArePacked, PackagesFail, Says, TextFails}
 use Rattle.fwupd_traces.specs.Watches.{Ended}
 use Rattle.fwupd_watch.specs.Apart.{IsApart, IsOverRead}
@@ -32,10 +32,10 @@ use Rattle.fwupd_watch.specs.Processes.{fault_of_watch}
 use Rattle.fwupd_watch.specs.Running.{ShowOf}
 use Rattle.fwupd_watch.specs.declared.faults.JobFault.{JobFault}
 use Rattle.fwupd_watch.specs.declared.faults.JobFault.TheVariants as faults
-use Rattle.fwupd_words.specs.declared.asked.DeviceAlone.{DeviceAlone}
-use Rattle.fwupd_words.specs.declared.processes.AgentProcess.{AgentProcess}
-use Rattle.fwupd_words.specs.declared.processes.DeviceProcess.{DeviceProcess}
-use Rattle.fwupd_words.specs.declared.processes.Watching.{Watching}
+use Rattle.fwupd_base.specs.declared.alone.DeviceAlone.{DeviceAlone}
+use Rattle.fwupd_base.specs.declared.processes.AgentProcess.{AgentProcess}
+use Rattle.fwupd_base.specs.declared.processes.DeviceProcess.{DeviceProcess}
+use Rattle.fwupd_base.specs.declared.processes.Watching.{Watching}
 
 -- the outputs of a process besides its report, as those of a run
 abbrev pub process_shows : Watching → (log store : Option (List ℕ)) → ShowOf
@@ -204,7 +204,7 @@ pub record ReportsServed (job : AgentProcess) (s : ServedAgentOf) (before : Outp
 -- If the sessions are checked, each is Done.
 pub record EndsServed (job : AgentProcess) (s : ServedAgentOf) (before : OutputOf) (after : AgentLeftOf) : Type 0 where
   pub reports : ReportsServed job s before after
-  pub checked : job.is_checked ≡ true → first_undone s.agent (map (λ c. c.device) s.counts) ≡ None
+  pub checked : job.is_checked ≡ true → AreDone s.agent (map (λ c. c.device) s.counts)
 
 -- It is one, and ends so.
 pub record RunsServed {K : Type 0} (keeps : K → List KeptLine → Type 0) (job : AgentProcess) (new : ServedAgentOf) (eids : List ℕ) (before : OutputOf) (after : AgentLeftOf) : Type 0 where
@@ -249,9 +249,9 @@ pub record RunsAgent (job : AgentProcess) (files : List ℕ → FileOf) (kept : 
 
 -- WHY IT FAILS
 
--- the sessions are checked, and this is the fault of the first that isn't Done
+-- the sessions are checked, and this is the fault that names those that aren't Done
 abbrev pub IsUndoneServed : AgentProcess → ServedAgentOf → JobFault → Type 0
-IsUndoneServed job s told = (job.is_checked ≡ true) × IsSomeAnd (first_undone s.agent (map (λ c. c.device) s.counts)) (λ u. TellsUndone u told)
+IsUndoneServed job s told = (job.is_checked ≡ true) × TellsUndone (undone_of s.agent (map (λ c. c.device) s.counts)) told
 
 -- The report isn't written as a whole: memory was refused, or the records of the log or the report
 -- can't be written. Or it is, and a session isn't Done.

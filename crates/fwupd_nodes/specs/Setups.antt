@@ -1,7 +1,8 @@
 -- The inputs of jobs on worlds: the configuration in a file, and the packages in the files that it
 -- names.
 use Rattle.std.specs.Global.{Global}
-use Rattle.std.specs.Prelude.{ℕ, ◌≡◌, ◌≢◌, ◌<◌, ◌≤◌, ◌++◌, ◌⊎◌, true, false, List, [], ◌∷◌, Option, None, Some, Result, Ok, Err, IsOk, IsSomeAnd, String, length, option_map, string_bytes}
+use Rattle.std.specs.Prelude.{ℕ, ◌≡◌, ◌≢◌, ◌<◌, ◌≤◌, ◌==◌, ◌++◌, ◌⊎◌, ◌&&◌, Bool, true, false, List, [], ◌∷◌, Option, None, Some, Result, Ok, Err, IsOk, IsSomeAnd, String, length, nat_le, option_map, string_bytes}
+use Rattle.std.specs.List.{filter, list_all, list_any}
 use Rattle.fw_package.specs.Package.{PackageText}
 use Rattle.fw_package.specs.Reading.{package_of}
 use Rattle.fw_package.specs.declared.fault.PackageFault.{PackageFault}
@@ -13,6 +14,8 @@ use Rattle.fw_steps.specs.Opening.{new_world}
 use Rattle.fw_steps.specs.Worlds.{WorldOf}
 use Rattle.fw_setup.specs.Nodes.{nodes_made}
 use Rattle.fw_setup.specs.Stocks.{HaveStoredImages, IsUnopened, StoresOf}
+use Rattle.fwupd_base.specs.DeviceSets.{has_eid}
+use Rattle.fwupd_base.specs.declared.device_set.DeviceSet.{DeviceSet}
 use Rattle.fwupd_watch.specs.Files.{FileOf, MayHold}
 use Rattle.fwupd_watch.specs.declared.faults.JobFault.{JobFault}
 use Rattle.fwupd_watch.specs.declared.faults.JobFault.TheVariants as faults
@@ -117,33 +120,86 @@ pub record PackagesFail (files : List ℕ → FileOf) (paths : List (List ℕ)) 
   pub read : ArePackages files before packages
   pub fails : PackageFails files path fault
 
--- The source of nodes: the path of a configuration, and the knowledge of the stores of its devices,
--- if they have some.
+-- The source of nodes: the path of a configuration, the knowledge of the stores of its devices, if
+-- they have some, and the set of the chosen devices, if not all are chosen.
 pub record SourceOf : Type 0 where
   pub path : List ℕ
   pub stores : Option StoresOf
+  pub chosen : Option DeviceSet
 
 -- stores of which nothing is known
 abbrev pub any_stores : StoresOf
 any_stores = record { is_known = false; files = λ device name. None }
 
--- a configuration with the stores in a folder, if one is given
+-- all devices of a configuration, with the stores in a folder, if one is given; and the chosen
+-- devices
 abbrev pub source_of : ((root : List ℕ) → StoresOf) → (root : Option (List ℕ)) → (path : List ℕ) → SourceOf
-source_of stores root path = record { path = path; stores = option_map stores root }
+source_of stores root path = record { path = path; stores = option_map stores root; chosen = None }
+
+abbrev pub chosen_source : SourceOf → Option DeviceSet → SourceOf
+chosen_source source chosen = record source { chosen = chosen }
+
+-- the devices in a set, in their order; all if there is no set
+abbrev pub chosen_in : Option DeviceSet → List DeviceConfigOf → List DeviceConfigOf
+chosen_in None devices = devices
+chosen_in (Some set) devices = filter (λ x. has_eid set x.endpoint.eid) devices
+
+-- a device has this endpoint identifier
+abbrev pub has_device : List DeviceConfigOf → (eid : ℕ) → Bool
+has_device devices eid = list_any (λ x. x.endpoint.eid == eid) devices
+
+-- each endpoint identifier in a set, if there is one, is that of a device
+abbrev pub AreConfigured : Option DeviceSet → List DeviceConfigOf → Type 0
+AreConfigured None devices = Unit {0}
+AreConfigured (Some set) devices = (eid : ℕ) → eid < 256 → has_eid set eid ≡ true → has_device devices eid ≡ true
+
+-- The chosen devices of a configuration, which has them.
+pub record AreChosen (chosen : Option DeviceSet) (configured devices : List DeviceConfigOf) : Type 0 where
+  pub there : AreConfigured chosen configured
+  pub are : devices ≡ chosen_in chosen configured
+
+-- The least endpoint identifier in a set that is that of no device.
+pub record IsMissing (set : DeviceSet) (devices : List DeviceConfigOf) (eid : ℕ) : Type 0 where
+  pub chosen : has_eid set eid ≡ true
+  pub none : has_device devices eid ≡ false
+  pub least : (other : ℕ) → other < eid → has_eid set other ≡ true → has_device devices other ≡ true
+
+-- the fault is that of this endpoint identifier
+abbrev pub TellsMissing : Option DeviceSet → List DeviceConfigOf → JobFault → Type 0
+TellsMissing chosen devices (faults.NoDevice eid) = IsSomeAnd chosen (λ set. IsMissing set devices eid)
+TellsMissing chosen devices fault = ⊥
+
+-- one of `count` packages has this number, counted from 1
+abbrev pub is_numbered : (count number : ℕ) → Bool
+is_numbered count number = nat_le 1 number && nat_le number count
+
+-- each of the devices has one of `count` packages; a device's number is that for its endpoint
+-- identifier
+abbrev pub have_packages : (numbers : ℕ → ℕ) → (count : ℕ) → List DeviceConfigOf → Bool
+have_packages numbers count devices = list_all (λ x. is_numbered count (numbers x.endpoint.eid)) devices
+
+-- why devices with packages of their numbers can't be chosen: one is missing, or the number of one
+-- isn't that of a package
+abbrev pub ChoiceFails : Option DeviceSet → (numbers : ℕ → ℕ) → (count : ℕ) → List DeviceConfigOf → JobFault → Type 0
+ChoiceFails chosen numbers count devices fault =
+    TellsMissing chosen devices fault
+    ⊎ ((fault ≡ faults.NoPackage) × AreConfigured chosen devices × (have_packages numbers count (chosen_in chosen devices) ≡ false))
 
 -- the devices of a configuration, with the images in their stores, if they have some
 abbrev pub AreDevices : Option StoresOf → (configured devices : List DeviceConfigOf) → Type 0
 AreDevices None configured devices = devices ≡ configured
 AreDevices (Some s) configured devices = HaveStoredImages s configured devices
 
--- a configuration, its packages, the images in the stores of its devices, and their opening world
+-- a configuration that has the chosen devices, its packages, the images in the stores of the chosen
+-- devices, and their opening world
 pub record IsSetup (files : List ℕ → FileOf) (source : SourceOf) (w : WorldOf) : Type 0 where
   pub config : ConfigOf
   pub packages : List PackageText
   pub devices : List DeviceConfigOf
   pub says : Says config_of (files source.path) config
   pub are : ArePackages files config.packages packages
-  pub stocked : AreDevices source.stores config.devices devices
+  pub there : AreConfigured source.chosen config.devices
+  pub stocked : AreDevices source.stores (chosen_in source.chosen config.devices) devices
   pub world : w ≡ new_world config.agent (nodes_made config.unit config.agent.eid devices) packages
 
 -- why there is none
@@ -176,6 +232,41 @@ TellsUnopened s devices fault = ⊥
 abbrev pub TellsStore : JobFault → Type 0
 TellsStore (faults.Store device why) = Unit {0}
 TellsStore fault = ⊥
+
+-- The configuration in a file lacks a chosen device.
+pub record LacksChosen (files : List ℕ → FileOf) (source : SourceOf) (fault : JobFault) : Type 0 where
+  pub config : ConfigOf
+  pub says : Says config_of (files source.path) config
+  pub missing : TellsMissing source.chosen config.devices fault
+
+-- It has the chosen devices, one of which has no package of its number.
+pub record LacksChosenPackage (files : List ℕ → FileOf) (source : SourceOf) (numbers : ℕ → ℕ) : Type 0 where
+  pub config : ConfigOf
+  pub says : Says config_of (files source.path) config
+  pub there : AreConfigured source.chosen config.devices
+  pub none : have_packages numbers (length config.packages) (chosen_in source.chosen config.devices) ≡ false
+
+-- why there is no world of chosen devices with packages of these numbers: a package can't be read,
+-- after each device and its number were found in the configuration
+pub record ChosenPackagesFail (files : List ℕ → FileOf) (source : SourceOf) (numbers : ℕ → ℕ) (fault : JobFault) : Type 0 where
+  pub config : ConfigOf
+  pub says : Says config_of (files source.path) config
+  pub there : AreConfigured source.chosen config.devices
+  pub numbered : have_packages numbers (length config.packages) (chosen_in source.chosen config.devices) ≡ true
+  pub fail : PackagesFail files config.packages fault
+
+abbrev pub ChosenSetupFails : (files : List ℕ → FileOf) → (source : SourceOf) → (numbers : ℕ → ℕ) → JobFault → Type 0
+ChosenSetupFails files source numbers fault = TextFails config_of files source.path fault ⊎ ChosenPackagesFail files source numbers fault
+
+-- The configuration has the chosen devices, and its packages are correct. The store of a chosen
+-- device can't be opened.
+pub record ChosenStoresFail (files : List ℕ → FileOf) (source : SourceOf) (fault : JobFault) : Type 0 where
+  pub config : ConfigOf
+  pub says : Says config_of (files source.path) config
+  pub packages : List PackageText
+  pub are : ArePackages files config.packages packages
+  pub there : AreConfigured source.chosen config.devices
+  pub unopened : IsSomeAnd source.stores (λ s. TellsUnopened s (chosen_in source.chosen config.devices) fault)
 
 -- The configuration and its packages are correct, and the store of a device can't be opened.
 pub record StoresFail (files : List ℕ → FileOf) (source : SourceOf) (fault : JobFault) : Type 0 where

@@ -10,13 +10,14 @@ ghost use Rattle.fw_trace.specs.Records.{records_bytes};
 ghost use Rattle.fwupd_nodes.specs.Hosts.{agent_store_in};
 ghost use Rattle.fwupd_nodes.specs.AgentStores.{agent_setup_seen, keeps_nothing};
 ghost use Rattle.fwupd_nodes.specs.Processes.{AgentProcessEnds, AgentSetupStops, ContentsStop, EndFails, EndsServed, HasEnded, KeptStops, ObservedEndFails, RunsAgent, RunsAgentSetup, RunsKept, RunsPackages, RunsServed, ServedStops, ServesStarted, agent_report_in, agent_started};
-ghost use Rattle.fwupd_nodes.specs.Sessions.{TellsUndone, first_undone};
+ghost use Rattle.fwupd_nodes.specs.Sessions.{undone_of};
+ghost use Rattle.fwupd_watch.specs.Outputs.{FailsToWriteOutput, WritesOutput};
 
 use crate::agent_stores::{AgentSetup, open_agent};
 use crate::alone::eids_of;
 use crate::host::{Host, Parts};
 use crate::outputs::{ProcessOutputs, check_outputs};
-use crate::sessions::{Undone, is_done, undone_fault};
+use crate::sessions::Undone;
 use crate::setups::{configuration, package_files, packages_in};
 use crate::wiring::{Joined, Network, Observed, Wiring, begin, end_of, observe};
 use agent_store::{AgentKeeper, KeepFault, NoKeeper};
@@ -29,7 +30,7 @@ use fw_serve::{AgentProcess, CallFault, ServedAgent, serve_agent_process};
 use fw_trace::log_bytes;
 use fwupd_base::Form;
 use fwupd_traces::{ObservedLine, PacketObserver, Starts, TracedNode, WatchFault};
-use fwupd_watch::{JobFault, OutputPlaces, process_fault, write_file};
+use fwupd_watch::{JobFault, Output, OutputPlaces, process_fault, write_file};
 use std::alloc::{AllocError, Global};
 use std::io::Write;
 
@@ -67,7 +68,7 @@ fn serve_started<
     C: Clock + Drop,
 >(
     alloc: Global,
-    job: &fwupd_words::AgentProcess<'_>,
+    job: &fwupd_base::AgentProcess<'_>,
     setup: &AgentSetup<'_>,
     agent: ServedAgent<'p>,
     keeper: K,
@@ -104,7 +105,7 @@ fn serve_observed<
     C: Clock + Drop,
 >(
     alloc: Global,
-    job: &fwupd_words::AgentProcess<'_>,
+    job: &fwupd_base::AgentProcess<'_>,
     setup: &AgentSetup<'_>,
     agent: ServedAgent<'p>,
     keeper: K,
@@ -163,38 +164,46 @@ fn keep_log<W: Write + Drop, P: OutputPlaces<W>>(
     }
 }
 
-/// The first session of an agent that isn't Done, of those with the devices of these counts.
-fn first_undone(agent: &AgentNode, counts: &[SentCount]) -> Option<Undone>
-    ensures { result ≡ first_undone agent.now (map (λ c. c.device) counts.now) }
+/// The sessions of an agent that aren't Done, of those with the devices of these counts.
+fn undone_of(alloc: Global, agent: &AgentNode, counts: &[SentCount]) -> Result<Undone, AllocError>
+    ensures { IfOk result (λ u. u ≡ undone_of agent.now (map (λ c. c.device) counts.now)) }
 {
+    let mut undone = Undone::none(alloc);
     for count in counts {
-        let state = session_of(agent, count.device);
-        if !is_done(state) {
-            return Some(Undone {
-                eid: count.device,
-                state,
-            });
-        }
+        undone.add(alloc, count.device, session_of(agent, count.device))?;
     }
-    None
+    Ok(undone)
 }
 
-/// The fault of the first session that isn't Done, if there is one.
-fn all_done(agent: &ServedAgent<'_>) -> Result<(), JobFault>
-    ensures done { OnOk result (first_undone agent.now.agent (map (λ c. c.device) agent.now.counts) ≡ None) }
-    ensures undone { IfErr result (λ e. IsSomeAnd (first_undone agent.now.agent
-        (map (λ c. c.device) agent.now.counts)) (λ u. TellsUndone u e)) }
+/// Writes the report of an agent in a format, and returns its sessions that aren't Done.
+fn write_report<W: Write + Drop>(
+    alloc: Global,
+    agent: &ServedAgent<'_>,
+    form: Form,
+    output: &mut Output<W>,
+) -> Result<Undone, JobFault>
+    ensures written { OnOk result (WritesOutput output.old output.new (agent_report_in form agent.now)) }
+    ensures undone { IfOk result (λ u. u ≡ undone_of agent.now.agent (map (λ c. c.device) agent.now.counts)) }
+    ensures fault { IfErr result (λ e. ((e ≡ JobFault.Memory) × (output.new ≡ output.old))
+        ⊎ ((e ≡ JobFault.Output)
+        × FailsToWriteOutput output.old output.new (agent_report_in form agent.now))) }
 {
-    match first_undone(agent.agent(), agent.counts()) {
-        None => Ok(()),
-        Some(undone) => Err(undone_fault(undone)),
+    let Ok(undone) = undone_of(alloc, agent.agent(), agent.counts()) else {
+        return Err(JobFault::Memory);
+    };
+    let Ok(text) = report_in(alloc, agent, form) else {
+        return Err(JobFault::Memory);
+    };
+    match output.write(&text) {
+        Ok(()) => Ok(undone),
+        Err(fault) => Err(fault),
     }
 }
 
 /// Writes what is requested of an agent at the end: the records of its event log, and its report.
 fn end_agent<H: Parts>(
     alloc: Global,
-    job: &fwupd_words::AgentProcess<'_>,
+    job: &fwupd_base::AgentProcess<'_>,
     agent: &ServedAgent<'_>,
     host: &mut Host<H>,
 ) -> Result<(), JobFault>
@@ -214,23 +223,20 @@ fn end_agent<H: Parts>(
         Ok(()) => {}
         Err(fault) => return Err(fault),
     }
-    let Ok(text) = report_in(alloc, agent, job.form) else {
-        return Err(JobFault::Memory);
-    };
-    match host.output.write(&text) {
-        Ok(()) => {}
+    let undone = match write_report(alloc, agent, job.form, &mut host.output) {
+        Ok(undone) => undone,
         Err(fault) => return Err(fault),
-    }
+    };
     if !job.is_checked {
         return Ok(());
     }
-    all_done(agent)
+    undone.check()
 }
 
 /// Writes what is requested of an agent at the end, whose observer ended so.
 fn end_observed<H: Parts>(
     alloc: Global,
-    job: &fwupd_words::AgentProcess<'_>,
+    job: &fwupd_base::AgentProcess<'_>,
     agent: &ServedAgent<'_>,
     watched: Result<(), WatchFault>,
     host: &mut Host<H>,
@@ -276,7 +282,7 @@ fn observed<'e>(setup: &AgentSetup<'e>, number: usize) -> Observed<'e>
 /// Serves an agent as a process, with a keeper of what it keeps over a restart.
 fn serve_agent<'p, K: AgentKeeper + Drop, H: Parts>(
     alloc: Global,
-    job: &fwupd_words::AgentProcess<'_>,
+    job: &fwupd_base::AgentProcess<'_>,
     setup: &AgentSetup<'_>,
     agent: ServedAgent<'p>,
     keeper: K,
@@ -323,7 +329,7 @@ fn serve_agent<'p, K: AgentKeeper + Drop, H: Parts>(
 /// Serves a new agent, of which nothing is kept.
 fn serve_new<'p, H: Parts>(
     alloc: Global,
-    job: &fwupd_words::AgentProcess<'_>,
+    job: &fwupd_base::AgentProcess<'_>,
     setup: &AgentSetup<'_>,
     packages: &'p [Package<'p>],
     host: &mut Host<H>,
@@ -355,7 +361,7 @@ fn serve_new<'p, H: Parts>(
 /// Serves the agent that goes on with what a folder of stores keeps, and keeps it there.
 fn serve_kept<'p, H: Parts>(
     alloc: Global,
-    job: &fwupd_words::AgentProcess<'_>,
+    job: &fwupd_base::AgentProcess<'_>,
     root: &str,
     setup: &AgentSetup<'_>,
     packages: &'p [Package<'p>],
@@ -391,7 +397,7 @@ fn serve_kept<'p, H: Parts>(
 /// Serves an agent, which goes on with what a folder of stores keeps, if one is given.
 fn serve_setup<'p, H: Parts>(
     alloc: Global,
-    job: &fwupd_words::AgentProcess<'_>,
+    job: &fwupd_base::AgentProcess<'_>,
     setup: &AgentSetup<'_>,
     packages: &'p [Package<'p>],
     host: &mut Host<H>,
@@ -422,7 +428,7 @@ fn serve_setup<'p, H: Parts>(
 /// Serves the agent of a configuration with the packages in these bytes.
 fn serve_packages<H: Parts>(
     alloc: Global,
-    job: &fwupd_words::AgentProcess<'_>,
+    job: &fwupd_base::AgentProcess<'_>,
     config: &Config,
     contents: &[Vec<u8>],
     host: &mut Host<H>,
@@ -477,11 +483,11 @@ fn serve_packages<H: Parts>(
 /// if the agent's store can't be opened; `Trace` and `Record` if these files can't be made; `Tty`
 /// if the serial line can't be opened; `NoPackage` if it has no package of the number; `Unkept` if
 /// its store can't be written; `Log` and `Output` if the records or the report can't be written;
-/// `Session`, if that check is requested, with the first session that isn't Done; and `Trace` and
-/// `Record` if something of these couldn't be written. `Memory` if memory is refused.
+/// `Undone` or `Skipped`, if that check is requested, with the sessions that aren't Done; and
+/// `Trace` and `Record` if something of these couldn't be written. `Memory` if memory is refused.
 pub fn run_agent<H: Parts>(
     alloc: Global,
-    job: &fwupd_words::AgentProcess<'_>,
+    job: &fwupd_base::AgentProcess<'_>,
     host: &mut Host<H>,
 ) -> Result<(), JobFault>
     ensures runs { OnOk result (RunsAgent job.now (H.Files.holds host.old.files)

@@ -20,9 +20,9 @@ use fw_node::DeviceNode;
 use fw_process::{Clock, Line, ProcessNode, serve_process};
 use fw_serve::DeviceProcess;
 use fw_setup::{MemBanks, device_node};
+use fwupd_base::DeviceAlone;
 use fwupd_traces::{ObservedLine, PacketObserver, Starts, TracedNode, WatchFault};
 use fwupd_watch::{JobFault, Output, process_fault};
-use fwupd_words::DeviceAlone;
 use std::alloc::Global;
 use std::io::Write;
 
@@ -109,7 +109,7 @@ fn observed(network: &Network) -> Observed<'static>
 /// Serves a device's node as a process, and writes its report at the end.
 fn serve_device<B: Bank + Drop, H: Parts>(
     alloc: Global,
-    job: &fwupd_words::DeviceProcess<'_>,
+    job: &fwupd_base::DeviceProcess<'_>,
     network: Network,
     node: DeviceNode<B>,
     host: &mut Host<H>,
@@ -139,7 +139,7 @@ fn serve_device<B: Bank + Drop, H: Parts>(
 /// Serves a device with the images of the configuration.
 fn serve_configured<H: Parts>(
     alloc: Global,
-    job: &fwupd_words::DeviceProcess<'_>,
+    job: &fwupd_base::DeviceProcess<'_>,
     setup: &DeviceSetup,
     host: &mut Host<H>,
 ) -> Result<(), JobFault>
@@ -168,7 +168,7 @@ fn serve_configured<H: Parts>(
 /// Serves a device with the images in its store.
 fn serve_stored<H: Parts>(
     alloc: Global,
-    job: &fwupd_words::DeviceProcess<'_>,
+    job: &fwupd_base::DeviceProcess<'_>,
     root: &str,
     setup: DeviceSetup,
     host: &mut Host<H>,
@@ -219,7 +219,7 @@ fn serve_stored<H: Parts>(
 #[tactic(auto, using(crate::proofs::Processes::device_stops, crate::proofs::Processes::device_overwrites))]
 pub fn run_device<H: Parts>(
     alloc: Global,
-    job: &fwupd_words::DeviceProcess<'_>,
+    job: &fwupd_base::DeviceProcess<'_>,
     host: &mut Host<H>,
 ) -> Result<(), JobFault>
     ensures runs { OnOk result (RunsDevice job.now (H.Files.holds host.old.files)

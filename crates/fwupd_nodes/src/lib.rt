@@ -23,7 +23,7 @@ pub use decoding::decode_file;
 pub use device_serving::run_device;
 pub use host::{Host, Parts};
 pub use outputs::{ProcessOutputs, check_outputs};
-pub use sessions::{Undone, first_undone, is_done, undone_fault};
+pub use sessions::{Undone, undone_in};
 pub use setups::{
     configuration, open_kept, package_files, packages_in, read_fault, read_kept, schedule,
     text_fault,

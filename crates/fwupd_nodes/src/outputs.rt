@@ -4,9 +4,8 @@ ghost use Rattle.std.specs.Prelude.{◌∷◌, ◌≡◌, ◌⊎◌, IfErr, OnOk
 ghost use Rattle.fwupd_nodes.specs.Processes.{process_shows};
 ghost use Rattle.fwupd_watch.specs.Apart.{IsApart, IsOverRead};
 
-use fwupd_base::Form;
+use fwupd_base::{Form, Show, Watching};
 use fwupd_watch::{Files, JobFault, check_apart};
-use fwupd_words::{Show, Watching};
 use std::alloc::Global;
 
 /// The outputs of a process besides its report.

@@ -5,9 +5,9 @@ ghost use Rattle.fw_process.specs.Processes.{shows};
 ghost use Rattle.fwupd_nodes.specs.Processes.{end_of};
 
 use fw_process::{Clock, Line};
+use fwupd_base::{DeviceProcess, Serving, Watching};
 use fwupd_traces::{ObservedLine, PacketObserver, Starts, TracedNode};
 use fwupd_watch::JobFault;
-use fwupd_words::{DeviceProcess, Serving, Watching};
 use mctp_ctl::Endpoint;
 use mctp_wire::Unit;
 use std::alloc::Global;

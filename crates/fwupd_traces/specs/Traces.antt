@@ -9,8 +9,8 @@ use Rattle.fwupd_traces.specs.PacketLines.{device_in, is_to_agent, trace_line}
 use Rattle.fwupd_traces.specs.declared.packet_lines.TracedNode.{TracedNode}
 use Rattle.fwupd_traces.specs.declared.process_watch.WatchFault.{WatchFault}
 use Rattle.fwupd_traces.specs.declared.process_watch.WatchFault.TheVariants as faults
-use Rattle.fwupd_words.specs.declared.asked.TraceForm.{TraceForm}
-use Rattle.fwupd_words.specs.declared.asked.TraceForm.TheVariants as forms
+use Rattle.fwupd_base.specs.declared.forms.TraceForm.{TraceForm}
+use Rattle.fwupd_base.specs.declared.forms.TraceForm.TheVariants as forms
 
 -- a packet as the input of a decoder
 abbrev pub decoded_as : (device : ℕ) → Sent → SeenOf

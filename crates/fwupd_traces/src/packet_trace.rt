@@ -13,7 +13,7 @@ use crate::observed_line::PacketObserver;
 use crate::packet_lines::{TracedNode, device_of_packet, is_to_agent, push_packet_line};
 use crate::process_watch::WatchFault;
 use fw_trace::{Decoder, LineForm, SeenPacket, TraceLines, capture_header, push_capture};
-use fwupd_words::TraceForm;
+use fwupd_base::TraceForm;
 use mctp_wire::{RawPacket, Unit};
 use std::alloc::{AllocError, Global};
 use std::io::{BufWriter, Write};

@@ -1,7 +1,7 @@
 -- The state of served lines.
-use Rattle.std.proofs.Common.{◌≡◌, ◌≢◌, ◌∙◌, ℕ, List, [], Bool, false, true, Option, Some, None, Result, Ok, Err, inl, inr, take, ◌++◌, subst, sym, refl}
+use Rattle.std.proofs.Common.{◌≡◌, ◌≢◌, ◌∙◌, ℕ, List, [], Bool, false, true, Option, Result, Ok, Err, inl, inr, take, ◌++◌, subst, sym, refl}
 use Rattle.std.specs.Prelude.{IfErr, OnOk}
-use Rattle.std.specs.Io.KnownBytes.{Appends, Keeps, append_known}
+use Rattle.std.specs.Io.KnownBytes.{Keeps, append_known}
 use Rattle.fwupd_base.specs.Serving.{BreaksOffNext, BreaksOffText, ServeErr, ServeOk, ServeWriteErr, ServesText}
 use Rattle.fwupd_base.specs.declared.stream.AnswerFault.{AnswerFault}
 use Rattle.fwupd_base.specs.declared.stream.AnswerFault.TheVariants as answers

@@ -31,26 +31,26 @@ take_next (y ∷ ys) zero x e = ap (λ z. z ∷ []) (let same : Some y ≡ Some 
 take_next (y ∷ ys) (suc i) x e = ap (λ zs. y ∷ zs) (take_next ys i x e)
 
 -- The updates of the first `place` devices are started. A start changes no device.
-pub record Begun (number : ℕ) (w : WorldOf) (place : ℕ) (v : WorldOf) : Type 0 where
-  pub run : Run w (starts_of number (take place w.sites)) v
+pub record Begun (numbers : ℕ → ℕ) (w : WorldOf) (place : ℕ) (v : WorldOf) : Type 0 where
+  pub run : Run w (starts_of numbers (take place w.sites)) v
   pub same : v.sites ≡ w.sites
   pub still : v.history ≡ w.history
 
-pub begun_none : (number : ℕ) (w : WorldOf) → Begun number w 0 w
-begun_none number w = record { run = refl; same = refl; still = refl }
+pub begun_none : (numbers : ℕ → ℕ) (w : WorldOf) → Begun numbers w 0 w
+begun_none numbers w = record { run = refl; same = refl; still = refl }
 
-abbrev start_of : ℕ → SiteOf → Step
-start_of number x = steps.Start x.node.endpoint.eid number
+abbrev start_of : (ℕ → ℕ) → SiteOf → Step
+start_of numbers x = steps.Start x.node.endpoint.eid (numbers x.node.endpoint.eid)
 
-starts_next : (number : ℕ) (xs : List SiteOf) (place : ℕ) (x : SiteOf) → slice_get xs place ≡ Some x → starts_of number (take (suc place) xs) ≡ starts_of number (take place xs) ++ start_of number x ∷ []
-starts_next number xs place x e = ap (starts_of number) (take_next xs place x e) ∙ map-append (start_of number) (take place xs) (x ∷ [])
+starts_next : (numbers : ℕ → ℕ) (xs : List SiteOf) (place : ℕ) (x : SiteOf) → slice_get xs place ≡ Some x → starts_of numbers (take (suc place) xs) ≡ starts_of numbers (take place xs) ++ start_of numbers x ∷ []
+starts_next numbers xs place x e = ap (starts_of numbers) (take_next xs place x e) ∙ map-append (start_of numbers) (take place xs) (x ∷ [])
 
-pub begun_more : (number : ℕ) (w v u : WorldOf) (place : ℕ) (x : SiteOf) → Begun number w place v → slice_get v.sites place ≡ Some x → StepsTo v (steps.Start x.node.endpoint.eid number) u → Begun number w (place + 1) u
-begun_more number w v u place x h e l = record {
+pub begun_more : (numbers : ℕ → ℕ) (w v u : WorldOf) (place : ℕ) (x : SiteOf) → Begun numbers w place v → slice_get v.sites place ≡ Some x → StepsTo v (steps.Start x.node.endpoint.eid (numbers x.node.endpoint.eid)) u → Begun numbers w (place + 1) u
+begun_more numbers w v u place x h e l = record {
   run =
       let next : suc place ≡ place + 1 = omega arith in
-      subst (λ ss. Run w ss u) (sym (starts_next number w.sites place x (ap (λ xs. slice_get xs place) (sym h.same) ∙ e)) ∙ ap (λ n. starts_of number (take n w.sites)) next)
-      (run_append w v u (starts_of number (take place w.sites)) (start_of number x ∷ []) h.run (u, l, refl));
+      subst (λ ss. Run w ss u) (sym (starts_next numbers w.sites place x (ap (λ xs. slice_get xs place) (sym h.same) ∙ e)) ∙ ap (λ n. starts_of numbers (take n w.sites)) next)
+      (run_append w v u (starts_of numbers (take place w.sites)) (start_of numbers x ∷ []) h.run (u, l, refl));
   same = ap (λ y. y.sites) l.after ∙ h.same;
   still = ap (λ y. y.history) l.after ∙ h.still;
 }
@@ -60,17 +60,17 @@ pub node_there : (o : Option SiteOf) (n : DeviceNodeOf) → option_map (λ x. x.
 node_there None n e = absurd cc
 node_there (Some x) n e = (x, refl, (let same : Some x.node ≡ Some n = e in cc))
 
-pub begun_by : (number : ℕ) (w v u : WorldOf) (place device : ℕ) (n : DeviceNodeOf) → Begun number w place v → option_map (λ x. x.node) (slice_get v.sites place) ≡ Some n → device ≡ n.endpoint.eid
-    → StepsTo v (steps.Start device number) u → Begun number w (place + 1) u
-begun_by number w v u place device n h at is l =
+pub begun_by : (numbers : ℕ → ℕ) (w v u : WorldOf) (place device : ℕ) (n : DeviceNodeOf) → Begun numbers w place v → option_map (λ x. x.node) (slice_get v.sites place) ≡ Some n → device ≡ n.endpoint.eid
+    → StepsTo v (steps.Start device (numbers device)) u → Begun numbers w (place + 1) u
+begun_by numbers w v u place device n h at is l =
     let there = node_there (slice_get v.sites place) n at in
     let own : device ≡ there.0.node.endpoint.eid = is ∙ ap (λ m. m.endpoint.eid) (sym there.2) in
-    begun_more number w v u place there.0 h there.1 (subst (λ d. StepsTo v (steps.Start d number) u) own l)
+    begun_more numbers w v u place there.0 h there.1 (subst (λ d. StepsTo v (steps.Start d (numbers d)) u) own l)
 
 -- its start isn't allowed
-pub refused_at : (number : ℕ) (w v : WorldOf) (place device : ℕ) (n : DeviceNodeOf) (fault : StepFault) → Begun number w place v → option_map (λ x. x.node) (slice_get v.sites place) ≡ Some n → device ≡ n.endpoint.eid
-    → may_step v (steps.Start device number) ≡ Some fault → IsRefusedStart number w v
-refused_at number w v place device n fault h at is refused =
+pub refused_at : (numbers : ℕ → ℕ) (w v : WorldOf) (place device : ℕ) (n : DeviceNodeOf) (fault : StepFault) → Begun numbers w place v → option_map (λ x. x.node) (slice_get v.sites place) ≡ Some n → device ≡ n.endpoint.eid
+    → may_step v (steps.Start device (numbers device)) ≡ Some fault → IsRefusedStart numbers w v
+refused_at numbers w v place device n fault h at is refused =
     let there = node_there (slice_get v.sites place) n at in
     let own : device ≡ there.0.node.endpoint.eid = is ∙ ap (λ m. m.endpoint.eid) (sym there.2) in
     record {
@@ -79,7 +79,7 @@ refused_at number w v place device n fault h at is refused =
       at = ap (λ xs. slice_get xs place) (sym h.same) ∙ there.1;
       begun = h.run;
       fault = fault;
-      refused = subst (λ d. may_step v (steps.Start d number) ≡ Some fault) own refused;
+      refused = subst (λ d. may_step v (steps.Start d (numbers d)) ≡ Some fault) own refused;
     }
 
 -- it isn't refused, except for lack of memory
@@ -91,9 +91,9 @@ none_other : (v : WorldOf) (s : Step) → RefusesStep v s refusals.Memory → (m
 none_other v s (inl e) = inl e
 none_other v s (inr e) = inr e.2
 
-pub allowed_at : (number : ℕ) (w v : WorldOf) (place device : ℕ) (n : DeviceNodeOf) → Begun number w place v → option_map (λ x. x.node) (slice_get v.sites place) ≡ Some n → device ≡ n.endpoint.eid
-    → RefusesStep v (steps.Start device number) refusals.Memory → MayStart number w v
-allowed_at number w v place device n h at is refused =
+pub allowed_at : (numbers : ℕ → ℕ) (w v : WorldOf) (place device : ℕ) (n : DeviceNodeOf) → Begun numbers w place v → option_map (λ x. x.node) (slice_get v.sites place) ≡ Some n → device ≡ n.endpoint.eid
+    → RefusesStep v (steps.Start device (numbers device)) refusals.Memory → MayStart numbers w v
+allowed_at numbers w v place device n h at is refused =
     let there = node_there (slice_get v.sites place) n at in
     let own : device ≡ there.0.node.endpoint.eid = is ∙ ap (λ m. m.endpoint.eid) (sym there.2) in
     record {
@@ -102,62 +102,62 @@ allowed_at number w v place device n h at is refused =
       at = ap (λ xs. slice_get xs place) (sym h.same) ∙ there.1;
       begun = h.run;
       allowed = λ fault other.
-          not_other (may_step v (steps.Start there.0.node.endpoint.eid number)) fault
-          (subst (λ d. (may_step v (steps.Start d number) ≡ Some refusals.Memory) ⊎ (may_step v (steps.Start d number) ≡ None)) own (none_other v (steps.Start device number) refused))
+          not_other (may_step v (steps.Start there.0.node.endpoint.eid (numbers there.0.node.endpoint.eid))) fault
+          (subst (λ d. (may_step v (steps.Start d (numbers d)) ≡ Some refusals.Memory) ⊎ (may_step v (steps.Start d (numbers d)) ≡ None)) own (none_other v (steps.Start device (numbers device)) refused))
           other;
     }
 
 -- the listed steps lead to the world
-pub begun_listed : (number : ℕ) (w v : WorldOf) (place : ℕ) (ss : List Step) → Begun number w place v → ss ≡ starts_of number (take place w.sites) → Run w ss v
-begun_listed number w v place ss h listed = subst (λ xs. Run w xs v) (sym listed) h.run
+pub begun_listed : (numbers : ℕ → ℕ) (w v : WorldOf) (place : ℕ) (ss : List Step) → Begun numbers w place v → ss ≡ starts_of numbers (take place w.sites) → Run w ss v
+begun_listed numbers w v place ss h listed = subst (λ xs. Run w xs v) (sym listed) h.run
 
 -- and listed
-pub listed_by : (number : ℕ) (w v : WorldOf) (place device : ℕ) (n : DeviceNodeOf) (before after : List Step) → Begun number w place v → option_map (λ x. x.node) (slice_get v.sites place) ≡ Some n
-    → device ≡ n.endpoint.eid → before ≡ starts_of number (take place w.sites) → after ≡ before ++ steps.Start device number ∷ [] → after ≡ starts_of number (take (place + 1) w.sites)
-listed_by number w v place device n before after h at is listed more =
+pub listed_by : (numbers : ℕ → ℕ) (w v : WorldOf) (place device : ℕ) (n : DeviceNodeOf) (before after : List Step) → Begun numbers w place v → option_map (λ x. x.node) (slice_get v.sites place) ≡ Some n
+    → device ≡ n.endpoint.eid → before ≡ starts_of numbers (take place w.sites) → after ≡ before ++ steps.Start device (numbers device) ∷ [] → after ≡ starts_of numbers (take (place + 1) w.sites)
+listed_by numbers w v place device n before after h at is listed more =
     let there = node_there (slice_get v.sites place) n at in
     let own : device ≡ there.0.node.endpoint.eid = is ∙ ap (λ m. m.endpoint.eid) (sym there.2) in
     let next : suc place ≡ place + 1 = omega arith in
-    more ∙ ap (λ d. before ++ steps.Start d number ∷ []) own ∙ ap (λ ss. ss ++ start_of number there.0 ∷ []) listed
-    ∙ sym (starts_next number w.sites place there.0 (ap (λ xs. slice_get xs place) (sym h.same) ∙ there.1)) ∙ ap (λ k. starts_of number (take k w.sites)) next
+    more ∙ ap (λ d. before ++ steps.Start d (numbers d) ∷ []) own ∙ ap (λ ss. ss ++ start_of numbers there.0 ∷ []) listed
+    ∙ sym (starts_next numbers w.sites place there.0 (ap (λ xs. slice_get xs place) (sym h.same) ∙ there.1)) ∙ ap (λ k. starts_of numbers (take k w.sites)) next
 
-pub listed_whole : (number : ℕ) (w v : WorldOf) (place : ℕ) (ss : List Step) → Begun number w place v → place ≡ length v.sites → ss ≡ starts_of number (take place w.sites) → ss ≡ starts_of number w.sites
-listed_whole number w v place ss h e listed = listed ∙ ap (starts_of number) (ap (λ n. take n w.sites) (e ∙ ap length h.same) ∙ take-length w.sites)
+pub listed_whole : (numbers : ℕ → ℕ) (w v : WorldOf) (place : ℕ) (ss : List Step) → Begun numbers w place v → place ≡ length v.sites → ss ≡ starts_of numbers (take place w.sites) → ss ≡ starts_of numbers w.sites
+listed_whole numbers w v place ss h e listed = listed ∙ ap (starts_of numbers) (ap (λ n. take n w.sites) (e ∙ ap length h.same) ∙ take-length w.sites)
 
-pub begun_all : (number : ℕ) (w v : WorldOf) (place : ℕ) → Begun number w place v → place ≡ length v.sites → Run w (starts_of number w.sites) v
-begun_all number w v place h e =
-    subst (λ xs. Run w (starts_of number xs) v) (ap (λ n. take n w.sites) (e ∙ ap length h.same) ∙ take-length w.sites) h.run
+pub begun_all : (numbers : ℕ → ℕ) (w v : WorldOf) (place : ℕ) → Begun numbers w place v → place ≡ length v.sites → Run w (starts_of numbers w.sites) v
+begun_all numbers w v place h e =
+    subst (λ xs. Run w (starts_of numbers xs) v) (ap (λ n. take n w.sites) (e ∙ ap length h.same) ∙ take-length w.sites) h.run
 
-pub begun_reached : (number : ℕ) (w v : WorldOf) (place : ℕ) → Begun number w place v → RunsSteps number w v
-begun_reached number w v place h = record {
+pub begun_reached : (numbers : ℕ → ℕ) (w v : WorldOf) (place : ℕ) → Begun numbers w place v → RunsSteps numbers w v
+begun_reached numbers w v place h = record {
   started = place;
   steps = [];
-  run = subst (λ ss. Run w ss v) (sym (append-nil (starts_of number (take place w.sites)))) h.run;
+  run = subst (λ ss. Run w ss v) (sym (append-nil (starts_of numbers (take place w.sites)))) h.run;
   driven = refl;
   all = inl refl;
 }
 
 -- steps that are taken when all updates are started
-led : (number : ℕ) (w v : WorldOf) (ss : List Step) → Run w (starts_of number w.sites ++ ss) v → AreDriven ss → RunsSteps number w v
-led number w v ss run driven = record {
+led : (numbers : ℕ → ℕ) (w v : WorldOf) (ss : List Step) → Run w (starts_of numbers w.sites ++ ss) v → AreDriven ss → RunsSteps numbers w v
+led numbers w v ss run driven = record {
   started = length w.sites;
   steps = ss;
-  run = subst (λ xs. Run w (starts_of number xs ++ ss) v) (sym (take-length w.sites)) run;
+  run = subst (λ xs. Run w (starts_of numbers xs ++ ss) v) (sym (take-length w.sites)) run;
   driven = driven;
   all = inr refl;
 }
 
 -- no tick has passed
-pub updates_none : (number : ℕ) (w v : WorldOf) → Run w (starts_of number w.sites) v → UpdatesDevices number w v 0
-updates_none number w v h = record { steps = []; run = subst (λ ss. Run w ss v) (sym (append-nil (starts_of number w.sites))) h; driven = refl; ticks_are = refl }
+pub updates_none : (numbers : ℕ → ℕ) (w v : WorldOf) → Run w (starts_of numbers w.sites) v → UpdatesDevices numbers w v 0
+updates_none numbers w v h = record { steps = []; run = subst (λ ss. Run w ss v) (sym (append-nil (starts_of numbers w.sites))) h; driven = refl; ticks_are = refl }
 
 -- steps are taken over links, with `more` ticks
-pub updates_more : (number : ℕ) (w v u : WorldOf) (ticks more : ℕ) (before after : List Step) → UpdatesDevices number w v ticks → before ≡ [] → Drives v before u after → ticks_in after ≡ ticks_in before + more → UpdatesDevices number w u (ticks + more)
-updates_more number w v u ticks more before after h none k counts = record {
+pub updates_more : (numbers : ℕ → ℕ) (w v u : WorldOf) (ticks more : ℕ) (before after : List Step) → UpdatesDevices numbers w v ticks → before ≡ [] → Drives v before u after → ticks_in after ≡ ticks_in before + more → UpdatesDevices numbers w u (ticks + more)
+updates_more numbers w v u ticks more before after h none k counts = record {
   steps = h.steps ++ k.steps;
   run =
-      subst (λ ss. Run w ss u) (append_assoc (starts_of number w.sites) h.steps k.steps)
-      (run_append w v u (starts_of number w.sites ++ h.steps) k.steps h.run k.run);
+      subst (λ ss. Run w ss u) (append_assoc (starts_of numbers w.sites) h.steps k.steps)
+      (run_append w v u (starts_of numbers w.sites ++ h.steps) k.steps h.run k.run);
   driven = driven_append h.steps k.steps h.driven k.driven;
   ticks_are =
       let a : ticks_in h.steps ≡ ticks = h.ticks_are in
@@ -168,41 +168,41 @@ updates_more number w v u ticks more before after h none k counts = record {
 }
 
 -- in each case, steps lead to the world
-pub updates_reached : (number : ℕ) (w v : WorldOf) (ticks : ℕ) → UpdatesDevices number w v ticks → RunsSteps number w v
-updates_reached number w v ticks h = led number w v h.steps h.run h.driven
+pub updates_reached : (numbers : ℕ → ℕ) (w v : WorldOf) (ticks : ℕ) → UpdatesDevices numbers w v ticks → RunsSteps numbers w v
+updates_reached numbers w v ticks h = led numbers w v h.steps h.run h.driven
 
-pub updates_off : (number : ℕ) (w v u : WorldOf) (ticks : ℕ) (before after : List Step) → UpdatesDevices number w v ticks → Drives v before u after → RunsSteps number w u
-updates_off number w v u ticks before after h k =
-    led number w u (h.steps ++ k.steps)
-    (subst (λ ss. Run w ss u) (append_assoc (starts_of number w.sites) h.steps k.steps)
-    (run_append w v u (starts_of number w.sites ++ h.steps) k.steps h.run k.run))
+pub updates_off : (numbers : ℕ → ℕ) (w v u : WorldOf) (ticks : ℕ) (before after : List Step) → UpdatesDevices numbers w v ticks → Drives v before u after → RunsSteps numbers w u
+updates_off numbers w v u ticks before after h k =
+    led numbers w u (h.steps ++ k.steps)
+    (subst (λ ss. Run w ss u) (append_assoc (starts_of numbers w.sites) h.steps k.steps)
+    (run_append w v u (starts_of numbers w.sites ++ h.steps) k.steps h.run k.run))
     (driven_append h.steps k.steps h.driven k.driven)
 
 -- the observer saw each tick
-pub updates_seen : (number : ℕ) (w v : WorldOf) (ticks seen : ℕ) → UpdatesDevices number w v ticks → seen ≡ ticks → RunsStepsSeen number w v seen
+pub updates_seen : (numbers : ℕ → ℕ) (w v : WorldOf) (ticks seen : ℕ) → UpdatesDevices numbers w v ticks → seen ≡ ticks → RunsStepsSeen numbers w v seen
 unfolding updates_reached led
-updates_seen number w v ticks seen h is =
-    let all : ticks_in (updates_reached number w v ticks h).steps ≡ ticks = h.ticks_are in
-    record { lead = updates_reached number w v ticks h; each = omega arith; few = omega arith }
+updates_seen numbers w v ticks seen h is =
+    let all : ticks_in (updates_reached numbers w v ticks h).steps ≡ ticks = h.ticks_are in
+    record { lead = updates_reached numbers w v ticks h; each = omega arith; few = omega arith }
 
 -- also a turn that stopped, or was over before it began
-pub updates_seen_off : (number : ℕ) (w v u : WorldOf) (ticks seen : ℕ) (before after : List Step) → UpdatesDevices number w v ticks → before ≡ [] → Drives v before u after → ticks_in after ≤ ticks_in before + 1
-    → seen ≡ ticks + 1 → RunsStepsSeen number w u seen
+pub updates_seen_off : (numbers : ℕ → ℕ) (w v u : WorldOf) (ticks seen : ℕ) (before after : List Step) → UpdatesDevices numbers w v ticks → before ≡ [] → Drives v before u after → ticks_in after ≤ ticks_in before + 1
+    → seen ≡ ticks + 1 → RunsStepsSeen numbers w u seen
 unfolding updates_off led
-updates_seen_off number w v u ticks seen before after h none k few is =
+updates_seen_off numbers w v u ticks seen before after h none k few is =
     let a : ticks_in h.steps ≡ ticks = h.ticks_are in
     let all : after ≡ k.steps = k.appended ∙ ap (λ ss. ss ++ k.steps) none in
     let none_before : ticks_in before ≡ 0 = ap ticks_in none in
     let same : ticks_in after ≡ ticks_in k.steps = ap ticks_in all in
-    let sum : ticks_in (updates_off number w v u ticks before after h k).steps ≡ ticks_in h.steps + ticks_in k.steps = sum_by-append tick_in h.steps k.steps in
-    record { lead = updates_off number w v u ticks before after h k; each = omega arith; few = omega arith }
+    let sum : ticks_in (updates_off numbers w v u ticks before after h k).steps ≡ ticks_in h.steps + ticks_in k.steps = sum_by-append tick_in h.steps k.steps in
+    record { lead = updates_off numbers w v u ticks before after h k; each = omega arith; few = omega arith }
 
 -- no turn was observed before all updates are started
-pub begun_seen : (number : ℕ) (w v : WorldOf) (place : ℕ) → Begun number w place v → RunsStepsSeen number w v 0
+pub begun_seen : (numbers : ℕ → ℕ) (w v : WorldOf) (place : ℕ) → Begun numbers w place v → RunsStepsSeen numbers w v 0
 unfolding begun_reached
-begun_seen number w v place h =
-    let none : ticks_in (begun_reached number w v place h).steps ≡ 0 = refl in
-    record { lead = begun_reached number w v place h; each = omega arith; few = omega arith }
+begun_seen numbers w v place h =
+    let none : ticks_in (begun_reached numbers w v place h).steps ≡ 0 = refl in
+    record { lead = begun_reached numbers w v place h; each = omega arith; few = omega arith }
 
 -- an observer's fault differs from that of a turn
 pub watched_apart : (f : ObserverFault) (e : EdgeFault) → job_fault_of_observer f ≡ told.Edge e → ⊥
@@ -255,14 +255,14 @@ unwritten_still r old new fault h first after = go (observer_fault_of fault) h
     go (Some f) is = first_still r old new f is first after
 
 -- the cause of an update's end
-pub update_caused : (number : ℕ) (w v : WorldOf) (fault : JobFault) (watched : ObserverOf) → MayEnd fault → (fault ≡ told.Edge edges.Step → IsRefusedStart number w v ⊎ (v.now ≡ 2 ^ 32 - 1))
-    → HasObserverFault fault watched.fault → watched.has_ended ≡ true → (fault ≡ told.Memory) ⊎ IsCaused number w v fault watched
-update_caused number w v fault watched (inl e) step unwritten ended = inl e
-update_caused number w v fault watched (inr b) step unwritten ended = inr (record { broken = b; stopped = step; unwritten = unwritten; let_end = ended })
+pub update_caused : (numbers : ℕ → ℕ) (w v : WorldOf) (fault : JobFault) (watched : ObserverOf) → MayEnd fault → (fault ≡ told.Edge edges.Step → IsRefusedStart numbers w v ⊎ (v.now ≡ 2 ^ 32 - 1))
+    → HasObserverFault fault watched.fault → watched.has_ended ≡ true → (fault ≡ told.Memory) ⊎ IsCaused numbers w v fault watched
+update_caused numbers w v fault watched (inl e) step unwritten ended = inl e
+update_caused numbers w v fault watched (inr b) step unwritten ended = inr (record { broken = b; stopped = step; unwritten = unwritten; let_end = ended })
 
-pub caused_unwritten : (number : ℕ) (w v : WorldOf) (fault : JobFault) (watched : ObserverOf) → (fault ≡ told.Memory) ⊎ IsCaused number w v fault watched → HasObserverFault fault watched.fault
-caused_unwritten number w v fault watched (inl e) = rw e tt
-caused_unwritten number w v fault watched (inr h) = h.unwritten
+pub caused_unwritten : (numbers : ℕ → ℕ) (w v : WorldOf) (fault : JobFault) (watched : ObserverOf) → (fault ≡ told.Memory) ⊎ IsCaused numbers w v fault watched → HasObserverFault fault watched.fault
+caused_unwritten numbers w v fault watched (inl e) = rw e tt
+caused_unwritten numbers w v fault watched (inr h) = h.unwritten
 
 -- as many counts as there are links, one for each pair
 pub counted_alike : {A : Type 0} (sites : List SiteOf) (f : A → ℕ) (xs : List A) → length xs ≡ length sites → length (packet_counts sites) ≡ length (map f xs)

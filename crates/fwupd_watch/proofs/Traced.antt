@@ -12,7 +12,7 @@ use Rattle.fw_trace.specs.Lines.{ReaderOf, new_reader}
 use Rattle.fw_steps.specs.Worlds.{SiteOf, WorldOf}
 use Rattle.fwupd_watch.proofs.Started.{take_next}
 use Rattle.fwupd_watch.specs.Traces.{packet_text, pair_text, pairs_text, reader_for, reader_next, reader_of_pair, reader_past, trace_text, written_at}
-use Rattle.fwupd_words.specs.declared.asked.TraceForm.{TraceForm}
+use Rattle.fwupd_base.specs.declared.forms.TraceForm.{TraceForm}
 
 -- the packets of a pair after the first `written`
 pub pair_at : (form : TraceForm) (r : ReaderOf) (o : Option SiteOf) (n : DeviceNodeOf) (ps : List Sent) (written device : ℕ) → option_map (λ x. x.node) o ≡ Some n → option_map (λ x. x.packets) o ≡ Some ps

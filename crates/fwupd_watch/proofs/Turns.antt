@@ -13,8 +13,8 @@ use Rattle.fw_edge.specs.Ledgers.{packet_counts}
 use Rattle.fw_trace.specs.Lines.{ReaderOf, lines_of, new_reader, packet_line, reader_after}
 use Rattle.fw_steps.specs.Worlds.{SiteOf, WorldOf}
 use Rattle.fwupd_watch.specs.Traces.{AreReaders, AreReadersOf, ContinuesPairs, ContinuesPairsIfAny, ContinueInOrder, HasReadWorlds, HasTracedWorlds, ContinuesPair, ReadOn, TextsAreLines, counts_of, news_text, pair_news, pair_text, packet_text, pairs_text, read_as, reader_after_packets, reader_for, reader_next, reader_of_pair, reader_past, readers_for, trace_of, trace_text, written_at}
-use Rattle.fwupd_words.specs.declared.asked.TraceForm.{TraceForm}
-use Rattle.fwupd_words.specs.declared.asked.TraceForm.TheVariants as forms
+use Rattle.fwupd_base.specs.declared.forms.TraceForm.{TraceForm}
+use Rattle.fwupd_base.specs.declared.forms.TraceForm.TheVariants as forms
 
 -- a reader that has read some packets, and then others
 past_all : (form : TraceForm) (r : ReaderOf) (ps qs : List Sent) → reader_past form r (ps ++ qs) ≡ reader_past form (reader_past form r ps) qs

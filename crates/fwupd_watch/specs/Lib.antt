@@ -2,6 +2,7 @@ pub mod Answering
 pub mod Apart
 pub mod Files
 pub mod Histories
+pub mod Loads
 pub mod Openings
 pub mod Outputs
 pub mod Paths

@@ -1,6 +1,7 @@
 -- Paths, as bytes.
-use Rattle.std.specs.Prelude.{ℕ, ◌≡◌, ◌≢◌, ◌⊎◌, List, [], ◌++◌, codes, decimal}
+use Rattle.std.specs.Prelude.{ℕ, ◌≡◌, ◌≢◌, ◌⊎◌, if◌then◌else◌, List, [], ◌++◌, codes, decimal}
 use Rattle.std.specs.List.{AllByRecursion}
+use Rattle.std.specs.Str.{bytes_eq}
 
 -- the path of a name in a folder
 abbrev pub path_in : (folder name : List ℕ) → List ℕ
@@ -14,6 +15,10 @@ pub record IsFolderAndName (path folder name : List ℕ) : Type 0 where
   pub parts : ((folder ≡ codes ".") × (path ≡ name))
       ⊎ (((folder ≡ codes "/") × (path ≡ path_in [] name))
       ⊎ ((folder ≢ []) × (path ≡ path_in folder name)))
+
+-- the path that the system has for one of the command line: a dash is standard input
+abbrev pub system_path : (path : List ℕ) → List ℕ
+system_path path = if bytes_eq path (codes "-") then codes "/dev/stdin" else path
 
 -- the path of the history of the stores in a folder
 abbrev pub history_path : (folder : List ℕ) → List ℕ

@@ -1,63 +1,24 @@
 -- What observes a process: its faults, and its progress.
-use Rattle.std.specs.Prelude.{ℕ, ◌+◌, ◌-◌, ◌^◌, ◌==◌, ◌&&◌, ◌++◌, if◌then◌else◌, Bool, false, List, [], ◌∷◌, Option, None, Some, Result, Ok, Err, codes, drop, min}
-use Rattle.fwup_wire.specs.Values.{CommandOf}
-use Rattle.fwup_wire.specs.Commands.{command_read}
+use Rattle.std.specs.Prelude.{ℕ, ◌++◌, List, Option, None, Some, codes}
 use Rattle.fw_text.specs.Printing.{word_and_number}
 use Rattle.fwupd_traces.specs.declared.process_watch.WatchFault.{WatchFault}
 use Rattle.fwupd_traces.specs.declared.process_watch.WatchFault.TheVariants as causes
-use Rattle.fwupd_watch.specs.Progress.{progress_line}
+use Rattle.fwupd_watch.specs.Loads.{load_text}
 use Rattle.fwupd_watch.specs.declared.faults.JobFault.{JobFault}
 use Rattle.fwupd_watch.specs.declared.faults.JobFault.TheVariants as faults
-use Rattle.fwupd_watch.specs.declared.packet_progress.Event.{Event}
-use Rattle.fwupd_watch.specs.declared.packet_progress.Event.TheVariants as events
-use Rattle.fwupd_watch.specs.declared.packet_progress.Load.{Load}
-use Rattle.mctp_wire.specs.declared.fault.WireFault.{WireFault}
-use Rattle.mctp_wire.specs.declared.layout.Head.{Head}
-use Rattle.pldm_base.specs.Header.{pldm_of}
-use Rattle.pldm_base.specs.declared.header.PldmFault.{PldmFault}
-use Rattle.pldm_base.specs.declared.header.PldmHead.{PldmHead}
+use Rattle.fwupd_watch.specs.declared.loads.Load.{Load}
 
 abbrev pub fault_of_watch : WatchFault → JobFault
 fault_of_watch causes.Trace = faults.Trace
 fault_of_watch causes.Record = faults.Record
 fault_of_watch causes.Memory = faults.Memory
 
--- the number of devices that are done, of all
+-- a carriage return; then, for the agent, the number of devices that are done, of all
 abbrev pub done_text : Option (ℕ × ℕ) → List ℕ
-done_text None = []
-done_text (Some n) = word_and_number (codes "\r") n.0 ++ word_and_number (codes "/") n.1 ++ codes " done,"
+done_text None = codes "\r"
+done_text (Some n) = word_and_number (codes "\r") n.0 ++ word_and_number (codes "/") n.1 ++ codes " done, "
 
 -- The line of a process: that of a device which loads an image, and before it, for the agent, how
--- many of its devices are done.
+-- many of its devices are done. It overwrites the line before it.
 abbrev pub load_line : Option (ℕ × ℕ) → Load → List ℕ
-load_line None load = progress_line load.device load.key load.asked load.size
-load_line (Some n) load = done_text (Some n) ++ codes " " ++ drop 1 (progress_line load.device load.key load.asked load.size)
-
--- what a request says of an update: the agent has a device load an image (UpdateComponent), or a
--- device requests bytes of it (RequestFirmwareData)
-abbrev pub event_of_request : Head → Result CommandOf ℕ → Option Event
-event_of_request h (Ok (CommandOf.UpdateComponent o)) = Some (events.Offers (record { device = h.dest; key = o.key; asked = 0; size = o.size }))
-event_of_request h (Ok (CommandOf.RequestFirmwareData offset size)) = Some (events.Asks h.source (min (offset + size) (2 ^ 32 - 1)))
-event_of_request h other = None
-
--- an answer begins with the completion code of success
-abbrev pub is_success : (fields : List ℕ) → Bool
-is_success [] = false
-is_success (code ∷ rest) = code == 0
-
--- what a message of PLDM for Firmware Update says of an update: a request, or the good answer of a
--- device to ActivateFirmware
-abbrev pub event_of_message : Head → PldmHead → (fields : List ℕ) → Option Event
-event_of_message h m fields =
-    if m.pldm_type == 5
-    then (if m.rq then event_of_request h (command_read m.command fields) else if m.command == 0x1A && is_success fields then Some (events.Activates h.source) else None)
-    else None
-
-abbrev pub event_in : Head → Result (PldmHead × List ℕ) PldmFault → Option Event
-event_in h (Err fault) = None
-event_in h (Ok m) = event_of_message h m.0 m.1
-
--- and what a packet says of it
-abbrev pub event_of : Result (Head × List ℕ) WireFault → Option Event
-event_of (Err fault) = None
-event_of (Ok p) = event_in p.0 (pldm_of p.1)
+load_line done load = done_text done ++ load_text load ++ codes "        "

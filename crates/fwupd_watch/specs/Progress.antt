@@ -1,33 +1,30 @@
--- The progress of a device, by the requests for bytes of its image.
-use Rattle.std.specs.Prelude.{ℕ, ◌==◌, ◌&&◌, ◌+◌, ◌++◌, codes, ◌-◌, ◌^◌, if◌then◌else◌, List, [], ◌∷◌, Option, None, Some, Result, Ok, Err, drop, length, min}
+-- The progress of the devices of a run: the requests for bytes of their images, and what is shown
+-- of them.
+use Rattle.std.specs.Prelude.{ℕ, ◌==◌, ◌&&◌, ◌+◌, ◌-◌, ◌*◌, ◌/◌, ◌^◌, ◌++◌, nat_le, Bool, codes, if◌then◌else◌, List, [], ◌∷◌, Option, None, Some, Result, drop, length}
+use Rattle.std.specs.List.{flat_map}
 use Rattle.std.specs.Option.{unwrap_or}
 use Rattle.exch_lane.specs.Lanes.{Sent}
-use Rattle.fwup_wire.specs.Commands.{command_read}
-use Rattle.fwup_wire.specs.Values.{CommandOf}
-use Rattle.fwup_wire.specs.declared.values.Key.{Key}
 use Rattle.fw_text.specs.Printing.{word_and_number}
+use Rattle.fwupd_watch.specs.Loads.{event_of, load_text, loaded}
+use Rattle.fwupd_watch.specs.Terminals.{cursor_up, end_of_line_erased, end_of_screen_erased}
+use Rattle.fwupd_watch.specs.declared.loads.Event.{Event}
+use Rattle.fwupd_watch.specs.declared.loads.Event.TheVariants as events
+use Rattle.fwupd_watch.specs.declared.loads.Load.{Load}
+use Rattle.fwupd_watch.specs.declared.progress_text.Pace.{Pace}
+use Rattle.fwupd_watch.specs.declared.progress_text.ProgressLine.{ProgressLine}
 use Rattle.mctp_wire.specs.Packet.{packet_of}
 use Rattle.mctp_wire.specs.declared.fault.WireFault.{WireFault}
 use Rattle.mctp_wire.specs.declared.layout.Head.{Head}
 use Rattle.mctp_wire.specs.declared.unit.Unit.TheVariants.{U128}
-use Rattle.pldm_base.specs.Header.{pldm_of}
-use Rattle.pldm_base.specs.declared.header.PldmFault.{PldmFault}
-use Rattle.pldm_base.specs.declared.header.PldmHead.{PldmHead}
 
--- the end of the requested bytes, if the request is RequestFirmwareData (DSP0267)
-abbrev pub end_of : Result CommandOf ℕ → Option ℕ
-end_of (Ok (CommandOf.RequestFirmwareData offset size)) = Some (min (offset + size) (2 ^ 32 - 1))
-end_of other = None
+-- the end of the requested bytes, if this is said of the device's RequestFirmwareData (DSP0267)
+abbrev pub end_in : (device : ℕ) → Option Event → Option ℕ
+end_in device (Some (events.Asks source end)) = if source == device then Some end else None
+end_in device other = None
 
--- the same for a message from the device
-abbrev pub end_in : (device : ℕ) → Head → Result (PldmHead × List ℕ) PldmFault → Option ℕ
-end_in device h (Err fault) = None
-end_in device h (Ok m) = if h.source == device && m.0.rq && m.0.pldm_type == 5 then end_of (command_read m.0.command m.1) else None
-
--- and for a packet
+-- and by a packet
 abbrev pub end_asked : (device : ℕ) → Result (Head × List ℕ) WireFault → Option ℕ
-end_asked device (Err fault) = None
-end_asked device (Ok p) = end_in device p.0 (pldm_of p.1)
+end_asked device packet = end_in device (event_of packet)
 
 -- The end of the bytes that a device requested last: that of the last of these packets in which it
 -- requests bytes, or `before` if there is none.
@@ -40,9 +37,49 @@ last_end device before (packet ∷ packets) = last_end device (unwrap_or (end_as
 abbrev pub latest_end : (device : ℕ) → List Sent → ℕ
 latest_end device packets = last_end device 0 (drop (length packets - 16) packets)
 
--- The line of a device that loads an image of `size` bytes for a component, and has requested bytes
--- up to `asked`, which may be past the image's end. It overwrites the line before it.
-abbrev pub progress_line : (device : ℕ) → Key → (asked size : ℕ) → List ℕ
-progress_line device key asked size =
-    word_and_number (codes "\rdevice ") device ++ word_and_number (codes " component ") key.classification ++ word_and_number (codes " ") key.identifier
-    ++ word_and_number (codes ": ") (min asked size) ++ word_and_number (codes " of ") size ++ codes " bytes        "
+-- the part of an image that is loaded, in percent, rounded down; an empty image is loaded
+abbrev pub percent : Load → ℕ
+percent load = if load.size == 0 then 100 else loaded load * 100 / load.size
+
+-- Two loads are of one image: of one device, for one component and of one size, and the later one
+-- hasn't fewer requested bytes.
+abbrev pub is_one_image : (earlier later : Load) → Bool
+is_one_image earlier later =
+    earlier.device == later.device && earlier.key.classification == later.key.classification && earlier.key.identifier == later.key.identifier
+    && earlier.size == later.size && nat_le earlier.asked later.asked
+
+-- the bytes of an image that were requested since its first display, and the time since then; none
+-- if the first display was of another image
+abbrev pub pace_since : (first load : Load) → (nanos : ℕ) → Option Pace
+pace_since first load nanos =
+    if is_one_image first load then Some (record { gained = loaded load - loaded first; nanos = nanos }) else None
+
+-- the bytes a second, rounded down; 0 if no time passed
+abbrev pub rate : Pace → ℕ
+rate pace = if pace.nanos == 0 then 0 else pace.gained * 10 ^ 9 / pace.nanos
+
+-- the seconds that `rest` bytes take at a rate, rounded up; none if it is 0
+abbrev pub time_to_go : (rest rate : ℕ) → Option ℕ
+time_to_go rest rate = if rate == 0 then None else Some ((rest + (rate - 1)) / rate)
+
+-- a rate and a time to go, if there is one
+abbrev pub speed_text : (rate : ℕ) → (time : Option ℕ) → List ℕ
+speed_text rate None = []
+speed_text rate (Some time) = word_and_number (codes ", ") rate ++ word_and_number (codes " bytes/s, ") time ++ codes " s to go"
+
+-- what a line says from the second display of an image on
+abbrev pub pace_text : (rest : ℕ) → Option Pace → List ℕ
+pace_text rest None = []
+pace_text rest (Some pace) = speed_text (rate pace) (time_to_go rest (rate pace))
+
+-- The line of a device that loads an image. What was on the terminal's line is overwritten or
+-- erased, and the cursor goes to the next line.
+abbrev pub line_text : ProgressLine → List ℕ
+line_text line =
+    codes "\r" ++ load_text line.load ++ word_and_number (codes ", ") (percent line.load) ++ codes " %" ++ pace_text (line.load.size - loaded line.load) line.pace ++ end_of_line_erased
+    ++ codes "\n"
+
+-- A display after one of `drawn` lines: the cursor goes up to the first of these, each line is
+-- drawn in place, and the lines that aren't drawn again are erased.
+abbrev pub display : (drawn : ℕ) → List ProgressLine → List ℕ
+display drawn lines = cursor_up drawn ++ flat_map line_text lines ++ (if nat_le drawn (length lines) then [] else end_of_screen_erased)

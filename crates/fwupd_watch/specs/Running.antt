@@ -13,46 +13,46 @@ use Rattle.fw_steps.specs.declared.step.Step.{Step}
 use Rattle.fw_steps.specs.declared.step.Step.TheVariants as steps
 use Rattle.fwupd_watch.specs.Histories.{HistoryOf}
 use Rattle.fwupd_watch.specs.Recordings.{RecordingOf}
-use Rattle.fwupd_words.specs.declared.asked.Show.{Show}
-use Rattle.fwupd_words.specs.declared.asked.TraceForm.{TraceForm}
+use Rattle.fwupd_base.specs.declared.shows.Show.{Show}
+use Rattle.fwupd_base.specs.declared.forms.TraceForm.{TraceForm}
 use Rattle.fwupd_watch.specs.declared.faults.JobFault.{JobFault}
 use Rattle.fwupd_watch.specs.declared.faults.JobFault.TheVariants as faults
 use Rattle.fwupd_watch.specs.declared.running.ObserverFault.{ObserverFault}
 use Rattle.fwupd_watch.specs.declared.running.ObserverFault.TheVariants as watches
 
 -- the starts of the updates of all devices with package `number`, in configured order
-abbrev pub starts_of : (number : ℕ) → List SiteOf → List Step
-starts_of number sites = map (λ x. steps.Start x.node.endpoint.eid number) sites
+abbrev pub starts_of : (numbers : ℕ → ℕ) → List SiteOf → List Step
+starts_of numbers sites = map (λ x. steps.Start x.node.endpoint.eid (numbers x.node.endpoint.eid)) sites
 
 -- Each update is started.
-abbrev pub StartsUpdates : (number : ℕ) → WorldOf → WorldOf → Type 0
-StartsUpdates number w v = Run w (starts_of number w.sites) v
+abbrev pub StartsUpdates : (numbers : ℕ → ℕ) → WorldOf → WorldOf → Type 0
+StartsUpdates numbers w v = Run w (starts_of numbers w.sites) v
 
 -- All updates are started, and then the run takes steps with `ticks` ticks.
-pub record UpdatesDevices (number : ℕ) (w v : WorldOf) (ticks : ℕ) : Type 0 where
+pub record UpdatesDevices (numbers : ℕ → ℕ) (w v : WorldOf) (ticks : ℕ) : Type 0 where
   pub steps : List Step
-  pub run : Run w (starts_of number w.sites ++ steps) v
+  pub run : Run w (starts_of numbers w.sites ++ steps) v
   pub driven : AreDriven steps
   pub ticks_are : ticks_in steps ≡ ticks
 
 -- Each session is Done or Failed, or exactly 80,000 ticks have passed.
-pub record UpdateOk (number : ℕ) (w v : WorldOf) : Type 0 where
+pub record UpdateOk (numbers : ℕ → ℕ) (w v : WorldOf) : Type 0 where
   pub ticks : ℕ
-  pub updates : UpdatesDevices number w v ticks
+  pub updates : UpdatesDevices numbers w v ticks
   pub within : ticks ≤ 80000
   pub ended : (all_over v ≡ true) ⊎ (ticks ≡ 80000)
 
 -- The updates of the first devices are started, and once all are, the run takes steps.
-pub record RunsSteps (number : ℕ) (w v : WorldOf) : Type 0 where
+pub record RunsSteps (numbers : ℕ → ℕ) (w v : WorldOf) : Type 0 where
   pub started : ℕ
   pub steps : List Step
-  pub run : Run w (starts_of number (take started w.sites) ++ steps) v
+  pub run : Run w (starts_of numbers (take started w.sites) ++ steps) v
   pub driven : AreDriven steps
   pub all : (steps ≡ []) ⊎ (started ≡ length w.sites)
 
 -- As `RunsSteps`; the observer saw one turn per tick, and at most one more, whose tick was refused.
-pub record RunsStepsSeen (number : ℕ) (w v : WorldOf) (seen : ℕ) : Type 0 where
-  pub lead : RunsSteps number w v
+pub record RunsStepsSeen (numbers : ℕ → ℕ) (w v : WorldOf) (seen : ℕ) : Type 0 where
+  pub lead : RunsSteps numbers w v
   pub each : ticks_in lead.steps ≤ seen
   pub few : seen ≤ ticks_in lead.steps + 1
 
@@ -97,22 +97,22 @@ ReportsLinkFailures told os ns = (told ≡ faults.Edge edges.Frame → OneFailed
 
 -- The updates of the devices before one are started, and the start of its update with package
 -- `number` is not allowed.
-pub record IsRefusedStart (number : ℕ) (w v : WorldOf) : Type 0 where
+pub record IsRefusedStart (numbers : ℕ → ℕ) (w v : WorldOf) : Type 0 where
   pub place : ℕ
   pub site : SiteOf
   pub at : slice_get w.sites place ≡ Some site
-  pub begun : Run w (starts_of number (take place w.sites)) v
+  pub begun : Run w (starts_of numbers (take place w.sites)) v
   pub fault : StepFault
-  pub refused : may_step v (steps.Start site.node.endpoint.eid number) ≡ Some fault
+  pub refused : may_step v (steps.Start site.node.endpoint.eid (numbers site.node.endpoint.eid)) ≡ Some fault
 
 -- The updates of the devices before one are started, and the start of its update isn't refused,
 -- except for lack of memory.
-pub record MayStart (number : ℕ) (w v : WorldOf) : Type 0 where
+pub record MayStart (numbers : ℕ → ℕ) (w v : WorldOf) : Type 0 where
   pub place : ℕ
   pub site : SiteOf
   pub at : slice_get w.sites place ≡ Some site
-  pub begun : Run w (starts_of number (take place w.sites)) v
-  pub allowed : (fault : StepFault) → fault ≢ stops.Memory → may_step v (steps.Start site.node.endpoint.eid number) ≢ Some fault
+  pub begun : Run w (starts_of numbers (take place w.sites)) v
+  pub allowed : (fault : StepFault) → fault ≢ stops.Memory → may_step v (steps.Start site.node.endpoint.eid (numbers site.node.endpoint.eid)) ≢ Some fault
 
 -- such a fault, or lack of memory
 abbrev pub MayEnd : JobFault → Type 0
@@ -198,8 +198,8 @@ MayRefuse refuses show told = ⊥
 
 -- The cause of a fault that stops a run: if it is `Step`, a start is refused or the clock is at its
 -- last tick; if it is that of an output, the observer has that fault. The observer has ended.
-pub record IsCaused (number : ℕ) (w v : WorldOf) (told : JobFault) (watched : ObserverOf) : Type 0 where
+pub record IsCaused (numbers : ℕ → ℕ) (w v : WorldOf) (told : JobFault) (watched : ObserverOf) : Type 0 where
   pub broken : IsBrokenRun told
-  pub stopped : told ≡ faults.Edge edges.Step → IsRefusedStart number w v ⊎ (v.now ≡ 2 ^ 32 - 1)
+  pub stopped : told ≡ faults.Edge edges.Step → IsRefusedStart numbers w v ⊎ (v.now ≡ 2 ^ 32 - 1)
   pub unwritten : HasObserverFault told watched.fault
   pub let_end : watched.has_ended ≡ true

@@ -1,5 +1,5 @@
 -- The lines that a run shows on a terminal, and when.
-use Rattle.std.specs.Prelude.{ℕ, ◌*◌, ◌^◌, ◌++◌, ◌||◌, Bool, false, true, List, [], Option, None, Some, codes, nat_le}
+use Rattle.std.specs.Prelude.{ℕ, ◌*◌, ◌^◌, ◌++◌, ◌||◌, ◌==◌, if◌then◌else◌, Bool, false, true, List, [], ◌∷◌, Option, None, Some, codes, nat_le}
 use Rattle.std.specs.Str.{bytes_eq}
 use Rattle.fw_text.specs.Printing.{word_and_number}
 
@@ -13,6 +13,23 @@ is_due_after (Some nanos) = nat_le (100 * 10 ^ 6) nanos
 abbrev pub erasure_of : (was_shown : Bool) → List ℕ
 erasure_of false = []
 erasure_of true = codes "\r                                                                        \r"
+
+-- The control sequences of a terminal (ECMA-48) begin with ESC [. This moves the cursor up by
+-- `count` lines; none moves it by 0, since a terminal takes 0 as 1.
+abbrev pub cursor_up : (count : ℕ) → List ℕ
+cursor_up count = if count == 0 then [] else word_and_number (0x1B ∷ codes "[") count ++ codes "A"
+
+-- this erases what is right of the cursor in its line
+abbrev pub end_of_line_erased : List ℕ
+end_of_line_erased = 0x1B ∷ codes "[K"
+
+-- and this also the lines below
+abbrev pub end_of_screen_erased : List ℕ
+end_of_screen_erased = 0x1B ∷ codes "[J"
+
+-- what erases a display of `drawn` lines, below which the cursor is; nothing if none was drawn
+abbrev pub display_erasure : (drawn : ℕ) → List ℕ
+display_erasure drawn = if drawn == 0 then [] else cursor_up drawn ++ codes "\r" ++ end_of_screen_erased
 
 -- whether faults are explained: on a terminal, or if the variable's value, if it has one, is 1
 abbrev pub is_explaining : (is_terminal : Bool) → (value : Option (List ℕ)) → Bool

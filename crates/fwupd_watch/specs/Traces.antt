@@ -1,5 +1,5 @@
 -- The text of a trace of a world's packets.
-use Rattle.std.specs.Prelude.{ℕ, zero, suc, ◌≡◌, ◌<◌, ◌+◌, ◌==◌, not, Bool, false, if◌then◌else◌, List, [], ◌∷◌, ◌++◌, Option, None, Some, codes, drop, length, map, slice_get, take}
+use Rattle.std.specs.Prelude.{ℕ, zero, suc, ◌≡◌, ◌<◌, ◌+◌, if◌then◌else◌, List, [], ◌∷◌, ◌++◌, Option, None, Some, drop, length, map, slice_get, take}
 use Rattle.std.specs.Io.KnownBytes.{Appends}
 use Rattle.exch_lane.specs.Lanes.{Sent}
 use Rattle.fw_edge.specs.Ledgers.{packet_counts}
@@ -8,8 +8,8 @@ use Rattle.fw_trace.specs.Lines.{ReaderOf, SentOf, lines_of, new_reader, packet_
 use Rattle.fw_steps.specs.Worlds.{SiteOf, WorldOf}
 use Rattle.fwupd_traces.specs.PacketLines.{trace_line}
 use Rattle.fwupd_traces.specs.Traces.{captured_as, head_of}
-use Rattle.fwupd_words.specs.declared.asked.TraceForm.{TraceForm}
-use Rattle.fwupd_words.specs.declared.asked.TraceForm.TheVariants as forms
+use Rattle.fwupd_base.specs.declared.forms.TraceForm.{TraceForm}
+use Rattle.fwupd_base.specs.declared.forms.TraceForm.TheVariants as forms
 
 -- a packet in a format: decoded lines have the packet's number, and depend on the reader of the
 -- packets before it

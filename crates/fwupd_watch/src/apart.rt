@@ -11,7 +11,7 @@ ghost use Rattle.fwupd_watch.specs.Apart.{AreFirstApart, IsApart, IsApartFromUse
 use crate::faults::JobFault;
 use crate::files::{Files, is_read, is_same_file};
 use crate::running::{Observer, observer_fault};
-use fwupd_words::Show;
+use fwupd_base::Show;
 use std::alloc::{AllocError, Global};
 
 /// Whether a path may name the same file as another output, if there is one.

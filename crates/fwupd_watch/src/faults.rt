@@ -1,4 +1,4 @@
-//! The faults that end the program with status 1.
+//! The faults that end the program with status 1, or with 3 if nothing was to be updated.
 
 ghost use Rattle.std.specs.Prelude.{◌≡◌};
 ghost use Rattle.fwupd_watch.specs.Running.{MayEnd, job_fault_of};
@@ -11,7 +11,8 @@ use fw_world::StepFault;
 use fwupd_base::AnswerFault;
 use thiserror::Error;
 
-/// The faults that end the program with status 1. The text is printed after `fwupd: `.
+/// The faults that end the program with status 1; with 3 if it is `Skipped`. The text is printed
+/// after `fwupd: `.
 #[derive(Debug, Drop, Error)]
 pub enum JobFault {
     /// Answering packets failed.
@@ -71,10 +72,14 @@ pub enum JobFault {
     /// A run over links stopped early.
     #[error("edge: {0}")]
     Edge(EdgeFault),
-    /// The session with the device of this endpoint identifier didn't end Done: the cause of its
-    /// failure, or its state.
-    #[error("session {0}: {1}")]
-    Session(u8, &'static str),
+    /// The sessions that didn't end Done: the endpoint identifier of each device, and the cause of
+    /// its failure, or its state.
+    #[error("session {0}")]
+    Undone(String),
+    /// The same, if nothing was to be updated on any of these devices: the package has no record
+    /// for it, or no component that it accepts.
+    #[error("session {0}")]
+    Skipped(String),
     /// Standard output or a file that a job makes can't be written.
     #[error("output")]
     Output,

@@ -5,7 +5,7 @@ ghost use Rattle.std.specs.Prelude.{◌≡◌, ◌≢◌, ◌<◌, ◌≤◌, �
 ghost use Rattle.std.specs.List.{AllByRecursion};
 ghost use Rattle.fw_package.specs.Outlines.{IsBeginning};
 ghost use Rattle.fwupd_watch.specs.Files.{AreTwoPlaces, FileOf, IsApartFrom, IsInFolder, IsOneEntry, IsOnePlace, IsOutsideFolder, IsOver, IsOverOne, MayBe, MayBegin, MayHold, MayLink, any_file};
-ghost use Rattle.fwupd_watch.specs.Paths.{IsFolderAndName, path_in};
+ghost use Rattle.fwupd_watch.specs.Paths.{IsFolderAndName, path_in, system_path};
 
 use crate::beginnings::{BEGINNING, Beginning, read_first};
 use fwupd_base::read_some;
@@ -77,7 +77,8 @@ pub trait Files {
         ensures outside { IfOk result (λ b. b ≡ false → IsOutsideFolder (holds self.now path.now) (holds self.now folder.now)) };
 }
 
-/// The files of the system; contracts know nothing of them before they are read.
+/// The files of the system, where `-` is standard input; contracts know nothing of them before they
+/// are read.
 #[derive(Clone, Copy)]
 pub struct SystemFiles<'a> {
     rt: &'a HostRuntime,
@@ -91,7 +92,7 @@ impl<'a> SystemFiles<'a> {
 
     /// Returns the bytes of a file, read once. Room is reserved for the size that the file states.
     pub fn read(&self, alloc: Global, path: &str) -> io::Result<Vec<u8>> {
-        let mut file = File::open(self.rt, path)?;
+        let mut file = File::open(self.rt, system_path(path))?;
         let size = size_of(&file);
         read_whole(alloc, &mut file, size)
     }
@@ -114,7 +115,7 @@ impl<'a> SystemFiles<'a> {
         if !self.is_link(path) {
             return Ok(false);
         }
-        match fs::canonicalize(self.rt, path) {
+        match fs::canonicalize(self.rt, system_path(path)) {
             Ok(found) => self.lies_in(alloc, found.to_string_lossy(), folder),
             Err(error) if error.kind() == ErrorKind::OutOfMemory => Err(AllocError),
             Err(_) => Ok(true),
@@ -125,10 +126,17 @@ impl<'a> SystemFiles<'a> {
     fn read_beginning(&self, alloc: Global, path: &str) -> io::Result<Beginning>
         ensures { IfOk result (λ b. MayBegin any_file b.bytes.items b.file_length) }
     {
-        let mut file = File::open(self.rt, path)?;
+        let mut file = File::open(self.rt, system_path(path))?;
         let size = size_of(&file);
         beginning_of(alloc, &mut file, size)
     }
+}
+
+/// The path that the system has for a path of the command line: `-` is standard input.
+fn system_path(path: &str) -> &str
+    ensures { result.now ≡ system_path path.now }
+{
+    if path == "-" { "/dev/stdin" } else { path }
 }
 
 /// The path of the folder that contains a folder.
@@ -238,7 +246,7 @@ impl<'a> Files for SystemFiles<'a> {
     }
 
     fn identity(&self, path: &str) -> Option<FileIdentity> {
-        match fs::metadata(self.rt, path) {
+        match fs::metadata(self.rt, system_path(path)) {
             Ok(found) => Some(FileIdentity {
                 device: found.dev(),
                 number: found.ino(),
@@ -248,7 +256,7 @@ impl<'a> Files for SystemFiles<'a> {
     }
 
     fn is_link(&self, path: &str) -> bool {
-        match fs::symlink_metadata(self.rt, path) {
+        match fs::symlink_metadata(self.rt, system_path(path)) {
             Ok(found) => found.is_symlink(),
             Err(_) => false,
         }

@@ -2,98 +2,22 @@
 
 ghost use Rattle.std.specs.Io.KnownBytes.{Appends};
 ghost use Rattle.std.specs.List.{list_any};
-ghost use Rattle.std.specs.Prelude.{[], ◌∷◌, ◌==◌, ◌≡◌, ◌⊎◌, IfOk, OnOk, Option, Some, drop, codes, false, is_some, true, ◌++◌};
-ghost use Rattle.fwup_wire.specs.Commands.{command_read};
-ghost use Rattle.fwupd_watch.specs.Processes.{event_of, event_of_request, is_success, load_line};
+ghost use Rattle.std.specs.Prelude.{[], ◌∷◌, ◌==◌, ◌≡◌, ◌⊎◌, IfOk, OnOk, false, is_some, true, ◌++◌};
+ghost use Rattle.fw_text.specs.Printing.{AppendsText};
+ghost use Rattle.fwupd_watch.specs.Processes.{done_text, load_line};
 ghost use Rattle.fwupd_watch.specs.Terminals.{erasure_of};
-ghost use Rattle.mctp_wire.specs.Packet.{packet_of};
-ghost use Rattle.mctp_wire.specs.declared.unit.Unit.TheVariants.{U128};
 
-use crate::progress::progress_line;
+use crate::loads::{Event, Load, event_in, push_load};
 use crate::terminal::{erase_line, is_due};
 use fw_text::{push_number, push_words};
-use fwup_wire::code::command;
-use fwup_wire::{Command, Key};
 use fwupd_traces::{PacketObserver, WatchFault};
-use mctp_wire::{Head, RawPacket, Unit};
-use pldm_base::TYPE_FIRMWARE_UPDATE;
+use mctp_wire::RawPacket;
 use std::alloc::{AllocError, Global};
 use std::io::{self, Print, Write};
 use std::time::Instant;
 
 /// The number of endpoint identifiers.
 const EIDS: usize = 256;
-
-/// An image that a device loads: for which component, the end of the bytes that it requested last,
-/// and the image's size in bytes.
-#[derive(Clone, Copy)]
-struct Load {
-    device: u8,
-    key: Key,
-    asked: u32,
-    size: u32,
-}
-
-/// What a packet says of an update.
-#[derive(Clone, Copy)]
-enum Event {
-    /// The agent has a device load an image (UpdateComponent).
-    Offers(Load),
-    /// A device requests bytes of its image up to an end (RequestFirmwareData).
-    Asks(u8, u32),
-    /// A device activated its images (the answer to ActivateFirmware).
-    Activates(u8),
-}
-
-/// What a request of this command says of an update, between these endpoints.
-fn requested(head: Head, command: u8, fields: &[u8]) -> Option<Event>
-    ensures { result ≡ event_of_request head (command_read command fields.now) }
-{
-    match fwup_wire::read(command, fields) {
-        Ok(Command::UpdateComponent(offer)) => Some(Event::Offers(Load {
-            device: head.dest,
-            key: offer.key,
-            asked: 0,
-            size: offer.size,
-        })),
-        Ok(Command::RequestFirmwareData { offset, length }) => {
-            Some(Event::Asks(head.source, offset.saturating_add(length)))
-        }
-        _ => None,
-    }
-}
-
-/// Whether an answer begins with the completion code of success.
-fn is_success(fields: &[u8]) -> bool
-    ensures { result ≡ is_success fields.now }
-{
-    match fields {
-        [code, ..] => *code == 0,
-        [] => false,
-    }
-}
-
-/// What a packet says of an update, if it says something of it.
-fn event_in(packet: &[u8]) -> Option<Event>
-    ensures { result ≡ event_of (packet_of U128 packet.now) }
-{
-    let Ok(packet) = mctp_wire::decode(Unit::U128, packet) else {
-        return None;
-    };
-    let Ok((head, fields)) = pldm_base::decode(packet.body) else {
-        return None;
-    };
-    if head.pldm_type != TYPE_FIRMWARE_UPDATE {
-        return None;
-    }
-    if head.rq {
-        return requested(packet.head, head.command, fields);
-    }
-    if head.command == command::ACTIVATE_FIRMWARE && is_success(fields) {
-        return Some(Event::Activates(packet.head.source));
-    }
-    None
-}
 
 /// Adds a device to those that are done, unless it is one of them.
 fn add_done(done: &mut Vec<u8>, device: u8)
@@ -104,6 +28,24 @@ fn add_done(done: &mut Vec<u8>, device: u8)
     if !done.contains(&device) {
         let _ = done.push(device);
     }
+}
+
+/// Appends a carriage return, and for the agent, the number of its devices that are done, and of
+/// all of them.
+fn push_done(
+    alloc: Global,
+    line: &mut Vec<u8>,
+    done: Option<(usize, usize)>,
+) -> Result<(), AllocError>
+    ensures { OnOk result (AppendsText line.old.items line.new.items (done_text done)) }
+{
+    let Some((done, all)) = done else {
+        return push_words(line, "\r");
+    };
+    push_number(alloc, line, "\r", done)?;
+    push_number(alloc, line, "/", all)?;
+    push_words(line, " done, ")?;
+    Ok(())
 }
 
 /// The line of a device that loads an image. For the agent, the number of its devices that are
@@ -118,15 +60,10 @@ fn load_line(
 ) -> Result<Vec<u8>, AllocError>
     ensures { IfOk result (λ line. line.items ≡ load_line done load.now) }
 {
-    let loads = progress_line(alloc, load.device, load.key, load.asked, load.size)?;
-    let Some((done, all)) = done else {
-        return Ok(loads);
-    };
     let mut line = Vec::new(alloc);
-    push_number(alloc, &mut line, "\r", done)?;
-    push_number(alloc, &mut line, "/", all)?;
-    push_words(&mut line, " done, ")?;
-    line.extend_from_slice(loads.get(1..).unwrap_or(&[]))?;
+    push_done(alloc, &mut line, done)?;
+    push_load(alloc, &mut line, load)?;
+    push_words(&mut line, "        ")?;
     Ok(line)
 }
 

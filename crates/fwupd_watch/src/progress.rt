@@ -1,33 +1,43 @@
 //! Shows the progress of a run on a terminal.
 
 ghost use Rattle.std.specs.Io.KnownBytes.{Appends};
-ghost use Rattle.std.specs.Prelude.{◌≡◌, IfOk, OnOk, codes, is_some};
-ghost use Rattle.fw_text.specs.Printing.{AppendsText, word_and_number};
-ghost use Rattle.fwupd_watch.specs.Progress.{end_asked, latest_end, progress_line};
-ghost use Rattle.fwupd_watch.specs.Terminals.{erasure_of};
+ghost use Rattle.std.specs.Prelude.{◌≡◌, OnOk};
+ghost use Rattle.fwupd_watch.specs.Progress.{end_asked, latest_end};
+ghost use Rattle.fwupd_watch.specs.Terminals.{display_erasure};
 ghost use Rattle.mctp_wire.specs.Packet.{packet_of};
 ghost use Rattle.mctp_wire.specs.declared.unit.Unit.TheVariants.{U128};
 
-use crate::terminal::{erase_line, is_due};
-use fd_core::{Bank, Key};
-use fw_node::DeviceNode;
-use fw_text::{push_number, push_words};
+use crate::loads::{Event, Load, event_in};
+use crate::progress_text::{ProgressLine, display, display_erasure, pace_since};
+use crate::terminal::is_due;
+use arrayvec::ArrayVec;
+use fd_core::Bank;
 use fw_world::{SentPackets, World};
-use fwup_wire::Command;
-use mctp_wire::Unit;
-use pldm_base::TYPE_FIRMWARE_UPDATE;
-use std::alloc::{AllocError, Global};
-use std::io::{self, Print, Write};
+use std::io::{self, ErrorKind, Print, Write};
 use std::time::Instant;
 
 /// How many of the latest packets are searched for the device's last RequestFirmwareData.
 const LATEST: usize = 16;
 
-/// Shows on standard error the progress of the first device that loads an image, at most ten times
-/// a second.
+/// The most devices of a run.
+const DEVICES: usize = 16;
+
+/// The first display of an image.
+#[derive(Clone, Copy)]
+struct FirstDisplay {
+    load: Load,
+    time: Instant,
+}
+
+/// Shows on standard error the progress of each device that loads an image, at most ten times a
+/// second.
 #[derive(Drop)]
-pub struct ProgressLine<'a> {
+pub struct ProgressDisplay<'a> {
     rt: &'a HostRuntime,
+    /// The first display of the image that each device loads, by the device's place.
+    firsts: [Option<FirstDisplay>; DEVICES],
+    /// The number of lines that are drawn.
+    drawn: usize,
     shown: Option<Instant>,
 }
 
@@ -35,17 +45,8 @@ pub struct ProgressLine<'a> {
 fn asked_by(packet: &[u8], device: u8) -> Option<u32>
     ensures { result ≡ end_asked device (packet_of U128 packet.now) }
 {
-    let Ok(packet) = mctp_wire::decode(Unit::U128, packet) else {
-        return None;
-    };
-    let Ok((head, fields)) = pldm_base::decode(packet.body) else {
-        return None;
-    };
-    if packet.head.source != device || !head.rq || head.pldm_type != TYPE_FIRMWARE_UPDATE {
-        return None;
-    }
-    match fwup_wire::read(head.command, fields) {
-        Ok(Command::RequestFirmwareData { offset, length }) => Some(offset.saturating_add(length)),
+    match event_in(packet) {
+        Some(Event::Asks(source, end)) if source == device => Some(end),
         _ => None,
     }
 }
@@ -66,39 +67,48 @@ fn asked(packets: &SentPackets<'_>, device: u8) -> u32
     end
 }
 
-/// The progress line of a device that loads an image of `size` bytes for a component and has
-/// requested the first `asked` bytes. The padding of the last request doesn't count.
-///
-/// # Errors
-/// `AllocError` if memory is refused.
-pub(crate) fn progress_line(
-    alloc: Global,
-    device: u8,
-    key: Key,
-    asked: u32,
-    size: u32,
-) -> Result<Vec<u8>, AllocError>
-    ensures { IfOk result (λ line. line.items ≡ progress_line device key asked size) }
-{
-    let mut line = Vec::new(alloc);
-    push_number(alloc, &mut line, "\rdevice ", usize::from(device))?;
-    push_number(
-        alloc,
-        &mut line,
-        " component ",
-        usize::from(key.classification),
-    )?;
-    push_number(alloc, &mut line, " ", usize::from(key.identifier))?;
-    push_number(alloc, &mut line, ": ", asked.min(size) as usize)?;
-    push_number(alloc, &mut line, " of ", size as usize)?;
-    push_words(&mut line, " bytes        ")?;
-    Ok(line)
+/// The image that the device at a place loads, if it loads one.
+fn load_at<B: Bank + Drop>(world: &World<'_, B>, place: usize) -> Option<Load> {
+    let (Some(node), Some(packets)) = (world.device_at(place), world.packets_at(place)) else {
+        return None;
+    };
+    let Some((key, size)) = node.device().staged() else {
+        return None;
+    };
+    let device = node.eid();
+    Some(Load {
+        device,
+        key,
+        asked: asked(&packets, device),
+        size,
+    })
 }
 
-impl<'a> ProgressLine<'a> {
-    /// Creates progress that shows nothing yet.
-    pub fn new(rt: &'a HostRuntime) -> ProgressLine<'a> {
-        ProgressLine { rt, shown: None }
+/// The line of an image that is shown at a time. If it isn't the image of the first display, this
+/// is its first one.
+fn line_at(first: &mut Option<FirstDisplay>, load: Load, now: Instant) -> ProgressLine {
+    let pace = match first {
+        Some(first) => {
+            let passed = now.duration_since(first.time).as_nanos();
+            pace_since(first.load, load, u64::try_from(passed).unwrap_or(u64::MAX))
+        }
+        None => None,
+    };
+    if pace.is_none() {
+        *first = Some(FirstDisplay { load, time: now });
+    }
+    ProgressLine { load, pace }
+}
+
+impl<'a> ProgressDisplay<'a> {
+    /// Creates a display that shows nothing yet.
+    pub fn new(rt: &'a HostRuntime) -> ProgressDisplay<'a> {
+        ProgressDisplay {
+            rt,
+            firsts: [None; DEVICES],
+            drawn: 0,
+            shown: None,
+        }
     }
 
     /// The current time, if the display is due for an update.
@@ -112,18 +122,34 @@ impl<'a> ProgressLine<'a> {
         }
     }
 
-    /// Shows the progress of a device, if it loads an image. Returns whether it does.
-    fn show<B: Bank + Drop>(&self, node: &DeviceNode<B>, packets: &SentPackets<'_>) -> bool {
-        let Some((key, size)) = node.device().staged() else {
-            return false;
+    /// The lines at a time: of each device that loads an image, in configured order.
+    fn lines<B: Bank + Drop>(
+        &mut self,
+        world: &World<'_, B>,
+        now: Instant,
+    ) -> ArrayVec<ProgressLine, DEVICES> {
+        let mut lines = ArrayVec::new();
+        for place in 0..DEVICES {
+            let Some(first) = self.firsts.get_mut(place) else {
+                return lines;
+            };
+            match load_at(world, place) {
+                Some(load) => {
+                    let _ = lines.try_push(line_at(first, load, now));
+                }
+                None => *first = None,
+            }
+        }
+        lines
+    }
+
+    /// Draws lines in place of those that are drawn.
+    fn draw(&mut self, lines: &[ProgressLine]) {
+        let Ok(text) = display(self.rt.alloc(), self.drawn, lines) else {
+            return;
         };
-        let device = node.eid();
-        let asked = asked(packets, device);
-        let Ok(line) = progress_line(self.rt.alloc(), device, key, asked, size) else {
-            return false;
-        };
-        let _ = self.rt.stderr().write_all(&line);
-        true
+        let _ = self.rt.stderr().write_all(&text);
+        self.drawn = lines.len();
     }
 
     /// Shows the progress after a turn, if the display is due for an update.
@@ -131,25 +157,27 @@ impl<'a> ProgressLine<'a> {
         let Some(now) = self.due() else {
             return;
         };
-        for place in 0..world.device_count() {
-            if let (Some(node), Some(packets)) = (world.device_at(place), world.packets_at(place)) {
-                if self.show(node, &packets) {
-                    self.shown = Some(now);
-                    return;
-                }
-            }
+        let lines = self.lines(world, now);
+        if lines.is_empty() && self.drawn == 0 {
+            return;
         }
+        self.draw(lines.as_slice());
+        self.shown = Some(now);
     }
 
-    /// Erases the progress line on a writer, if one was shown.
+    /// Erases on a writer the lines that are drawn.
     fn erase_on<W: Write>(&self, writer: &mut W) -> io::Result<()>
-        ensures { OnOk result (Appends (W.contents writer.old) (W.contents writer.new) (erasure_of (is_some self.now.shown))) }
+        ensures { OnOk result (Appends (W.contents writer.old) (W.contents writer.new) (display_erasure self.now.drawn)) }
     {
-        erase_line(writer, self.shown.is_some())
+        let Ok(text) = display_erasure(self.rt.alloc(), self.drawn) else {
+            return Err(io::Error::from(ErrorKind::OutOfMemory));
+        };
+        writer.write_all(&text)
     }
 
-    /// Erases the progress line.
+    /// Erases the lines that are drawn.
     pub fn end(&mut self) {
         let _ = self.erase_on(&mut self.rt.stderr());
+        self.drawn = 0;
     }
 }

@@ -4,6 +4,7 @@ ghost use Rattle.std.specs.Prelude.{[], ◌≡◌, ◌≢◌, ◌-◌, ◌^◌, 
 ghost use Rattle.fw_edge.specs.Ledgers.{AllSent, packet_counts};
 ghost use Rattle.fw_edge.specs.Links.{CountsOne};
 ghost use Rattle.fw_steps.specs.Steps.{Run};
+ghost use Rattle.fwupd_base.specs.PackageChoices.{number_for};
 ghost use Rattle.fwupd_watch.specs.Histories.{HasHistoryLinesIfAny, MayHaveHistoryLines, HasNoLines, AppendsToHistory, MayAppendToHistory};
 ghost use Rattle.fwupd_watch.specs.Recordings.{WritesHeldTicksIfAny, IsNewRecording, HasRecordedSteps, RecordsStepsIfAny, RecordsRun};
 ghost use Rattle.fwupd_watch.specs.Running.{ReportsLinkFailures, IsCaused, IsRefusedStart, HasObserverFault, UpdateOk, MayEnd, MayRefuse, MayStart, StartsUpdates, RunsSteps, RunsStepsSeen, UpdatesDevices, show_of, shown_of, starts_of, job_fault_of_observer, job_fault_of, observer_fault_of};
@@ -13,7 +14,7 @@ use fd_core::Bank;
 use fw_edge::{EdgeFault, Link, drive};
 use fw_script::schedules_read_back;
 use fw_world::{Step, StepFault, World, moments_are_tied};
-use fwupd_words::Show;
+use fwupd_base::{PackageChoice, Show};
 use std::alloc::Global;
 
 /// The most turns of a run; three images of the largest size take about 66,000.
@@ -135,22 +136,22 @@ pub fn observer_fault(fault: ObserverFault) -> JobFault
     }
 }
 
-/// Starts the update of each device with package `number`, and lists the steps.
+/// Starts the update of each device with its package, and lists the steps.
 fn start_all<B: Bank + Drop>(
     world: &mut World<'_, B>,
-    number: usize,
+    packages: &PackageChoice,
     steps: &mut Vec<Step>,
 ) -> Result<(), JobFault>
     requires none { steps.old.items ≡ [] }
-    ensures started { OnOk result (StartsUpdates number world.old world.new) }
-    ensures listed { OnOk result (steps.new.items ≡ starts_of number world.old.sites) }
+    ensures started { OnOk result (StartsUpdates (number_for packages.now) world.old world.new) }
+    ensures listed { OnOk result (steps.new.items ≡ starts_of (number_for packages.now) world.old.sites) }
     ensures same { world.new.sites ≡ world.old.sites }
     ensures history { world.new.history ≡ world.old.history }
-    ensures reached { RunsSteps number world.old world.new }
-    ensures unseen_steps { RunsStepsSeen number world.old world.new 0 }
+    ensures reached { RunsSteps (number_for packages.now) world.old world.new }
+    ensures unseen_steps { RunsStepsSeen (number_for packages.now) world.old world.new 0 }
     ensures fault { IfErr result MayEnd }
-    ensures refused { IfErr result (λ e. e ≡ JobFault.Edge EdgeFault.Step → IsRefusedStart number world.old world.new) }
-    ensures memory { IfErr result (λ e. e ≡ JobFault.Memory → (world.new ≡ world.old) ⊎ MayStart number world.old world.new) }
+    ensures refused { IfErr result (λ e. e ≡ JobFault.Edge EdgeFault.Step → IsRefusedStart (number_for packages.now) world.old world.new) }
+    ensures memory { IfErr result (λ e. e ≡ JobFault.Memory → (world.new ≡ world.old) ⊎ MayStart (number_for packages.now) world.old world.new) }
     ensures run { Run world.old steps.new.items world.new }
     ensures none { IfErr result (λ e. e ≡ JobFault.Edge EdgeFault.Frame → ⊥) }
     ensures unseen { IfErr result (λ e. observer_fault_of e ≡ None) }
@@ -162,7 +163,8 @@ fn start_all<B: Bank + Drop>(
         let Some(node) = world.device_at(place) else {
             unreachable!()
         };
-        let start = Step::Start(node.eid(), number);
+        let device = node.eid();
+        let start = Step::Start(device, packages.number_for(device));
         match world.step(&start) {
             Ok(()) => {}
             Err(StepFault::Memory) => return Err(JobFault::Memory),
@@ -213,7 +215,7 @@ fn broken_off<B: Bank + Drop, V: Observer>(
     edge_fault(fault)
 }
 
-/// Updates each device of a new world with package `number` over its link, turn by turn, until each
+/// Updates each device of a new world with its package over its link, turn by turn, until each
 /// session is Done or Failed, or for at most 80,000 turns. The observer sees each step and each
 /// turn, also a turn in which a link fails.
 ///
@@ -223,19 +225,19 @@ fn broken_off<B: Bank + Drop, V: Observer>(
 pub fn update_all<B: Bank + Drop, L: Link, V: Observer>(
     alloc: Global,
     world: &mut World<'_, B>,
-    number: usize,
+    packages: &PackageChoice,
     links: &mut [L],
     watch: &mut V,
 ) -> Result<(), JobFault>
     requires { length links.old ≡ length world.old.sites }
-    ensures updated { OnOk result (UpdateOk number world.old world.new) }
-    ensures reached { RunsSteps number world.old world.new }
+    ensures updated { OnOk result (UpdateOk (number_for packages.now) world.old world.new) }
+    ensures reached { RunsSteps (number_for packages.now) world.old world.new }
     ensures fault { IfErr result MayEnd }
     ensures kept { OnOk result (map (λ l. (L.tally l).failures) links.new ≡ map (λ l. (L.tally l).failures) links.old) }
     ensures failed { IfErr result (λ e. ReportsLinkFailures e
         (map (λ l. (L.tally l).failures) links.old) (map (λ l. (L.tally l).failures) links.new)) }
     ensures step { IfErr result (λ e. e ≡ JobFault.Edge EdgeFault.Step
-        → IsRefusedStart number world.old world.new ⊎ (world.new.now ≡ 2 ^ 32 - 1)) }
+        → IsRefusedStart (number_for packages.now) world.old world.new ⊎ (world.new.now ≡ 2 ^ 32 - 1)) }
     ensures sent { OnOk result (AllSent (packet_counts world.old.sites)
         (packet_counts world.new.sites) (map (λ l. (L.tally l).sent) links.old)
         (map (λ l. (L.tally l).sent) links.new)) }
@@ -252,14 +254,14 @@ pub fn update_all<B: Bank + Drop, L: Link, V: Observer>(
         → MayHaveHistoryLines (V.watched watch.new).history world.new.history }
     ensures same { (V.watched watch.new).shows ≡ (V.watched watch.old).shows }
     ensures turns { OnOk result ((V.watched watch.old).seen ≡ 0
-        → UpdatesDevices number world.old world.new (V.watched watch.new).seen) }
-    ensures sees { (V.watched watch.old).seen ≡ 0 → RunsStepsSeen number world.old world.new (V.watched watch.new).seen }
+        → UpdatesDevices (number_for packages.now) world.old world.new (V.watched watch.new).seen) }
+    ensures sees { (V.watched watch.old).seen ≡ 0 → RunsStepsSeen (number_for packages.now) world.old world.new (V.watched watch.new).seen }
     ensures lost { (V.watched watch.new).lost ≡ (V.watched watch.old).lost }
 {
     let mut steps = Vec::new(alloc);
     schedules_read_back();
     moments_are_tied();
-    let started = start_all(world, number, &mut steps);
+    let started = start_all(world, packages, &mut steps);
     let noted = watch.note(steps.as_slice());
     match started {
         Ok(()) => {}
@@ -294,13 +296,13 @@ pub fn update_all<B: Bank + Drop, L: Link, V: Observer>(
 pub fn update_observed<B: Bank + Drop, L: Link, V: Observer>(
     alloc: Global,
     world: &mut World<'_, B>,
-    number: usize,
+    packages: &PackageChoice,
     links: &mut [L],
     watch: &mut V,
 ) -> Result<(), JobFault>
     requires { length links.old ≡ length world.old.sites }
-    ensures updated { OnOk result (UpdateOk number world.old world.new) }
-    ensures reached { RunsSteps number world.old world.new }
+    ensures updated { OnOk result (UpdateOk (number_for packages.now) world.old world.new) }
+    ensures reached { RunsSteps (number_for packages.now) world.old world.new }
     ensures seen { OnOk result ((V.watched watch.new).fault ≡ None) }
     ensures recorded { OnOk result (IfSome (V.watched watch.old).recording IsNewRecording
         → IfSome (V.watched watch.new).recording (HasRecordedSteps world.old world.new)) }
@@ -316,10 +318,10 @@ pub fn update_observed<B: Bank + Drop, L: Link, V: Observer>(
     ensures devices { length links.new ≡ length world.new.sites }
     ensures same { (V.watched watch.new).shows ≡ (V.watched watch.old).shows }
     ensures turns { OnOk result ((V.watched watch.old).seen ≡ 0
-        → UpdatesDevices number world.old world.new (V.watched watch.new).seen) }
-    ensures sees { (V.watched watch.old).seen ≡ 0 → RunsStepsSeen number world.old world.new (V.watched watch.new).seen }
+        → UpdatesDevices (number_for packages.now) world.old world.new (V.watched watch.new).seen) }
+    ensures sees { (V.watched watch.old).seen ≡ 0 → RunsStepsSeen (number_for packages.now) world.old world.new (V.watched watch.new).seen }
     ensures lost { (V.watched watch.new).lost ≡ (V.watched watch.old).lost }
-    ensures fault { IfErr result (λ e. (e ≡ JobFault.Memory) ⊎ IsCaused number world.old world.new e (V.watched watch.new)) }
+    ensures fault { IfErr result (λ e. (e ≡ JobFault.Memory) ⊎ IsCaused (number_for packages.now) world.old world.new e (V.watched watch.new)) }
     ensures kept { OnOk result (map (λ l. (L.tally l).failures) links.new ≡ map (λ l. (L.tally l).failures) links.old) }
     ensures failed { IfErr result (λ e. ReportsLinkFailures e
         (map (λ l. (L.tally l).failures) links.old) (map (λ l. (L.tally l).failures) links.new)) }
@@ -328,7 +330,7 @@ pub fn update_observed<B: Bank + Drop, L: Link, V: Observer>(
         (map (λ l. (L.tally l).sent) links.new)) }
 {
     schedules_read_back();
-    let end = update_all(alloc, world, number, links, watch);
+    let end = update_all(alloc, world, packages, links, watch);
     let watched = watch.end(world);
     match end {
         Ok(()) => {}

@@ -15,8 +15,8 @@ use arrayvec::ArrayVec;
 use fd_core::Bank;
 use fw_trace::{PacketReader, push_capture};
 use fw_world::{DatedPacket, SentPackets, World};
+use fwupd_base::TraceForm;
 use fwupd_traces::{is_to_agent, push_packet_line, trace_head};
-use fwupd_words::TraceForm;
 use std::alloc::{AllocError, Global};
 use std::io::{BufWriter, Write};
 

@@ -1,5 +1,5 @@
 -- The numbers in arguments without a fault are within the bounds of the command line.
-use Rattle.std.proofs.Common.{◌≡◌, ◌∙◌, ◌+◌, ◌∷◌, ◌<◌, ◌≤◌, ◌^◌, [], Bool, ℕ, List, Option, None, Some, ap, arith, false, true, is_some, option_map, refl, sym, true≢false}
+use Rattle.std.proofs.Common.{◌≡◌, ◌∙◌, ◌+◌, ◌∷◌, ◌<◌, ◌≤◌, ◌^◌, [], Bool, ℕ, List, Option, None, Some, ap, arith, false, true, is_some, option_map, refl, subst, sym, true≢false}
 use Rattle.std.specs.Prelude.{IfSome, option_and_then, pos, slice_get, unwrap_or}
 use Rattle.std.specs.List.{find}
 use Rattle.std.specs.Str.{bytes_eq}
@@ -12,11 +12,11 @@ use Rattle.clap.specs.Values.{IsSignedIn, read_as, reading_of}
 use Rattle.clap.specs.Facts.{parser_of_value}
 use Rattle.clap.specs.declared.builder.value_parser.Reading.TheVariants.{WithoutMinus}
 use Rattle.clap.specs.ValueTests.{accepts}
-use Rattle.clap.specs.Walk.{Row, Rule, Text, arg_by_id, has_row, one_of, row_text}
+use Rattle.clap.specs.Walk.{Row, Rule, Text, all_of, arg_by_id, has_row, one_of, row_text}
 use Rattle.clap.specs.declared.builder.value_parser.ValueParser.TheVariants as vp
 use Rattle.fwupd_words.specs.CommandLine.{number_between}
 use Rattle.fwupd_words.specs.Words.{number_of}
-use Rattle.fwupd_words.proofs.Rows.{AreRows, IsRowOf}
+use Rattle.fwupd_words.proofs.Rows.{AllPass, AreRows, IsRowOf}
 
 -- a text is a number of k bits between bounds
 pub record IsNumber (k low high : ℕ) (text : Text) : Type 0 where
@@ -69,7 +69,7 @@ number_at rules rows id a k m low high all by has parser case fits full small =
     let one : one_of id rows ≡ Some (without_minus text) = ap (option_and_then row_text) row.1
     ∙ (λ i. option_map (read_as (reading i)) (slice_get (row.2.values i) 0)) in
     let passes : accepts false (number_between low high) text ≡ true =
-    sym (λ i. accepts (case i) (parser_of_value (parser i)) text) ∙ row.2.passes in
+    sym (λ i. accepts (case i) (parser_of_value (parser i)) text) ∙ row.2.pass.0 in
     (without_minus text, one, in_bounds k m low high text fits full small (accepts-Accepts false (number_between low high) text passes))
 
 -- the requested number is within its bounds
@@ -81,6 +81,24 @@ number_under rules rows id a k m low high number all by has parser case fits ful
     let at = number_at rules rows id a k m low high all by has parser case fits full small in
     let same = asks at.0 at.1 at.2.numeral at.2.fits in
     (rw same at.2.least, rw same at.2.most)
+
+-- the argument accepts all texts under its id
+pub texts_at : (rules : List Rule) (rows : List Row) (id : Text) (a : Rule) → AreRows rules rows → arg_by_id rules id ≡ Some a → AllPass a (unwrap_or (all_of id rows) [])
+texts_at rules rows id a all by = go (has_row id rows) refl
+  where
+    none : (rows : List Row) → has_row id rows ≡ false → all_of id rows ≡ None
+    none [] absent = refl
+    none (r ∷ rs) absent = at (bytes_eq r.id id) refl (λ h. none rs h)
+      where
+        at : (b : Bool) → bytes_eq r.id id ≡ b → (has_row id rs ≡ false → all_of id rs ≡ None) → all_of id (r ∷ rs) ≡ None
+        at true is later = absurd (true≢false (rw is at absent))
+        at false is later = rw is (later (rw is at absent))
+
+    go : (b : Bool) → has_row id rows ≡ b → AllPass a (unwrap_or (all_of id rows) [])
+    go true has =
+        let row = had_row rules rows id a all by has in
+        subst (AllPass a) (sym (ap (λ (o : Option Row). unwrap_or (option_map (λ r. r.values) o) []) row.1 ∙ row.2.values)) row.2.pass
+    go false has = rw (none rows has) tt
 
 -- without a row of an id it has no text
 no_text : (rows : List Row) (id : Text) → has_row id rows ≡ false → one_of id rows ≡ None

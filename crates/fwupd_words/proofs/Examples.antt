@@ -2,10 +2,12 @@
 use Rattle.std.proofs.Common.{◌≡◌, ◌∷◌, [], List, None, Option, Some, codes, option_map, refl}
 use Rattle.clap.proofs.OnLiterals.{clap_on_literals}
 use Rattle.clap.specs.Walk.{Row, Text}
-use Rattle.clap.specs.Words.{fault_of, first_of, subcommand_of}
+use Rattle.clap.specs.Words.{all_of, fault_of, first_of, subcommand_of}
 use Rattle.clap.specs.declared.error.kind.ErrorKind.{ErrorKind}
 use Rattle.clap.specs.declared.error.kind.ErrorKind.TheVariants.{ArgumentConflict, MissingRequiredArgument, InvalidValue, ValueValidation}
+use Rattle.fwupd_words.specs.Clashes.{run_clash}
 use Rattle.fwupd_words.specs.CommandLine.{Forms, command_line}
+use Rattle.fwupd_words.specs.Packages.{package_of, value_of}
 use Rattle.fwupd_words.specs.Processes.{agent_clash, device_clash}
 use Rattle.fwupd_words.specs.Words.{given_by}
 
@@ -99,3 +101,77 @@ filter_ticks forms = refl
 filter_checks : (forms : Forms) → agent_clashes forms (codes "fwupd" ∷ codes "agent" ∷ codes "--check" ∷ codes "a" ∷ []) ≡ Some (Some MissingRequiredArgument)
 unfolding clap_on_literals
 filter_checks forms = refl
+
+-- the format of a trace needs a trace, and a seed a chance
+abbrev run_clashes : Forms → List Text → Option (Option ErrorKind)
+run_clashes forms words = option_map (λ named. run_clash (given_by named.1)) (subcommand_of (command_line forms) words)
+
+seed_alone : (forms : Forms) → run_clashes forms (codes "fwupd" ∷ codes "run" ∷ codes "--seed=1" ∷ codes "a" ∷ codes "b" ∷ []) ≡ Some (Some MissingRequiredArgument)
+unfolding clap_on_literals
+seed_alone forms = refl
+
+seed_of_losses : (forms : Forms) → run_clashes forms (codes "fwupd" ∷ codes "run" ∷ codes "--seed=1" ∷ codes "--loss=0" ∷ codes "a" ∷ codes "b" ∷ []) ≡ Some None
+unfolding clap_on_literals
+seed_of_losses forms = refl
+
+-- each use of the option adds a device, in the order of the uses, and an identifier is 8 to 254
+abbrev given_all : (name : Text) → Option (Text × List Row) → Option (Option (List Text))
+given_all name = option_map (λ named. all_of name named.1)
+
+two_devices : (forms : Forms) → given_all (codes "device") (subcommand_of (command_line forms) (codes "fwupd" ∷ codes "run" ∷ codes "--device=10" ∷ codes "a" ∷ codes "--device" ∷ codes "9" ∷ codes "b" ∷ [])) ≡ Some (Some (codes "10" ∷ codes "9" ∷ []))
+unfolding clap_on_literals
+two_devices forms = refl
+
+all_devices : (forms : Forms) → given_all (codes "device") (subcommand_of (command_line forms) (codes "fwupd" ∷ codes "run" ∷ codes "a" ∷ codes "b" ∷ [])) ≡ Some None
+unfolding clap_on_literals
+all_devices forms = refl
+
+wide_device : (forms : Forms) → fault_of (command_line forms) (codes "fwupd" ∷ codes "run" ∷ codes "--device=300" ∷ codes "a" ∷ codes "b" ∷ []) ≡ ValueValidation ∷ []
+unfolding clap_on_literals
+wide_device forms = refl
+
+-- a value is N or EID=N, and no other text
+own_of : value_of (codes "9=2") ≡ Some (Some 9, 2)
+own_of = refl
+
+common_of : value_of (codes "+2") ≡ Some (None, 2)
+common_of = refl
+
+none_of_0 : value_of (codes "9=0") ≡ None
+none_of_0 = refl
+
+none_of_7 : value_of (codes "7=1") ≡ None
+none_of_7 = refl
+
+none_of_two : value_of (codes "9=2=3") ≡ None
+none_of_two = refl
+
+none_of_nothing : value_of [] ≡ None
+none_of_nothing = refl
+
+-- a device's own package, and that of all others
+own_package : package_of (codes "3" ∷ codes "9=2" ∷ []) 9 ≡ 2
+own_package = refl
+
+common_package : package_of (codes "3" ∷ codes "9=2" ∷ []) 10 ≡ 3
+common_package = refl
+
+first_package : package_of (codes "9=2" ∷ []) 10 ≡ 1
+first_package = refl
+
+-- each use of the option adds a value, and values that don't fit are refused
+two_packages : (forms : Forms) → given_all (codes "package") (subcommand_of (command_line forms) (codes "fwupd" ∷ codes "run" ∷ codes "--package=9=2" ∷ codes "a" ∷ codes "--package" ∷ codes "1" ∷ codes "b" ∷ [])) ≡ Some (Some (codes "9=2" ∷ codes "1" ∷ []))
+unfolding clap_on_literals
+two_packages forms = refl
+
+malformed_package : (forms : Forms) → run_clashes forms (codes "fwupd" ∷ codes "run" ∷ codes "--package=9=" ∷ codes "a" ∷ codes "b" ∷ []) ≡ Some (Some ValueValidation)
+unfolding clap_on_literals
+malformed_package forms = refl
+
+package_twice : (forms : Forms) → run_clashes forms (codes "fwupd" ∷ codes "run" ∷ codes "--package=9=1" ∷ codes "--package=09=2" ∷ codes "a" ∷ codes "b" ∷ []) ≡ Some (Some ArgumentConflict)
+unfolding clap_on_literals
+package_twice forms = refl
+
+package_each : (forms : Forms) → run_clashes forms (codes "fwupd" ∷ codes "run" ∷ codes "--package=9=1" ∷ codes "--package=10=2" ∷ codes "--package=1" ∷ codes "a" ∷ codes "b" ∷ []) ≡ Some None
+unfolding clap_on_literals
+package_each forms = refl

@@ -1,5 +1,5 @@
 -- The values of arguments, by the matches and by the rows that the matches show.
-use Rattle.std.proofs.Common.{◌≡◌, ◌∙◌, ◌⊎◌, IfErr, IfOk, Option, None, Some, Result, Ok, Err, List, [], ap, ap₂, codes, inl, inr, option_map, refl, subst, sym}
+use Rattle.std.proofs.Common.{◌≡◌, ◌∙◌, ◌⊎◌, IfErr, IfOk, OnOk, false, Option, None, Some, Result, Ok, Err, List, [], ap, ap₂, codes, inl, inr, option_map, refl, subst, sym}
 use Rattle.std.specs.Prelude.{Box, IsSomeAnd, unwrap_or}
 use Rattle.std.specs.Box.{box_value}
 use Rattle.clap.specs.Words.{App, HasKind, Row, Text, fault_of, found_of, rows_of, subcommand_name_of, subcommand_of, subcommand_rows, subcommand_rows_of}
@@ -7,8 +7,9 @@ use Rattle.clap.specs.declared.error.Error.{Error}
 use Rattle.clap.specs.declared.parser.matches.ArgMatches.{ArgMatches}
 use Rattle.clap.specs.declared.parser.matches.ArgMatches.TheViews.{out-ArgMatches, out-SubCommand}
 use Rattle.clap.specs.declared.parser.matches.SubCommand.{SubCommand}
-use Rattle.clap.proofs.WalkLemmas.{first_value-rows, one_text-rows}
+use Rattle.clap.proofs.WalkLemmas.{first_value-rows, one_text-rows, raw_values-rows}
 use Rattle.fwupd_words.specs.Reading.{HasClash, IsFound, IsNoByte, IsNoUuid, IsRefusedWord, ReadsWords, RefusesWords}
+use Rattle.fwupd_words.specs.Clashes.{has_dashed_output}
 use Rattle.fwupd_words.specs.Jobs.{AsksForJob}
 use Rattle.fwupd_words.specs.Words.{Given, given_by, given_in}
 use Rattle.fwupd_words.specs.CommandLine.{Forms, IsCommandLine, command_line}
@@ -22,7 +23,11 @@ none_of (Some x) never = absurd (never x refl)
 
 -- the matches have the values of their rows
 pub given_rows : (m : ArgMatches) → ◌≡◌ {A = Given} (given_in m) (given_by (rows_of (found_of m)))
-given_rows m = λ i. record { first = λ name. first_value-rows (found_of m) name i; one = λ name. one_text-rows (found_of m) name i }
+given_rows m = λ i. record {
+  first = λ name. first_value-rows (found_of m) name i;
+  one = λ name. one_text-rows (found_of m) name i;
+  all = λ name. raw_values-rows (found_of m) name i;
+}
 
 names_are : {Z : Type 0} (o : Option (Box SubCommand Z))
     → option_map (λ (named : Text × List Row). named.0) (subcommand_rows o) ≡ option_map (λ b. (out-SubCommand (box_value b)).name.now) o
@@ -69,18 +74,18 @@ refused line words entered name error forms passed is free entering (inl why) =
 -- the result of a subcommand is the result of the arguments
 pub reads : (line : App) (words : List Text) (m entered : ArgMatches) (name : Text) (r : Result Job Error) → IsCommandLine line → IsFound line words m
     → Some name ≡ subcommand_name_of m → Some (rows_of (found_of entered)) ≡ option_map (λ named. named.1) (subcommand_rows_of m)
-    → IfOk r (AsksForJob name (given_in entered)) → IfErr r (RefusesWords name (given_in entered)) → ReadsWords line words r
-reads line words m entered name (Ok job) is_line found named shown asks refuses =
+    → IfOk r (AsksForJob name (given_in entered)) → OnOk r (has_dashed_output (given_in entered) ≡ false) → IfErr r (RefusesWords name (given_in entered)) → ReadsWords line words r
+reads line words m entered name (Ok job) is_line found named shown asks undashed refuses =
     let rows = rows_of (found_of entered) in
     let is = sym (entered_is m name rows named shown) ∙ found.1 in
     let passed = subst (λ a. fault_of a words ≡ []) is_line.is found.0 in
     let entering = sym (subst (λ a. Some (name, rows) ≡ subcommand_of a words) is_line.is is) in
-    let here = subst (λ given. AsksForJob name given job) (given_rows entered) asks in (
+    let here = subst (λ given. AsksForJob name given job × (has_dashed_output given ≡ false)) (given_rows entered) (asks, undashed) in (
       found.0,
-      subst (λ o. IsSomeAnd o (λ at. AsksForJob at.0 (given_by at.1) job)) is here,
-      is_within is_line.forms words name rows job passed entering here,
+      subst (λ o. IsSomeAnd o (λ at. AsksForJob at.0 (given_by at.1) job × (has_dashed_output (given_by at.1) ≡ false))) is here,
+      is_within is_line.forms words name rows job passed entering here.0,
     )
-reads line words m entered name (Err error) is_line found named shown asks refuses =
+reads line words m entered name (Err error) is_line found named shown asks undashed refuses =
     let rows = rows_of (found_of entered) in
     let is = sym (entered_is m name rows named shown) ∙ found.1 in
     let passed = subst (λ a. fault_of a words ≡ []) is_line.is found.0 in

@@ -8,3 +8,6 @@ mod Entered
 mod Bounds
 mod Within
 mod Given
+mod Devices
+mod Chosen
+mod Eids

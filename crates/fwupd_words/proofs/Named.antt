@@ -1,4 +1,4 @@
--- Only the eleven subcommands are parsed: `help` prints help.
+-- Only the twelve subcommands are parsed: `help` prints help.
 use Rattle.std.proofs.Common.{◌≡◌, ◌∙◌, ◌||◌, ◌∷◌, [], Bool, ℕ, List, Option, None, Some, ap, cond, codes, drop, false, true, option_map, refl, subst, sym, true≢false}
 use Rattle.std.specs.Prelude.{IfSome, unwrap_or}
 use Rattle.std.proofs.lemmas.Slice.Eq.{bytes_eq-Decides}
@@ -149,14 +149,14 @@ each_has_job forms name no_help = (
         λ _ other. other.3 refl,
         (
           λ _ other. other.4 refl,
-          (λ _ other. other.5 refl, (λ _ other. other.6 refl, (λ _ other. other.7 refl, (λ _ other. other.8 refl, (λ _ other. other.9 refl, (λ _ other. other.10 refl, (λ answers other. help_is_not name no_help answers, tt))))))),
+          (λ _ other. other.5 refl, (λ _ other. other.6 refl, (λ _ other. other.7 refl, (λ _ other. other.8 refl, (λ _ other. other.9 refl, (λ _ other. other.10 refl, (λ _ other. other.11 refl, (λ answers other. help_is_not name no_help answers, tt)))))))),
         ),
       ),
     ),
   ),
 )
 
--- if arguments have no fault, their subcommand is one of the eleven
+-- if arguments have no fault, their subcommand is one of the twelve
 pub names_a_job : (forms : Forms) (words : List Text) (name : Text) (rows : List Row) → fault_of (command_line forms) words ≡ []
     → subcommand_of (command_line forms) words ≡ Some (name, rows) → IsNoJob name → ⊥
 names_a_job forms words name rows passed is other =

@@ -1,7 +1,7 @@
--- If arguments have no fault, each row of a subcommand has one text, which its argument accepts.
+-- If arguments have no fault, each row of a subcommand has texts, and its argument accepts each.
 use Rattle.std.proofs.Common.{◌≡◌, ◌∙◌, ◌||◌, ◌⊎◌, ℕ, suc, arith, length, ne_eqb, ◌∷◌, [], ◌++◌, Bool, List, Option, None, Some, ap, cond, false, true, inl, inr, refl, subst, sym, true≢false, ◌&&◌, not}
 use Rattle.std.specs.Prelude.{IfSome, unwrap_or}
-use Rattle.std.specs.List.{find, fold, list_any}
+use Rattle.std.specs.List.{AllByRecursion, find, fold, list_any}
 use Rattle.clap.proofs.WalkLemmas.{both}
 use Rattle.std.specs.Str.{bytes_eq}
 use Rattle.std.proofs.lemmas.List.{append-nil}
@@ -12,21 +12,27 @@ use Rattle.clap.specs.Kinds.{Kinds, or_else, range_kinds, request_kinds}
 use Rattle.clap.specs.Simple.{Shape}
 use Rattle.clap.specs.Takes.{value_passes}
 use Rattle.clap.specs.ValueTests.{accepts}
-use Rattle.clap.specs.Walk.{Row, Rule, Text, action_of, arg_by_id, at_row, default_rows, has_row, is_empty, more_values, nothing_held, reading_by, rows_after, settled, used, used_as, values_or_missing, walk, walk_from, with_default, with_values, without}
+use Rattle.clap.specs.Walk.{Row, Rule, Text, action_of, arg_by_id, at_row, default_rows, has_row, is_empty, more_values, nothing_held, reading_by, rows_after, settled, stronger, used, used_as, values_or_missing, walk, walk_from, with_default, with_values, without}
 use Rattle.clap.specs.declared.builder.action.ArgAction.{ArgAction}
 use Rattle.clap.specs.declared.builder.range.ValueRange.{ValueRange}
 use Rattle.clap.specs.declared.error.kind.ErrorKind.{ErrorKind}
-use Rattle.clap.specs.declared.builder.action.ArgAction.TheVariants.{Help, Set, SetTrue}
+use Rattle.clap.specs.declared.builder.action.ArgAction.TheVariants.{Append, Help, Set, SetTrue}
 use Rattle.clap.specs.declared.parser.matches.ValueSource.{ValueSource}
 use Rattle.clap.specs.declared.parser.matches.ValueSource.TheVariants.{CommandLine, DefaultValue}
 use Rattle.fwupd_words.proofs.Named.{none_of_both}
 use Rattle.fwupd_words.proofs.Walks.{settled_keeps, walk_keeps}
 
--- the row has one text, which the argument accepts, and is parsed as the argument says
+-- the argument accepts each of the texts
+abbrev pub AllPass : Rule → List Text → Type 0
+AllPass a = AllByRecursion (λ text. value_passes a text ≡ true)
+
+-- the row has texts, at least one, each of which the argument accepts, and is parsed as the
+-- argument says
 pub record IsRowOf (a : Rule) (r : Row) : Type 0 where
   pub text : Text
-  pub values : r.values ≡ text ∷ []
-  pub passes : value_passes a text ≡ true
+  pub more : List Text
+  pub values : r.values ≡ text ∷ more
+  pub pass : AllPass a (text ∷ more)
   pub reading : r.reading ≡ reading_by a
 
 abbrev pub IsRow : List Rule → Row → Type 0
@@ -62,10 +68,20 @@ SetsOne a values rows =
 abbrev UsesOne : Rule → Type 0
 UsesOne a = (values : List Text) (rows : List Row) → use_fault false a values rows ≡ [] → SetsOne a values rows
 
--- the argument is the only one with its id, sets one text at each use, and has at most one default
+-- Each use of an argument adds one text.
+pub record AddsOne (a : Rule) (values : List Text) (rows : List Row) : Type 0 where
+  pub text : Text
+  pub is : used a values rows ≡ with_values a.id (reading_by a) CommandLine (text ∷ []) rows
+  pub passes : values_fault a (text ∷ []) ≡ []
+
+abbrev AppendsOne : Rule → Type 0
+AppendsOne a = (values : List Text) (rows : List Row) → use_fault false a values rows ≡ [] → AddsOne a values rows
+
+-- the argument is the only one with its id, sets or adds one text at each use, and has at most one
+-- default
 pub record IsUsual (c : List Rule) (a : Rule) : Type 0 where
   pub by : arg_by_id c a.id ≡ Some a
-  pub uses : UsesOne a
+  pub uses : UsesOne a ⊎ AppendsOne a
   pub default : (a.defaults ≡ []) ⊎ ((text : Text) × (a.defaults ≡ text ∷ []))
 
 one_passes : (a : Rule) (text : Text) → values_fault a (text ∷ []) ≡ [] → value_passes a text ≡ true
@@ -85,19 +101,61 @@ set_is_first a values rows passed = go (has_row a.id rows) refl
 new_is_row : (c : List Rule) (a : Rule) (source : ValueSource) (text : Text) → IsUsual c a → values_fault a (text ∷ []) ≡ [] → IsRow c (one_row a source text)
 new_is_row c a source text usual passed other is =
     let same : a ≡ other = ap (λ (o : Option Rule). unwrap_or o a) (sym usual.by ∙ is) in
-    subst (λ (x : Rule). IsRowOf x (one_row a source text)) same (record { text = text; values = refl; passes = one_passes a text passed; reading = refl })
+    subst (λ (x : Rule). IsRowOf x (one_row a source text)) same (record { text = text; more = []; values = refl; pass = (one_passes a text passed, tt); reading = refl })
 
--- a use keeps this
-pub use_keeps : (c : List Rule) (a : Rule) (values : List Text) (rows : List Row) → IsUsual c a → use_fault false a values rows ≡ [] → AreRows c rows
+all_pass_more : (a : Rule) (texts : List Text) (text : Text) → AllPass a texts → value_passes a text ≡ true → AllPass a (texts ++ text ∷ [])
+all_pass_more a [] text all passes = (passes, tt)
+all_pass_more a (x ∷ xs) text all passes = (all.0, all_pass_more a xs text all.1 passes)
+
+-- a row with one more text
+abbrev longer_row : ValueSource → Text → Row → Row
+longer_row source text r = record r { values = r.values ++ text ∷ []; source = Some (stronger r.source source) }
+
+longer_is_row : (c : List Rule) (a : Rule) (source : ValueSource) (text : Text) (r : Row) → value_passes a text ≡ true → arg_by_id c r.id ≡ Some a → IsRow c r
+    → IsRow c (longer_row source text r)
+longer_is_row c a source text r passes by is other found =
+    let same : a ≡ other = ap (λ (o : Option Rule). unwrap_or o a) (sym by ∙ found) in
+    let row = is a by in
+    subst (λ (x : Rule). IsRowOf x (longer_row source text r)) same (record {
+      text = row.text;
+      more = row.more ++ text ∷ [];
+      values = ap (λ xs. xs ++ text ∷ []) row.values;
+      pass = all_pass_more a (row.text ∷ row.more) text row.pass passes;
+      reading = row.reading;
+    })
+
+-- one more text in the row of an argument, or a new row
+more_keeps : (c : List Rule) (a : Rule) (source : ValueSource) (text : Text) (rows : List Row) → IsUsual c a → values_fault a (text ∷ []) ≡ [] → AreRows c rows
+    → AreRows c (with_values a.id (reading_by a) source (text ∷ []) rows)
+more_keeps c a source text [] usual passed all = (new_is_row c a source text usual passed, tt)
+more_keeps c a source text (r ∷ rs) usual passed all = go (bytes_eq r.id a.id) refl (more_keeps c a source text rs usual passed all.1)
+  where
+    go : (b : Bool) → bytes_eq r.id a.id ≡ b → AreRows c (with_values a.id (reading_by a) source (text ∷ []) rs) → AreRows c (with_values a.id (reading_by a) source (text ∷ []) (r ∷ rs))
+    go true is later =
+        let by = ap (arg_by_id c) ((bytes_eq-Decides r.id a.id).0 is) ∙ usual.by in
+        rw is (longer_is_row c a source text r (one_passes a text passed) by all.0, all.1)
+    go false is later = rw is (all.0, later)
+
+set_keeps : (c : List Rule) (a : Rule) (values : List Text) (rows : List Row) → IsUsual c a → UsesOne a → use_fault false a values rows ≡ [] → AreRows c rows
     → AreRows c (used a values rows)
-use_keeps c a values rows usual passed all =
-    let sets = usual.uses values rows passed in
+set_keeps c a values rows usual uses passed all =
+    let sets = uses values rows passed in
     let first = set_is_first a (sets.0 ∷ []) rows sets.2 in
     let gone : without a.id rows ≡ rows = at_end a.id (λ _. []) [] rows first ∙ append-nil rows in
     let is : used a values rows ≡ rows ++ one_row a CommandLine sets.0 ∷ [] =
     sets.1 ∙ ap (with_values a.id (reading_by a) CommandLine (sets.0 ∷ [])) gone
     ∙ at_end a.id (more_values CommandLine (sets.0 ∷ [])) (one_row a CommandLine sets.0 ∷ []) rows first in
     subst (AreRows c) (sym is) (one_row_more c rows (one_row a CommandLine sets.0) all (new_is_row c a CommandLine sets.0 usual (none_of_both _ _ sets.2).1))
+
+-- a use keeps this
+pub use_keeps : (c : List Rule) (a : Rule) (values : List Text) (rows : List Row) → IsUsual c a → use_fault false a values rows ≡ [] → AreRows c rows
+    → AreRows c (used a values rows)
+use_keeps c a values rows usual passed all = elim usual.uses [
+  | inl sets ↦ set_keeps c a values rows usual sets passed all
+  | inr adds ↦
+      let one = adds values rows passed in
+      subst (AreRows c) (sym one.is) (more_keeps c a CommandLine one.text rows usual one.passes all)
+]
 
 -- a default adds a row if there is none
 pub default_adds : (a : Rule) (rows : List Row) (text : Text) → has_row a.id rows ≡ false → a.defaults ≡ text ∷ [] → with_default rows a ≡ rows ++ one_row a DefaultValue text ∷ []
@@ -259,6 +317,19 @@ sets_flag a text is range missing (more ∷ rest) rows passed =
     let fault = fault_by a (more ∷ rest) rows SetTrue (exactly 0) is range passed in
     absurd (no_fault_is_one _ _ (rw (ne_eqb 0 (suc (length rest)) (λ e. omega arith)) at fault))
 
+pub adds_text : (a : Rule) → action_of a ≡ Append → unwrap_or_range a.range ≡ exactly 1 → AppendsOne a
+adds_text a is range [] rows passed = absurd (no_fault_is_one _ _ (fault_by a [] rows Append (exactly 1) is range passed))
+adds_text a is range (text ∷ []) rows passed = record {
+  text = text;
+  is = ap (λ x. used_as x a.id (reading_by a) (text ∷ []) rows) is;
+  passes = fault_by a (text ∷ []) rows Append (exactly 1) is range passed;
+}
+adds_text a is range (text ∷ more ∷ rest) rows passed =
+    let some = ne_eqb (suc (suc (length rest))) 0 (λ e. omega arith) in
+    let two = ne_eqb 1 (suc (suc (length rest))) (λ e. omega arith) in
+    let fault = fault_by a (text ∷ more ∷ rest) rows Append (exactly 1) is range passed in
+    absurd (no_fault_is_one _ _ (rw (some, two) at fault))
+
 pub sets_none : (a : Rule) → action_of a ≡ Help → unwrap_or_range a.range ≡ exactly 0 → UsesOne a
 sets_none a is range [] rows passed = absurd (no_fault_is_one _ _ (fault_by a [] rows Help (exactly 0) is range passed))
 sets_none a is range (more ∷ rest) rows passed =
@@ -267,14 +338,17 @@ sets_none a is range (more ∷ rest) rows passed =
 
 pub set_usual : (c : List Rule) (a : Rule) → arg_by_id c a.id ≡ Some a → action_of a ≡ Set → unwrap_or_range a.range ≡ exactly 1
     → (a.defaults ≡ []) ⊎ ((text : Text) × (a.defaults ≡ text ∷ [])) → IsUsual c a
-set_usual c a by is range default = record { by = by; uses = sets_text a is range; default = default }
+set_usual c a by is range default = record { by = by; uses = inl (sets_text a is range); default = default }
+
+pub append_usual : (c : List Rule) (a : Rule) → arg_by_id c a.id ≡ Some a → action_of a ≡ Append → unwrap_or_range a.range ≡ exactly 1 → a.defaults ≡ [] → IsUsual c a
+append_usual c a by is range none = record { by = by; uses = inr (adds_text a is range); default = inl none }
 
 pub flag_usual : (c : List Rule) (a : Rule) (text : Text) → arg_by_id c a.id ≡ Some a → action_of a ≡ SetTrue → unwrap_or_range a.range ≡ exactly 0
     → a.missing ≡ text ∷ [] → (a.defaults ≡ []) ⊎ ((text : Text) × (a.defaults ≡ text ∷ [])) → IsUsual c a
-flag_usual c a text by is range missing default = record { by = by; uses = sets_flag a text is range missing; default = default }
+flag_usual c a text by is range missing default = record { by = by; uses = inl (sets_flag a text is range missing); default = default }
 
 pub help_usual : (c : List Rule) (a : Rule) → arg_by_id c a.id ≡ Some a → action_of a ≡ Help → unwrap_or_range a.range ≡ exactly 0 → a.defaults ≡ [] → IsUsual c a
-help_usual c a by is range none = record { by = by; uses = sets_none a is range; default = inl none }
+help_usual c a by is range none = record { by = by; uses = inl (sets_none a is range); default = inl none }
 
 -- two facts, joined
 infixr 30 ◌also◌

@@ -1,29 +1,31 @@
 -- The numbers of each job are within the bounds of the command line.
-use Rattle.std.proofs.Common.{◌≡◌, ◌≤◌, ◌<◌, ◌^◌, ◌∷◌, [], Bool, ℕ, List, Some, arith, codes, false, true, inl, inr, refl, subst}
+use Rattle.std.proofs.Common.{◌≡◌, ◌∙◌, ◌≤◌, ◌<◌, ◌^◌, ◌∷◌, [], Bool, ℕ, List, Some, arith, codes, false, true, inl, inr, refl, subst, sym}
 use Rattle.clap.specs.Faults.{check_fault}
 use Rattle.clap.specs.Takes.{is_given}
 use Rattle.std.specs.Str.{bytes_eq}
 use Rattle.clap.specs.Simple.{Shape, built, built_leaf, filled, inherited, with_index}
 use Rattle.clap.specs.Walk.{Row, Rule, Text, arg_by_id, has_row}
 use Rattle.clap.specs.Words.{App, fault_of, subcommand_of}
-use Rattle.fwupd_words.specs.CommandLine.{Forms, agent, answer, device, number_between, command_line, option_rule, own_package_rule, package_rule, plan, run, soak, text_option, word_rule}
-use Rattle.fwupd_words.specs.Reading.{IsNoByte, HasAllowedRoughness, HasAllowedTicks, IsWithinBounds}
+use Rattle.fwupd_words.specs.CommandLine.{Forms, agent, answer, device, devices_rule, number_between, command_line, own_package_rule, package_rule, parsed_option, plan, run, soak, text_option, word_rule}
+use Rattle.fwupd_words.specs.Reading.{IsNoByte, HasAllowedDevices, HasAllowedPackages, HasAllowedRoughness, HasAllowedTicks, IsWithinBounds}
 use Rattle.fwupd_words.specs.Jobs.{AsksForJob}
 use Rattle.fwupd_words.specs.Processes.{AsksServing, usual_tick}
-use Rattle.fwupd_words.specs.Words.{AsksEndpoint, AsksNumber, AsksOrder, AsksRoughness, AsksSmall, AsksSoak, given_by}
+use Rattle.fwupd_words.specs.Words.{AsksChance, AsksEndpoint, AsksNumber, AsksOrder, AsksRoughness, AsksSmall, AsksSoak, given_by, texts_under}
 use Rattle.fwupd_base.specs.declared.roughness.Roughness.{Roughness}
 use Rattle.mctp_ctl.specs.declared.answers.Endpoint.{Endpoint}
 use Rattle.fwupd_words.specs.declared.asked.Order.{Order}
 use Rattle.fwupd_words.specs.declared.asked.SoakOrder.{SoakOrder}
 use Rattle.fwupd_words.specs.declared.asked.Job.{Job}
 use Rattle.fwupd_words.specs.declared.asked.Job.TheVariants as jobs
-use Rattle.fwupd_words.specs.declared.processes.Serving.{Serving}
-use Rattle.fwupd_words.specs.declared.processes.Wire.{Wire}
-use Rattle.fwupd_words.specs.declared.processes.Wire.TheVariants as wires
-use Rattle.fwupd_words.proofs.Bounds.{number_at, number_or, number_under, some_number}
+use Rattle.fwupd_base.specs.declared.processes.Serving.{Serving}
+use Rattle.fwupd_base.specs.declared.processes.Wire.{Wire}
+use Rattle.fwupd_base.specs.declared.processes.Wire.TheVariants as wires
+use Rattle.fwupd_words.proofs.Bounds.{number_at, number_or, number_under, some_number, texts_at}
+use Rattle.fwupd_words.proofs.Chosen.{package_least}
 use Rattle.fwupd_words.proofs.Closed.{some_forms}
+use Rattle.fwupd_words.proofs.Eids.{AllAccepted, all_bytes, chosen_eid}
 use Rattle.fwupd_words.proofs.Entered.{OnlyNamed, rows_read}
-use Rattle.fwupd_words.proofs.Rows.{AllUsual, ◌also◌, AreRead, AreRows, flag_usual, has_default, help_usual, no_fault_is_one, set_usual}
+use Rattle.fwupd_words.proofs.Rows.{AllUsual, ◌also◌, AreRead, AreRows, append_usual, flag_usual, help_usual, no_fault_is_one, set_usual}
 
 abbrev building : App → Shape
 building one = built_leaf (inherited (command_line some_forms).top one.top)
@@ -92,21 +94,22 @@ planning_usual =
 
 running_usual : (forms : Forms) → AllUsual (building (run forms)).rules (building (run forms)).rules
 running_usual forms =
-    set_usual _ _ refl refl refl (inr (_, refl))
+    append_usual _ _ refl refl refl refl
+    also append_usual _ _ refl refl refl refl
     also flag_usual _ _ _ refl refl refl refl (inr (_, refl))
     also flag_usual _ _ _ refl refl refl refl (inr (_, refl))
     also set_usual _ _ refl refl refl (inl refl)
-    also set_usual _ _ refl refl refl (inr (_, refl))
+    also set_usual _ _ refl refl refl (inl refl)
     also set_usual _ _ refl refl refl (inl refl)
     also set_usual _ _ refl refl refl (inl refl)
     also set_usual _ _ refl refl refl (inl refl)
     also flag_usual _ _ _ refl refl refl refl (inr (_, refl))
     also set_usual _ _ refl refl refl (inl refl)
     also set_usual _ _ refl refl refl (inl refl)
-    also set_usual _ _ refl refl refl (inr (_, refl))
-    also set_usual _ _ refl refl refl (inr (_, refl))
-    also set_usual _ _ refl refl refl (inr (_, refl))
-    also set_usual _ _ refl refl refl (inr (_, refl))
+    also set_usual _ _ refl refl refl (inl refl)
+    also set_usual _ _ refl refl refl (inl refl)
+    also set_usual _ _ refl refl refl (inl refl)
+    also set_usual _ _ refl refl refl (inl refl)
     also help_usual _ _ refl refl refl refl
     also tt
 
@@ -114,11 +117,12 @@ soaking_usual : AllUsual (building soak).rules (building soak).rules
 soaking_usual =
     set_usual _ _ refl refl refl (inl refl)
     also set_usual _ _ refl refl refl (inl refl)
+    also flag_usual _ _ _ refl refl refl refl (inr (_, refl))
     also set_usual _ _ refl refl refl (inl refl)
-    also set_usual _ _ refl refl refl (inr (_, refl))
-    also set_usual _ _ refl refl refl (inr (_, refl))
-    also set_usual _ _ refl refl refl (inr (_, refl))
-    also set_usual _ _ refl refl refl (inr (_, refl))
+    also set_usual _ _ refl refl refl (inl refl)
+    also set_usual _ _ refl refl refl (inl refl)
+    also set_usual _ _ refl refl refl (inl refl)
+    also set_usual _ _ refl refl refl (inl refl)
     also help_usual _ _ refl refl refl refl
     also tt
 
@@ -129,11 +133,11 @@ package_within : (rules : List Rule) (rows : List Row) (number : ℕ) → AreRow
 package_within rules rows number each by has asks =
     (number_under rules rows (codes "package") (as_built package_rule) 32 4294967295 1 4294967295 number each by has refl refl (omega arith) refl (omega arith) asks.is).0
 
-small_within : (rules : List Rule) (rows : List Row) (name : Text) (most number : ℕ) → AreRows rules rows
-    → arg_by_id rules name ≡ Some (as_built (option_rule name (codes "0") (number_between 0 most))) → has_row name rows ≡ true → most < 2 ^ 8
-    → AsksSmall (given_by rows) name number → number ≤ most
-small_within rules rows name most number each by has fits asks =
-    (number_under rules rows name (as_built (option_rule name (codes "0") (number_between 0 most))) 8 255 0 most number each by has refl refl fits refl (omega arith) asks).1
+chance_within : (rules : List Rule) (rows : List Row) (name : Text) (most number : ℕ) → AreRows rules rows
+    → arg_by_id rules name ≡ Some (as_built (parsed_option name (number_between 0 most))) → most < 2 ^ 8
+    → AsksChance (given_by rows) name number → number ≤ most
+chance_within rules rows name most number each by fits asks =
+    (number_or rules rows name (as_built (parsed_option name (number_between 0 most))) 8 255 0 most 0 number each by refl refl fits refl (omega arith) (omega arith) (omega arith) asks.none asks.given).1
 
 abbrev runs_rule : Rule
 runs_rule = as_built (record (text_option (codes "runs")) { required = true; parser = Some (number_between 1 1000000) })
@@ -157,21 +161,25 @@ plan_within : (rows : List Row) (number : ℕ) → AreRead (building plan) rows 
 plan_within rows number read asks = package_within (building plan).rules rows number read.each refl (read.defaults (codes "package") refl) asks
 
 rough_within : (s : Shape) (rows : List Row) (roughness : Roughness) → AreRead s rows
-    → arg_by_id s.rules (codes "loss") ≡ Some (as_built (option_rule (codes "loss") (codes "0") (number_between 0 100)))
-    → arg_by_id s.rules (codes "duplicate") ≡ Some (as_built (option_rule (codes "duplicate") (codes "0") (number_between 0 100)))
-    → arg_by_id s.rules (codes "delay") ≡ Some (as_built (option_rule (codes "delay") (codes "0") (number_between 0 8)))
-    → has_default (codes "loss") s.rules ≡ true → has_default (codes "duplicate") s.rules ≡ true → has_default (codes "delay") s.rules ≡ true
+    → arg_by_id s.rules (codes "loss") ≡ Some (as_built (parsed_option (codes "loss") (number_between 0 100)))
+    → arg_by_id s.rules (codes "duplicate") ≡ Some (as_built (parsed_option (codes "duplicate") (number_between 0 100)))
+    → arg_by_id s.rules (codes "delay") ≡ Some (as_built (parsed_option (codes "delay") (number_between 0 8)))
     → AsksRoughness (given_by rows) roughness → HasAllowedRoughness roughness
-rough_within s rows roughness read loss duplicate delay has_loss has_duplicate has_delay asks = record {
-  loss = small_within s.rules rows (codes "loss") 100 roughness.loss read.each loss (read.defaults (codes "loss") has_loss) (omega arith) asks.loss;
-  duplicate = small_within s.rules rows (codes "duplicate") 100 roughness.duplicate read.each duplicate (read.defaults (codes "duplicate") has_duplicate) (omega arith) asks.duplicate;
-  delay = small_within s.rules rows (codes "delay") 8 roughness.delay read.each delay (read.defaults (codes "delay") has_delay) (omega arith) asks.delay;
+rough_within s rows roughness read loss duplicate delay asks = record {
+  loss = chance_within s.rules rows (codes "loss") 100 roughness.loss read.each loss (omega arith) asks.loss;
+  duplicate = chance_within s.rules rows (codes "duplicate") 100 roughness.duplicate read.each duplicate (omega arith) asks.duplicate;
+  delay = chance_within s.rules rows (codes "delay") 8 roughness.delay read.each delay (omega arith) asks.delay;
 }
 
-run_within : (forms : Forms) (rows : List Row) (order : Order) → AreRead (building (run forms)) rows → AsksOrder (given_by rows) order → (1 ≤ order.number) × HasAllowedRoughness order.roughness
+run_within : (forms : Forms) (rows : List Row) (order : Order) → AreRead (building (run forms)) rows → AsksOrder (given_by rows) order
+    → HasAllowedPackages order.packages × HasAllowedDevices order.devices × HasAllowedRoughness order.roughness
 run_within forms rows order read asks = (
-  package_within (building (run forms)).rules rows order.number read.each refl (read.defaults (codes "package") refl) asks.number,
-  rough_within (building (run forms)) rows order.roughness read refl refl refl refl refl refl asks.roughness,
+  λ eid fits. rw (asks.packages.each eid fits) (package_least (texts_under (given_by rows) (codes "package")) eid),
+  λ eid is.
+      let texts = texts_under (given_by rows) (codes "device") in
+      let accepted : AllAccepted texts = texts_at (building (run forms)).rules rows (codes "device") (as_built devices_rule) read.each refl in
+      chosen_eid texts (texts_under (given_by rows) (codes "package")) eid accepted (sym (asks.devices.given (all_bytes texts accepted) eid) ∙ is),
+  rough_within (building (run forms)) rows order.roughness read refl refl refl asks.roughness,
 )
 
 soak_within : (rows : List Row) (order : SoakOrder) → AreRead (building soak) rows → AsksSoak (given_by rows) order
@@ -179,7 +187,7 @@ soak_within : (rows : List Row) (order : SoakOrder) → AreRead (building soak) 
 soak_within rows order read asks =
     let has = given_has (codes "runs") rows (runs_given rows read.checked) in
     let runs = number_under (building soak).rules rows (codes "runs") runs_rule 32 4294967295 1 1000000 order.runs read.each refl has refl refl (omega arith) refl (omega arith) asks.runs.is in
-    (runs.0, runs.1, rough_within (building soak) rows order.roughness read refl refl refl refl refl refl asks.roughness)
+    (runs.0, runs.1, rough_within (building soak) rows order.roughness read refl refl refl asks.roughness)
 
 abbrev eid_rule : Rule
 eid_rule = as_built (record (word_rule (codes "EID")) { parser = Some (number_between 8 254) })
@@ -196,7 +204,7 @@ answer_read : (forms : Forms) (words : List Text) (name : Text) (rows : List Row
 answer_read forms words name rows passed is named =
     let here = subst (λ n. subcommand_of (command_line forms) words ≡ Some (n, rows)) named is in
     let only : OnlyNamed (codes "answer") (building answer) (built (command_line forms)).subs =
-    inl refl also inr refl also inr refl also inr refl also inr refl also inr refl also inr refl also inr refl also inr refl also inr refl also inr refl also inr refl also tt in
+    inl refl also inr refl also inr refl also inr refl also inr refl also inr refl also inr refl also inr refl also inr refl also inr refl also inr refl also inr refl also inr refl also tt in
     rows_read forms words (codes "answer") rows (building answer) passed here only refl answering_usual
 
 -- arguments of `answer` without a fault have an identifier
@@ -241,7 +249,7 @@ device_read : (forms : Forms) (words : List Text) (name : Text) (rows : List Row
 device_read forms words name rows passed is named =
     let here = subst (λ n. subcommand_of (command_line forms) words ≡ Some (n, rows)) named is in
     let only : OnlyNamed (codes "device") (building (device forms)) (built (command_line forms)).subs =
-    inr refl also inr refl also inr refl also inr refl also inr refl also inr refl also inr refl also inr refl also inl refl also inr refl also inr refl also inr refl also tt in
+    inr refl also inr refl also inr refl also inr refl also inr refl also inr refl also inr refl also inr refl also inl refl also inr refl also inr refl also inr refl also inr refl also tt in
     rows_read forms words (codes "device") rows (building (device forms)) passed here only refl (device_usual forms)
 
 agent_read : (forms : Forms) (words : List Text) (name : Text) (rows : List Row) → fault_of (command_line forms) words ≡ []
@@ -249,7 +257,7 @@ agent_read : (forms : Forms) (words : List Text) (name : Text) (rows : List Row)
 agent_read forms words name rows passed is named =
     let here = subst (λ n. subcommand_of (command_line forms) words ≡ Some (n, rows)) named is in
     let only : OnlyNamed (codes "agent") (building (agent forms)) (built (command_line forms)).subs =
-    inr refl also inr refl also inr refl also inr refl also inr refl also inr refl also inr refl also inr refl also inr refl also inl refl also inr refl also inr refl also tt in
+    inr refl also inr refl also inr refl also inr refl also inr refl also inr refl also inr refl also inr refl also inr refl also inl refl also inr refl also inr refl also inr refl also tt in
     rows_read forms words (codes "agent") rows (building (agent forms)) passed here only refl (agent_usual forms)
 
 -- ---- the ticks of a process
@@ -288,17 +296,17 @@ is_within forms words name rows (jobs.AnswerSerial endpoint) passed is asks = en
 is_within forms words name rows (jobs.Plan p) passed is asks =
     let here = subst (λ n. subcommand_of (command_line forms) words ≡ Some (n, rows)) asks.0 is in
     let only : OnlyNamed (codes "plan") (building plan) (built (command_line forms)).subs =
-    inr refl also inr refl also inr refl also inl refl also inr refl also inr refl also inr refl also inr refl also inr refl also inr refl also inr refl also inr refl also tt in
+    inr refl also inr refl also inr refl also inl refl also inr refl also inr refl also inr refl also inr refl also inr refl also inr refl also inr refl also inr refl also inr refl also tt in
     plan_within rows p.number (rows_read forms words (codes "plan") rows (building plan) passed here only refl planning_usual) asks.1.number
 is_within forms words name rows (jobs.Run u) passed is asks =
     let here = subst (λ n. subcommand_of (command_line forms) words ≡ Some (n, rows)) asks.0 is in
     let only : OnlyNamed (codes "run") (building (run forms)) (built (command_line forms)).subs =
-    inr refl also inr refl also inr refl also inr refl also inl refl also inr refl also inr refl also inr refl also inr refl also inr refl also inr refl also inr refl also tt in
-    run_within forms rows u.order (rows_read forms words (codes "run") rows (building (run forms)) passed here only refl (running_usual forms)) asks.3
+    inr refl also inr refl also inr refl also inr refl also inl refl also inr refl also inr refl also inr refl also inr refl also inr refl also inr refl also inr refl also inr refl also tt in
+    run_within forms rows u.order (rows_read forms words (codes "run") rows (building (run forms)) passed here only refl (running_usual forms)) asks.4
 is_within forms words name rows (jobs.Soak s) passed is asks =
     let here = subst (λ n. subcommand_of (command_line forms) words ≡ Some (n, rows)) asks.0 is in
     let only : OnlyNamed (codes "soak") (building soak) (built (command_line forms)).subs =
-    inr refl also inr refl also inr refl also inr refl also inr refl also inl refl also inr refl also inr refl also inr refl also inr refl also inr refl also inr refl also tt in
+    inr refl also inr refl also inr refl also inr refl also inr refl also inl refl also inr refl also inr refl also inr refl also inr refl also inr refl also inr refl also inr refl also tt in
     soak_within rows s.order (rows_read forms words (codes "soak") rows (building soak) passed here only refl soaking_usual) asks.2
 is_within forms words name rows (jobs.Device d) passed is asks =
     device_within forms rows d.eid (device_read forms words name rows passed is asks.0) asks.3.eid
@@ -313,8 +321,9 @@ is_within forms words name rows (jobs.AgentProcess a) passed is asks =
       ticks_within (building (agent forms)) rows a.serving read refl refl asks.2.serving,
     )
 is_within forms words name rows (jobs.Agent a) passed is asks = tt
-is_within forms words name rows (jobs.Inspect path form) passed is asks = tt
+is_within forms words name rows (jobs.Inspect path form digested) passed is asks = tt
 is_within forms words name rows (jobs.Replay r) passed is asks = tt
-is_within forms words name rows (jobs.Sel file) passed is asks = tt
-is_within forms words name rows (jobs.Build spec file) passed is asks = tt
+is_within forms words name rows (jobs.Sel file form) passed is asks = tt
+is_within forms words name rows (jobs.Build spec output) passed is asks = tt
+is_within forms words name rows (jobs.Status s) passed is asks = tt
 is_within forms words name rows (jobs.Decode file unit form) passed is asks = tt

@@ -4,7 +4,7 @@ use Rattle.std.specs.List.{list_all}
 use Rattle.std.specs.Borrow.{Bor}
 use Rattle.clap.specs.Simple.{new_shape}
 use Rattle.clap.specs.Words.{App, Rule, Text, new_app, new_rule, with_subcommand}
-use Rattle.clap.specs.declared.builder.action.ArgAction.TheVariants.{Set, SetTrue}
+use Rattle.clap.specs.declared.builder.action.ArgAction.TheVariants.{Append, Set, SetTrue}
 use Rattle.clap.specs.declared.builder.value_parser.ValueParser.{ValueParser}
 use Rattle.clap.specs.declared.builder.value_parser.ValueParser.TheVariants as vp
 use Rattle.fwupd_words.specs.declared.options.OptionNames.{OptionNames}
@@ -54,9 +54,10 @@ abbrev pub AreForms : Forms → Type 0
 AreForms forms =
     (names_of forms.traces ≡ codes "hex" ∷ codes "text" ∷ codes "pcap" ∷ []) × (names_of forms.units ≡ codes "64" ∷ codes "128" ∷ [])
 
--- The option of the trace format, by its name.
+-- The option of the trace format, by its name. It has no default, since it may not be there without
+-- a trace.
 abbrev pub trace_form_rule : Forms → Rule
-trace_form_rule forms = option_rule (codes "trace-format") (codes "hex") (vp.Names forms.traces)
+trace_form_rule forms = record (text_option (codes "trace-format")) { parser = Some (vp.Names forms.traces) }
 
 -- The option of the transmission unit.
 abbrev pub unit_rule : Forms → Rule
@@ -66,13 +67,25 @@ unit_rule forms = option_rule (codes "unit") (codes "64") (vp.Names forms.units)
 abbrev pub package_rule : Rule
 package_rule = option_rule (codes "package") (codes "1") (number_between 1 4294967295)
 
--- The options of rough links.
+-- An option with a parser, and without a default.
+abbrev pub parsed_option : Text → ValueParser → Rule
+parsed_option name parser = record (text_option name) { parser = Some parser }
+
+-- The option of the endpoint identifiers of devices, 8 to 254. Each use adds one.
+abbrev pub devices_rule : Rule
+devices_rule = record (parsed_option (codes "device") (number_between 8 254)) { action = Some Append }
+
+-- The option of the packages of a run, each a text: N, or EID=N. Each use adds one.
+abbrev pub packages_rule : Rule
+packages_rule = record (text_option (codes "package")) { action = Some Append }
+
+-- The options of rough links. They have no default, since a run without chances may have no seed.
 abbrev pub roughness_rules : List Rule
 roughness_rules =
-    option_rule (codes "loss") (codes "0") (number_between 0 100)
-    ∷ option_rule (codes "duplicate") (codes "0") (number_between 0 100)
-    ∷ option_rule (codes "delay") (codes "0") (number_between 0 8)
-    ∷ option_rule (codes "seed") (codes "0") any_number
+    parsed_option (codes "loss") (number_between 0 100)
+    ∷ parsed_option (codes "duplicate") (number_between 0 100)
+    ∷ parsed_option (codes "delay") (number_between 0 8)
+    ∷ parsed_option (codes "seed") any_number
     ∷ []
 
 -- `fwupd answer [--uuid UUID] [--serial] EID`
@@ -83,9 +96,9 @@ answer_rules =
     ∷ flag_rule (codes "serial")
     ∷ []
 
--- `fwupd inspect [--json] FILE`
+-- `fwupd inspect [--digest] [--json] FILE`
 abbrev pub inspect_rules : List Rule
-inspect_rules = flag_rule (codes "json") ∷ word_rule (codes "FILE") ∷ []
+inspect_rules = flag_rule (codes "digest") ∷ flag_rule (codes "json") ∷ word_rule (codes "FILE") ∷ []
 
 -- `fwupd replay [--trace FILE] [--trace-format FORM] [--sel FILE] [--store STORE] [--json] CONFIG
 -- SCHEDULE`
@@ -107,7 +120,8 @@ plan_rules = package_rule ∷ given_option (codes "store") ∷ flag_rule (codes 
 -- `fwupd run [OPTIONS] CONFIG FOLDER`, with the options of rough links last
 abbrev pub run_options : Forms → List Rule
 run_options forms =
-    package_rule
+    packages_rule
+    ∷ devices_rule
     ∷ flag_rule (codes "check")
     ∷ flag_rule (codes "quiet")
     ∷ text_option (codes "trace")
@@ -128,30 +142,27 @@ abbrev pub soak_rules : List Rule
 soak_rules =
     record (text_option (codes "runs")) { required = true; parser = Some (number_between 1 1000000) }
     ∷ text_option (codes "record")
+    ∷ flag_rule (codes "json")
     ∷ word_rule (codes "CONFIG")
     ∷ roughness_rules
 
--- `fwupd sel FILE`
+-- `fwupd sel [--json] FILE`
 abbrev pub sel_rules : List Rule
-sel_rules = word_rule (codes "FILE") ∷ []
+sel_rules = flag_rule (codes "json") ∷ word_rule (codes "FILE") ∷ []
 
--- `fwupd build SPEC FILE`
+-- `fwupd build [--json] SPEC FILE`
 abbrev pub build_rules : List Rule
-build_rules = word_rule (codes "SPEC") ∷ word_rule (codes "FILE") ∷ []
+build_rules = flag_rule (codes "json") ∷ word_rule (codes "SPEC") ∷ word_rule (codes "FILE") ∷ []
 
 -- The options of a node's process that a device and the agent share: its serial line, the
--- milliseconds of a unit, the units until it ends, and what is written of it. A filter of lines has
--- no trace, so the format has no default.
-abbrev pub own_trace_form_rule : Forms → Rule
-own_trace_form_rule forms = record (text_option (codes "trace-format")) { parser = Some (vp.Names forms.traces) }
-
+-- milliseconds of a unit, the units until it ends, and what is written of it.
 abbrev pub process_rules : Forms → List Rule
 process_rules forms =
     given_option (codes "tty")
     ∷ record (text_option (codes "tick")) { parser = Some (number_between 1 1000) }
     ∷ record (text_option (codes "ticks")) { parser = Some (number_between 1 4294967295) }
     ∷ text_option (codes "trace")
-    ∷ own_trace_form_rule forms
+    ∷ trace_form_rule forms
     ∷ text_option (codes "record")
     ∷ []
 
@@ -199,6 +210,10 @@ agent_rules forms = agent_options ++ process_rules forms
 abbrev pub decode_rules : Forms → List Rule
 decode_rules forms = unit_rule forms ∷ flag_rule (codes "json") ∷ optional_word (codes "FILE") ∷ []
 
+-- `fwupd status [--store STORE] [--json] CONFIG`
+abbrev pub status_rules : List Rule
+status_rules = given_option (codes "store") ∷ flag_rule (codes "json") ∷ word_rule (codes "CONFIG") ∷ []
+
 -- A command with these arguments, and without subcommands.
 abbrev pub taking : Text → List Rule → App
 taking name rules = record (new_app name) { top = record (new_shape name) { rules = rules } }
@@ -236,9 +251,12 @@ agent forms = taking (codes "agent") (agent_rules forms)
 abbrev pub decode : Forms → App
 decode forms = taking (codes "decode") (decode_rules forms)
 
+abbrev pub status : App
+status = taking (codes "status") status_rules
+
 -- The subcommands, in the order in which help lists them.
 abbrev pub subcommands : Forms → List App
-subcommands forms = answer ∷ inspect ∷ replay forms ∷ plan ∷ run forms ∷ soak ∷ sel ∷ build ∷ device forms ∷ agent forms ∷ decode forms ∷ []
+subcommands forms = answer ∷ inspect ∷ replay forms ∷ plan ∷ run forms ∷ soak ∷ sel ∷ build ∷ device forms ∷ agent forms ∷ decode forms ∷ status ∷ []
 
 -- The program without its subcommands: one is required, and there is a version option.
 abbrev pub program : App

@@ -5,12 +5,12 @@ use Rattle.clap.specs.Words.{Text}
 use Rattle.clap.specs.declared.error.kind.ErrorKind.{ErrorKind}
 use Rattle.clap.specs.declared.error.kind.ErrorKind.TheVariants as kinds
 use Rattle.fwupd_words.specs.Words.{AsksFlag, AsksForm, AsksSmall, AsksTraceForm, Given, has_value, is_set, number_of, text_under}
-use Rattle.fwupd_words.specs.declared.processes.AgentProcess.{AgentProcess}
-use Rattle.fwupd_words.specs.declared.processes.DeviceProcess.{DeviceProcess}
-use Rattle.fwupd_words.specs.declared.processes.Serving.{Serving}
-use Rattle.fwupd_words.specs.declared.processes.Watching.{Watching}
-use Rattle.fwupd_words.specs.declared.processes.Wire.{Wire}
-use Rattle.fwupd_words.specs.declared.processes.Wire.TheVariants as wires
+use Rattle.fwupd_base.specs.declared.processes.AgentProcess.{AgentProcess}
+use Rattle.fwupd_base.specs.declared.processes.DeviceProcess.{DeviceProcess}
+use Rattle.fwupd_base.specs.declared.processes.Serving.{Serving}
+use Rattle.fwupd_base.specs.declared.processes.Watching.{Watching}
+use Rattle.fwupd_base.specs.declared.processes.Wire.{Wire}
+use Rattle.fwupd_base.specs.declared.processes.Wire.TheVariants as wires
 
 -- ---- which options go together
 

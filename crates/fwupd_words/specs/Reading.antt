@@ -1,5 +1,5 @@
 -- The result of parsing arguments: a job, or an error with their fault.
-use Rattle.std.specs.Prelude.{◌≡◌, ◌≢◌, ◌<◌, ◌≤◌, ◌^◌, ◌⊎◌, true, IfSome, IsSomeAnd, List, [], None, Some, MatchResult, Result, Ok, Err, codes}
+use Rattle.std.specs.Prelude.{ℕ, ◌≡◌, ◌≢◌, ◌<◌, ◌≤◌, ◌^◌, ◌⊎◌, true, false, IfSome, IsSomeAnd, List, [], Option, None, Some, MatchResult, Result, Ok, Err, codes}
 use Rattle.std.specs.Str.Parse.{IsNumeral, without_leading_plus}
 use Rattle.clap.specs.Words.{App, HasKind, Text, fault_of, has_subcommand, kind_of, subcommand_of, subcommand_rows_of}
 use Rattle.clap.specs.declared.error.Error.{Error}
@@ -7,12 +7,16 @@ use Rattle.clap.specs.declared.error.kind.ErrorKind.TheVariants as kinds
 use Rattle.clap.specs.declared.parser.matches.ArgMatches.{ArgMatches}
 use Rattle.uuid.specs.Text.{parsed}
 use Rattle.fwupd_words.specs.Jobs.{AsksForJob}
+use Rattle.fwupd_words.specs.Clashes.{build_clash, has_dashed_output, replay_clash, run_clash}
 use Rattle.fwupd_words.specs.Processes.{agent_clash, device_clash}
-use Rattle.fwupd_words.specs.Words.{Given, given_by, number_of, text_under}
+use Rattle.fwupd_words.specs.Words.{Given, given_by, is_named, number_of, text_under}
+use Rattle.fwupd_base.specs.PackageChoices.{number_for}
+use Rattle.fwupd_base.specs.declared.device_set.DeviceSet.{DeviceSet}
+use Rattle.fwupd_base.specs.declared.package_choice.PackageChoice.{PackageChoice}
 use Rattle.fwupd_base.specs.declared.roughness.Roughness.{Roughness}
 use Rattle.fwupd_words.specs.declared.asked.Job.{Job}
 use Rattle.fwupd_words.specs.declared.asked.Job.TheVariants as jobs
-use Rattle.fwupd_words.specs.declared.processes.Serving.{Serving}
+use Rattle.fwupd_base.specs.declared.processes.Serving.{Serving}
 
 -- The subcommand `answer` is refused for a text that isn't a UUID.
 pub record IsNoUuid (name : Text) (words : Given) (error : Error) : Type 0 where
@@ -20,11 +24,15 @@ pub record IsNoUuid (name : Text) (words : Given) (error : Error) : Type 0 where
   pub kind : kind_of error ≡ kinds.ValueValidation
   pub uuid : parsed (text_under words (codes "uuid")) ≡ None
 
--- The subcommand `device` or `agent` is refused for options that don't go together, with the kind
--- of error of their clash.
+-- A subcommand is refused for options that don't go together, with the kind of error of their
+-- clash, or for an output that is called `-`.
 abbrev pub HasClash : (name : Text) → Given → Error → Type 0
 HasClash name words error =
-    ((name ≡ codes "device") × (device_clash words ≡ Some (kind_of error))) ⊎ ((name ≡ codes "agent") × (agent_clash words ≡ Some (kind_of error)))
+    ((name ≡ codes "device") × (device_clash words ≡ Some (kind_of error)))
+    ⊎ (((name ≡ codes "agent") × (agent_clash words ≡ Some (kind_of error)))
+    ⊎ (((name ≡ codes "replay") × (replay_clash words ≡ Some (kind_of error)))
+    ⊎ (((name ≡ codes "run") × (run_clash words ≡ Some (kind_of error)))
+    ⊎ (((name ≡ codes "build") × (build_clash words ≡ Some (kind_of error))) ⊎ ((has_dashed_output words ≡ true) × (kind_of error ≡ kinds.ValueValidation))))))
 
 -- The roughness is within the bounds of the command line.
 pub record HasAllowedRoughness (roughness : Roughness) : Type 0 where
@@ -38,6 +46,14 @@ pub record HasAllowedTicks (serving : Serving) : Type 0 where
   pub most : serving.tick ≤ 1000
   pub ticks : IfSome serving.ticks (λ ticks. 1 ≤ ticks)
 
+-- The number of each device's package is at least 1.
+abbrev pub HasAllowedPackages : PackageChoice → Type 0
+HasAllowedPackages packages = (eid : ℕ) → eid < 256 → 1 ≤ number_for packages eid
+
+-- The endpoint identifiers of the chosen devices are 8 to 254.
+abbrev pub HasAllowedDevices : Option DeviceSet → Type 0
+HasAllowedDevices devices = (eid : ℕ) → is_named devices eid ≡ true → (8 ≤ eid) × (eid ≤ 254)
+
 -- The numbers of a job are within the bounds of the command line.
 abbrev pub IsWithinBounds : Job → Type 0
 IsWithinBounds (jobs.Answer endpoint) = (8 ≤ endpoint.eid) × (endpoint.eid ≤ 254)
@@ -46,7 +62,7 @@ IsWithinBounds (jobs.Device d) = (8 ≤ d.eid) × (d.eid ≤ 254)
 IsWithinBounds (jobs.DeviceProcess d) = (8 ≤ d.eid) × (d.eid ≤ 254) × HasAllowedTicks d.serving
 IsWithinBounds (jobs.AgentProcess a) = (1 ≤ a.number) × HasAllowedTicks a.serving
 IsWithinBounds (jobs.Plan p) = 1 ≤ p.number
-IsWithinBounds (jobs.Run u) = (1 ≤ u.order.number) × HasAllowedRoughness u.order.roughness
+IsWithinBounds (jobs.Run u) = HasAllowedPackages u.order.packages × HasAllowedDevices u.order.devices × HasAllowedRoughness u.order.roughness
 IsWithinBounds (jobs.Soak s) = (1 ≤ s.order.runs) × (s.order.runs ≤ 1000000) × HasAllowedRoughness s.order.roughness
 IsWithinBounds _ = Unit {0}
 
@@ -55,7 +71,7 @@ IsWithinBounds _ = Unit {0}
 -- faults of the arguments, or memory ran out.
 abbrev pub ReadsWords : App → List Text → Result Job Error → Type 0
 ReadsWords line words (Ok job) =
-    (fault_of line words ≡ []) × IsSomeAnd (subcommand_of line words) (λ named. AsksForJob named.0 (given_by named.1) job) × IsWithinBounds job
+    (fault_of line words ≡ []) × IsSomeAnd (subcommand_of line words) (λ named. AsksForJob named.0 (given_by named.1) job × (has_dashed_output (given_by named.1) ≡ false)) × IsWithinBounds job
 ReadsWords line words (Err error) =
     HasKind (fault_of line words) error
     ⊎ ((fault_of line words ≡ [])
@@ -88,10 +104,10 @@ RefusesEndpoint words error =
 abbrev pub IsNoJob : (name : Text) → Type 0
 IsNoJob name =
     (name ≢ codes "answer") × (name ≢ codes "inspect") × (name ≢ codes "replay") × (name ≢ codes "plan") × (name ≢ codes "run")
-    × (name ≢ codes "soak") × (name ≢ codes "sel") × (name ≢ codes "build") × (name ≢ codes "device") × (name ≢ codes "agent") × (name ≢ codes "decode")
+    × (name ≢ codes "soak") × (name ≢ codes "sel") × (name ≢ codes "build") × (name ≢ codes "device") × (name ≢ codes "agent") × (name ≢ codes "decode") × (name ≢ codes "status")
 
 -- Why the subcommand with these arguments requests no job: memory ran out, it is `answer` without
--- an endpoint, or a node whose options don't go together.
+-- an endpoint, or options that don't go together.
 abbrev pub IsRefusedWord : (name : Text) → Given → Error → Type 0
 IsRefusedWord name words error =
     (kind_of error ≡ kinds.OutOfMemory) ⊎ (((name ≡ codes "answer") × RefusesEndpoint words error) ⊎ HasClash name words error)

@@ -1,7 +1,9 @@
 //! The jobs that arguments request.
 
-use crate::processes::{AgentProcess, DeviceProcess};
-use fwupd_base::{Form, Roughness};
+use fwupd_base::{
+    AgentAlone, AgentProcess, DeviceAlone, DeviceProcess, DeviceSet, Form, PackageChoice,
+    Roughness, Show,
+};
 use mctp_ctl::Endpoint;
 use mctp_wire::Unit;
 
@@ -18,6 +20,8 @@ pub enum Job<'a> {
         package: &'a str,
         /// The format of the text.
         form: Form,
+        /// Whether the SHA-256 of each image is printed.
+        is_digested: bool,
     },
     /// Replay a schedule on the nodes of a configuration.
     Replay(Replay<'a>),
@@ -27,15 +31,19 @@ pub enum Job<'a> {
     Build {
         /// The path of the description.
         spec: &'a str,
-        /// The path of the package.
-        package: &'a str,
+        /// Where the package goes.
+        output: BuildOutput<'a>,
     },
     /// Print the plan of an update of the devices of a configuration.
     Plan(Plan<'a>),
+    /// Print what runs on the devices of a configuration.
+    Status(Status<'a>),
     /// Print the records of an event log.
     Sel {
         /// The path of the log.
         log: &'a str,
+        /// The format of the text.
+        form: Form,
     },
     /// Decode packets, and print what they say.
     Decode {
@@ -56,6 +64,17 @@ pub enum Job<'a> {
     DeviceProcess(DeviceProcess<'a>),
     /// Serve the agent as a process.
     AgentProcess(AgentProcess<'a>),
+}
+
+/// Where the package of a build goes.
+#[derive(Clone, Copy)]
+pub enum BuildOutput<'a> {
+    /// To the file of this path.
+    File(&'a str),
+    /// To the file of this path; then a line of JSON says what it holds.
+    ToldFile(&'a str),
+    /// To standard output.
+    Standard,
 }
 
 /// A replay of a schedule on the nodes of a configuration.
@@ -82,6 +101,17 @@ pub struct Plan<'a> {
     pub form: Form,
 }
 
+/// What runs on the devices of a configuration.
+#[derive(Clone, Copy)]
+pub struct Status<'a> {
+    /// The path of the configuration.
+    pub config: &'a str,
+    /// The folder of the devices' stores, if their images persist. It is only read.
+    pub store: Option<&'a str>,
+    /// The format of the text.
+    pub form: Form,
+}
+
 /// An update of the devices of a configuration over sockets.
 #[derive(Clone, Copy)]
 pub struct Update<'a> {
@@ -104,56 +134,17 @@ pub struct Soak<'a> {
     pub order: SoakOrder,
     /// The path of the file for the steps of the first violation, if there is one.
     pub record: Option<&'a str>,
-}
-
-/// A device by itself.
-#[derive(Clone, Copy)]
-pub struct DeviceAlone<'a> {
-    /// The path of the configuration.
-    pub config: &'a str,
-    /// The device's endpoint identifier, 8 to 254.
-    pub eid: u8,
-    /// Whether the verdict that the device waits for is given at the end of each turn.
-    pub is_automatic: bool,
-    /// Whether what discovery requests is answered in front of the node.
-    pub is_open: bool,
-    /// The folder of the devices' stores, if the device's images persist.
-    pub store: Option<&'a str>,
-    /// The file that the device's report is written to at the end, if any.
-    pub report: Option<&'a str>,
-}
-
-/// The agent by itself.
-#[derive(Clone, Copy)]
-pub struct AgentAlone<'a> {
-    /// The path of the configuration.
-    pub config: &'a str,
-    /// Whether each session that is ready has its device activate at the end of each turn.
-    pub is_automatic: bool,
-    /// Whether what discovery requests is answered in front of the node.
-    pub is_open: bool,
-    /// The file that the event log's records are written to at the end, if any.
-    pub log: Option<&'a str>,
-    /// The file that the agent's report is written to at the end, if any.
-    pub report: Option<&'a str>,
-}
-
-/// The format of a trace.
-#[derive(Clone, Copy, PartialEq, Eq)]
-pub enum TraceForm {
-    /// One line a packet, with its bytes in hexadecimal digits.
-    Hex,
-    /// One line a packet, with its decoded fields.
-    Text,
-    /// A capture file, as Linux captures on an MCTP interface.
-    Capture,
+    /// The format of the totals.
+    pub form: Form,
 }
 
 /// The options of a run.
 #[derive(Clone, Copy)]
 pub struct Order {
-    /// The number of the package that devices are updated with, from 1.
-    pub number: usize,
+    /// The numbers of the packages that devices are updated with, from 1.
+    pub packages: PackageChoice,
+    /// The devices that are updated, by their endpoint identifiers; all devices if there is no set.
+    pub devices: Option<DeviceSet>,
     /// Whether the run fails unless each session ends Done.
     pub is_checked: bool,
     /// The roughness of the links.
@@ -167,25 +158,4 @@ pub struct SoakOrder {
     pub runs: u32,
     /// The roughness of the links.
     pub roughness: Roughness,
-}
-
-/// The outputs of a run or a replay.
-#[derive(Clone, Copy)]
-pub struct Show<'a> {
-    /// Whether progress is suppressed, also on a terminal.
-    pub is_quiet: bool,
-    /// The file that each packet is written to when it is sent, if any.
-    pub trace: Option<&'a str>,
-    /// The format of that file.
-    pub trace_form: TraceForm,
-    /// The file that the event log's records are written to at the end, if any.
-    pub log: Option<&'a str>,
-    /// The file that each step is written to when it is taken, as a schedule, if any.
-    pub record: Option<&'a str>,
-    /// The folder of the devices' stores, if their images persist. A replay only reads it.
-    pub store: Option<&'a str>,
-    /// The folder of stores whose history file the run appends to, if any; none for a replay.
-    pub history: Option<&'a str>,
-    /// The format of the report.
-    pub form: Form,
 }

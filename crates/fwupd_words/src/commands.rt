@@ -1,18 +1,20 @@
 //! The subcommands, with their arguments and their help.
 
 ghost use Rattle.std.specs.Prelude.{◌≡◌, IfOk, codes, map, true};
-ghost use Rattle.clap.specs.Words.{app_of, rule_of};
-ghost use Rattle.fwupd_words.specs.CommandLine.{IsCommandLine, agent, agent_options, answer, are_simple, build, command_line, decode, device, device_options, flag_rule, inspect, is_plain, plan, program, replay, run, run_options, sel, soak, text_option, with_one, with_rules};
+ghost use Rattle.clap.specs.Words.{app_of, kind_of, rule_of};
+ghost use Rattle.fwupd_words.specs.CommandLine.{IsCommandLine, agent, agent_options, answer, are_simple, build, command_line, decode, device, device_options, flag_rule, inspect, is_plain, plan, program, replay, run, run_options, sel, soak, status, text_option, with_one, with_rules};
 
 use crate::helps::{
     AGENT_HELP, ANSWER_HELP, BUILD_HELP, DECODE_HELP, DEVICE_HELP, INSPECT_HELP, PLAN_HELP,
-    REPLAY_HELP, RUN_HELP, SEL_HELP, SOAK_HELP,
+    REPLAY_HELP, RUN_HELP, SEL_HELP, SOAK_HELP, STATUS_HELP,
 };
 use crate::options::{
-    OptionNames, config_word, flag, folder_word, json_option, log_option, own_package_option,
-    package_option, packets_word, process_options, record_option, roughness_options,
-    sockets_option, store_option, text_option, trace_form_option, trace_option, unit_option, word,
+    OptionNames, config_word, devices_option, flag, folder_word, json_option, log_option,
+    own_package_option, package_option, packages_option, packets_word, process_options,
+    record_option, roughness_options, sockets_option, store_option, text_option, trace_form_option,
+    trace_option, unit_option, word,
 };
+use clap::error::ErrorKind;
 use clap::{Arg, Command, value_parser};
 use std::alloc::{AllocError, Global};
 
@@ -62,6 +64,7 @@ fn inspect_command<'a>(alloc: Global) -> Result<Command<'a>, AllocError>
     ensures { IfOk result (λ c. app_of c ≡ inspect) }
 {
     let args = vec![in alloc;
+        flag(alloc, "digest", "Prints the SHA-256 of each image"),
         json_option(alloc),
         word(alloc, "FILE", "The package's file"),
     ]?;
@@ -117,7 +120,8 @@ fn run_options<'a>(alloc: Global, names: OptionNames<'a>) -> Result<Vec<Arg<'a>>
     ensures { IfOk result (λ options. map rule_of options.items ≡ run_options names.entry) }
 {
     Ok(vec![in alloc;
-        package_option(alloc),
+        packages_option(alloc),
+        devices_option(alloc),
         flag(alloc, "check", "Fails where a session doesn't end Done"),
         flag(alloc, "quiet", "Shows no progress"),
         trace_option(alloc),
@@ -141,9 +145,10 @@ fn run_command<'a>(alloc: Global, names: OptionNames<'a>) -> Result<Command<'a>,
     let command = Command::new(alloc, "run")
         .about("Updates each device with a package, over Unix sockets")
         .long_about(
-            "Updates each device of a configuration with its first package, or with package\n\
-            N, each over a Unix socket FOLDER/EID.sock to itself, and prints a report. A\n\
-            socket's file is removed as soon as both of its ends are connected.",
+            "Updates each device of a configuration, or only those that --device and\n\
+            --package EID=N name, with its first package, or with package N, each over a\n\
+            Unix socket FOLDER/EID.sock to itself, and prints a report. A socket's file is\n\
+            removed as soon as both of its ends are connected.",
         )
         .after_long_help(RUN_HELP);
     let command = with_args(command, run_options(alloc, names)?)?;
@@ -161,7 +166,7 @@ fn soak_command<'a>(alloc: Global) -> Result<Command<'a>, AllocError>
         alloc,
         "Writes the steps of the first run that goes wrong, as a schedule",
     );
-    let args = vec![in alloc; runs, record, config_word(alloc)]?;
+    let args = vec![in alloc; runs, record, json_option(alloc), config_word(alloc)]?;
     let command = Command::new(alloc, "soak")
         .about("Makes many rough runs of updates, and checks each")
         .long_about(
@@ -178,7 +183,10 @@ fn soak_command<'a>(alloc: Global) -> Result<Command<'a>, AllocError>
 fn sel_command<'a>(alloc: Global) -> Result<Command<'a>, AllocError>
     ensures { IfOk result (λ c. app_of c ≡ sel) }
 {
-    let args = vec![in alloc; word(alloc, "FILE", "The file of records, as --sel writes it")]?;
+    let args = vec![in alloc;
+        json_option(alloc),
+        word(alloc, "FILE", "The file of records, as --sel writes it"),
+    ]?;
     let command = Command::new(alloc, "sel")
         .about("Prints the records of an event log, a line each")
         .long_about(
@@ -200,13 +208,14 @@ fn build_command<'a>(alloc: Global) -> Result<Command<'a>, AllocError>
         "FILE",
         "The package's file, which is made or replaced",
     );
-    let args = vec![in alloc; spec, file]?;
+    let json = flag(alloc, "json", "Writes one line of JSON of the package");
+    let args = vec![in alloc; json, spec, file]?;
     let command = Command::new(alloc, "build")
         .about("Builds a firmware update package from a text and images")
         .long_about(
             "Builds a firmware update package from a text and images.\n\n\
-            The text says what the package holds, and names the files of the images. Nothing\n\
-            is printed.",
+            The text says what the package holds, and names the files of the images. Without\n\
+            --json nothing is printed.",
         )
         .after_long_help(BUILD_HELP);
     with_args(command, args)
@@ -372,6 +381,28 @@ fn decode_command<'a>(alloc: Global, names: OptionNames<'a>) -> Result<Command<'
     with_args(command, args)
 }
 
+/// The subcommand `status`.
+fn status_command<'a>(alloc: Global) -> Result<Command<'a>, AllocError>
+    ensures { IfOk result (λ c. app_of c ≡ status) }
+{
+    let args = vec![in alloc;
+        store_option(
+            alloc,
+            "Reads what runs from a folder, in which nothing is written"
+        ),
+        json_option(alloc),
+        config_word(alloc),
+    ]?;
+    let command = Command::new(alloc, "status")
+        .about("Prints what runs on each device of a configuration")
+        .long_about(
+            "Prints what runs on each device of a configuration: for each of its components\n\
+            the stamp, the version, and the size and SHA-256 of the image. Nothing is made.",
+        )
+        .after_long_help(STATUS_HELP);
+    with_args(command, args)
+}
+
 /// The program, without its subcommands.
 fn program<'a>(alloc: Global) -> Command<'a>
     ensures { app_of result ≡ program }
@@ -406,7 +437,8 @@ fn command_with<'a>(alloc: Global, names: OptionNames<'a>) -> Result<Command<'a>
     let command = with_one(command, build_command(alloc)?)?;
     let command = with_one(command, device_command(alloc, names)?)?;
     let command = with_one(command, agent_command(alloc, names)?)?;
-    with_one(command, decode_command(alloc, names)?)
+    let command = with_one(command, decode_command(alloc, names)?)?;
+    with_one(command, status_command(alloc)?)
 }
 
 /// The names of the trace formats.
@@ -415,13 +447,40 @@ const TRACE_FORMS: &[&str] = &["hex", "text", "pcap"];
 /// The sizes of the transmission units.
 const UNITS: &[&str] = &["64", "128"];
 
+/// The names that options take as their values.
+const NAMES: OptionNames<'static> = OptionNames {
+    traces: TRACE_FORMS,
+    units: UNITS,
+};
+
 /// The whole command line.
 pub(crate) fn command<'a>(alloc: Global) -> Result<Command<'a>, AllocError>
     ensures { IfOk result (λ c. IsCommandLine (app_of c)) }
 {
-    let names = OptionNames {
-        traces: TRACE_FORMS,
-        units: UNITS,
-    };
-    command_with(alloc, names)
+    command_with(alloc, NAMES)
+}
+
+/// The subcommand `name`, as an error shows its usage; the whole command line for another name.
+fn named_command<'a>(alloc: Global, name: &str) -> Result<Command<'a>, AllocError> {
+    match name {
+        "answer" => answer_command(alloc)?.bin_name("fwupd answer"),
+        "replay" => replay_command(alloc, NAMES)?.bin_name("fwupd replay"),
+        "run" => run_command(alloc, NAMES)?.bin_name("fwupd run"),
+        "device" => device_command(alloc, NAMES)?.bin_name("fwupd device"),
+        "agent" => agent_command(alloc, NAMES)?.bin_name("fwupd agent"),
+        _ => command(alloc),
+    }
+}
+
+/// An error of this kind in the arguments of the subcommand `name`, with this message and the usage
+/// of that subcommand.
+pub(crate) fn refusal(
+    alloc: Global,
+    name: &str,
+    kind: ErrorKind,
+    message: &str,
+) -> Result<clap::Error, AllocError>
+    ensures { IfOk result (λ error. kind_of error ≡ kind) }
+{
+    named_command(alloc, name)?.error(kind, message)
 }

@@ -39,6 +39,10 @@ Status: 0; 1 if standard error says 'fwupd: input', 'fwupd: output' or
 pub(crate) const INSPECT_HELP: &str = "\
 Example:
   fwupd inspect examples/two-records.fwpkg
+  fwupd inspect --digest --json examples/two-records.fwpkg
+
+--digest adds a line 'image N sha256 HEX' for each component, with --json the
+member 'sha256'. HEX is in lower case, as sha256sum prints it.
 
 Faults of a package. The first that holds is printed:
   Short         fewer bytes than the fixed part of a header
@@ -53,7 +57,8 @@ Faults of a package. The first that holds is printed:
   ImageRange    a component's image goes past the file's end
 
 Limits: the file's path is UTF-8 text. Of a plain file no more than 65535 bytes
-are read. A pipe is read whole, and has to fit into memory.
+are read. A pipe is read whole, and with --digest each file, and has to fit into
+memory.
 
 Status: 0; 1 if standard error says 'fwupd: package: ' and a fault,
 'fwupd: FILE: unreadable', 'fwupd: output' or 'fwupd: memory'; 2 for wrong
@@ -132,10 +137,11 @@ Examples:
   fwupd run --quiet --trace out/packets examples/one.config .
   fwupd run --loss 20 --delay 3 --seed 7 --record out/kept examples/one.config .
   fwupd run --store out/store examples/one.config .
+  fwupd run --package 9=1 examples/one.config .
 
 CONFIG and the report are those of 'fwupd replay --help'.
 
-If standard error is a terminal, it shows the progress of the first device that
+If standard error is a terminal, it shows the progress of each device that
 loads an image. --trace writes a line for each packet: the turn, the device,
 to-device or to-agent, and the packet in hexadecimal digits; with --trace-format
 text what each packet says, with its number, which 'deliver' of a schedule
@@ -155,7 +161,15 @@ activated in all runs: those of a turn are on the disk before the next.
 lost never comes; one that comes twice is late each time by chance; and one that
 is late is held back for 0 to N turns.
 
-Faults: 'package: none' if CONFIG names fewer packages; 'socket: EID' if
+--package N updates each device with package N of CONFIG, the first if it isn't
+given. --package EID=N updates the device EID with package N, and chooses that
+device as --device EID does. N may be given once, and EID=N once for each EID.
+
+With --device the run is that of a CONFIG which has only these devices, in the
+order of CONFIG: no socket and no store of another device is opened.
+
+Faults: 'device EID: none' if CONFIG has no such device, with the least EID;
+'package: none' if CONFIG names fewer packages; 'socket: EID' if
 FOLDER/EID.sock can't be made, or is there already; after the report,
 'edge: Frame' if a socket failed, 'edge: Step' at the end of the clock, and
 'trace', 'sel', 'record' or 'history' if that file can't be written. If it can't
@@ -163,14 +177,15 @@ be made, or is one that is read, the same, and nothing is run. So it is with
 'store: EID: damaged' if 'active' isn't as it was written, or an image that it
 names; 'store: EID: foreign' if it names a component that CONFIG doesn't have;
 and 'store: EID: unreadable' if the folder can't be read or made: nothing of it
-is touched. With --check, after the report, 'session EID: WORD' of the first
-session in configured order that isn't Done: the cause of its failure, or its
-state.
+is touched. With --check, after the report, 'session EID: WORD' of the sessions
+that aren't Done, in configured order, with commas between them: the cause of a
+failure, or the state.
 
 Limits: 80000 turns of one tick each. Three images of 1 MiB take about 66000.
 
 Status: 0; 1 if standard error says 'fwupd: ' and a fault, one of these or of
-'replay'; 2 for wrong usage.";
+'replay'; 2 for wrong usage; 3 for the fault of --check if each session that
+isn't Done has NoRecord or NothingToUpdate.";
 
 /// The text below the help of `soak`.
 pub(crate) const SOAK_HELP: &str = "\
@@ -200,6 +215,7 @@ In the end these lines are printed:
   longest N        the ticks of the longest update, from its start to the call
                    to activate
   violations N     the runs in which the checker found something wrong
+With --json they are the members of one object.
 
 If standard error is a terminal, it shows how many runs are made. --record
 writes the steps of the first run that goes wrong, as a schedule:
@@ -226,7 +242,7 @@ happened, and of what:
                                   recorded it
   failed                          device EID package N cause CAUSE
 Of a record that no agent made it has the identifier, the type, and the 13 bytes
-after it.
+after it. With --json each record is an object with the same words as members.
 
 Status: 0; 1 if standard error says 'fwupd: sel: Size', where the size is no
 multiple of 16 or is over 2048, 'fwupd: FILE: unreadable', 'fwupd: output' or
@@ -242,8 +258,9 @@ which \\xNN is the byte with these two upper-case digits; - is the empty text, o
 none; empty lines, and lines that begin with #, are skipped:
   version TEXT             the package's version, at most once, before all
                            records and components
-  release HEX              its release time, 13 bytes, in the same way; without
-                           one it is zeros
+  release TIME             its release time, in the same way: UTC, as
+                           2026-11-28T04:00:00Z, or 13 bytes as DSP0240 has
+                           them; without one it is zeros
   record FLAGS TEXT N ..   a record: its option flags, its set text, and its
                            components, which count from 1 and rise
   descriptor TYPE HEX      a descriptor of the record before; a TYPE is four
@@ -259,9 +276,10 @@ that holds:
   Order      the line may not be here
   Number     a number isn't all digits, or a path isn't UTF-8 text
   Hex        bytes aren't an even number of hexadecimal digits, a TYPE isn't
-             four, a release time isn't 13 bytes, or a backslash begins no \\xNN
-  Range      a number is too large, a record's components don't rise, or one of
-             them isn't there
+             four, a TIME is neither a date with a time nor 13 bytes, or a
+             backslash begins no \\xNN
+  Range      a number is too large, a TIME isn't in the calendar, a record's
+             components don't rise, or one of them isn't there
   Limit      a text is longer than 255 bytes, a record has more than 255
              descriptors, or there are more than 255 records; at the line after
              the last: the header has more than 65535 bytes, or the package more
@@ -271,6 +289,13 @@ FILE is written beside its place, as FILE.N.new, N being the process's number,
 and is put there when it is whole. If that fails, FILE is as it was:
 'fwupd: output'. If FILE is a symbolic link, the file that it names is replaced,
 and the link stays. A folder, a device or a pipe is refused.
+
+With --json standard output gets what 'fwupd inspect --digest --json' prints of
+FILE, once it is at its place.
+
+If standard error is a terminal, or with FWUPD_EXPLAIN=1, a build that is done
+warns of a record without a descriptor, of a descriptor whose data hasn't the
+length that DSP0267 gives its type, and of a component that no record uses.
 
 Limits: paths are UTF-8 text, and the images fit into memory.
 
@@ -443,10 +468,10 @@ is one that is read; 'package: none' if CONFIG names fewer packages; 'tty' if
 PATH can't be opened; 'store: EID: FAULT', with the agent's EID, for STORE/agent
 as in 'fwupd run --help', with 'foreign' if its packages aren't the first ones
 of CONFIG, or 'unwritable' if it can't be written; with --check,
-'session EID: WORD' of the first session in configured order that isn't Done.
+'session EID: WORD' of the sessions that aren't Done, as in 'fwupd run --help'.
 
 Status: 0; 1 if standard error says 'fwupd: ' and a fault, one of these, of
-'answer' or of 'replay'; 2 for wrong usage.";
+'answer' or of 'replay'; 2 for wrong usage; 3 as in 'fwupd run --help'.";
 
 /// The text below the help of `decode`.
 pub(crate) const DECODE_HELP: &str = "\
@@ -484,3 +509,23 @@ into memory, and so has the text.
 
 Status: 0; 1 if standard error says 'fwupd: input', 'fwupd: FILE: unreadable',
 'fwupd: output' or 'fwupd: memory'; 2 for wrong usage.";
+
+/// The text below the help of `status`.
+pub(crate) const STATUS_HELP: &str = "\
+Examples:
+  fwupd status --store out/store examples/board.config
+  fwupd status --json examples/one.config
+
+CONFIG is that of 'fwupd replay --help'. Its packages aren't read. A device has
+these lines:
+  device EID
+  component CLASS ident IDENT size SIZE stamp STAMP version TEXT sha256 HEX
+      the image that runs: its length in bytes, its stamp in hexadecimal digits,
+      its version, and its SHA-256, as 'fwupd inspect --digest' prints that of a
+      package's image
+
+--store begins with the images that 'fwupd run --store' has left there, as
+'fwupd replay --help' says. Without it CONFIG's images run.
+
+Status: 0; 1 if standard error says a fault of CONFIG or of a store, as in
+'fwupd replay --help', 'fwupd: output' or 'fwupd: memory'; 2 for wrong usage.";

@@ -3,16 +3,14 @@
 #![tactic(auto)]
 
 mod asked;
+mod choosing;
 mod commands;
 mod helps;
 mod nodes;
 mod options;
-mod processes;
+mod packages;
 mod reading;
 mod values;
 
-pub use asked::{
-    AgentAlone, DeviceAlone, Job, Order, Plan, Replay, Show, Soak, SoakOrder, TraceForm, Update,
-};
-pub use processes::{AgentProcess, DeviceProcess, Serving, Watching, Wire};
+pub use asked::{BuildOutput, Job, Order, Plan, Replay, Soak, SoakOrder, Status, Update};
 pub use reading::parse;

@@ -7,13 +7,14 @@ ghost use Rattle.fwupd_words.specs.Words.{AsksAgent, AsksDevice, given_in};
 ghost use Rattle.fwupd_words.specs.Jobs.{AsksForJob};
 ghost use Rattle.fwupd_words.specs.Processes.{AsksNumberOr, AsksServing, AsksWatching, AsksWire, agent_clash, device_clash, has_agent_process, has_device_process, has_process, node_clash, usual_tick};
 
-use crate::asked::{AgentAlone, DeviceAlone, Job};
-use crate::processes::{AgentProcess, DeviceProcess, Serving, Watching, Wire};
+use crate::asked::Job;
+use crate::commands::refusal;
 use crate::values::{
-    form_in, has_value, is_set, number_under, refusal, small_under, text_under, trace_form_in,
+    form_in, has_value, is_set, number_under, small_under, text_under, trace_form_in,
 };
 use clap::ArgMatches;
 use clap::error::ErrorKind;
+use fwupd_base::{AgentAlone, AgentProcess, DeviceAlone, DeviceProcess, Serving, Watching, Wire};
 use std::alloc::{AllocError, Global};
 
 /// The milliseconds of a unit with sockets.
@@ -51,8 +52,14 @@ fn wire_in<'a>(
     Ok(wire)
 }
 
-/// The error for options of a node that don't go together, with the option of its sockets.
-fn clash(alloc: Global, kind: ErrorKind, sockets: &str) -> Result<clap::Error, AllocError>
+/// The error for options of the subcommand `name` of a node that don't go together, with the option
+/// of its sockets.
+fn clash(
+    alloc: Global,
+    name: &str,
+    kind: ErrorKind,
+    sockets: &str,
+) -> Result<clap::Error, AllocError>
     ensures { IfOk result (λ error. kind_of error ≡ kind) }
 {
     let message = match kind {
@@ -63,7 +70,7 @@ fn clash(alloc: Global, kind: ErrorKind, sockets: &str) -> Result<clap::Error, A
             "'--{sockets}' and '--tty' can't be used together, nor with '--auto' or '--report'"
         )?,
     };
-    refusal(alloc, kind, &message)
+    refusal(alloc, name, kind, &message)
 }
 
 /// The milliseconds of a unit.
@@ -146,7 +153,7 @@ pub(crate) fn device_in<'a>(alloc: Global, matches: &ArgMatches<'a>) -> Result<J
 {
     let wire = match wire_in(matches, "listen", is_device_process(matches)) {
         Ok(wire) => wire,
-        Err(kind) => return Err(clash(alloc, kind, "listen")?),
+        Err(kind) => return Err(clash(alloc, "device", kind, "listen")?),
     };
     let Some(wire) = wire else {
         return Ok(Job::Device(device_alone(matches)));
@@ -205,7 +212,7 @@ pub(crate) fn agent_in<'a>(alloc: Global, matches: &ArgMatches<'a>) -> Result<Jo
 {
     let wire = match wire_in(matches, "connect", is_agent_process(matches)) {
         Ok(wire) => wire,
-        Err(kind) => return Err(clash(alloc, kind, "connect")?),
+        Err(kind) => return Err(clash(alloc, "agent", kind, "connect")?),
     };
     let Some(wire) = wire else {
         return Ok(Job::Agent(agent_alone(matches)));

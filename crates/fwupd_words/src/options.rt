@@ -2,7 +2,7 @@
 
 ghost use Rattle.std.specs.Prelude.{◌≡◌, ◌∷◌, [], IfOk, Some, codes, map};
 ghost use Rattle.clap.specs.Words.{rule_of};
-ghost use Rattle.fwupd_words.specs.CommandLine.{flag_rule, given_option, given_word, optional_word, own_package_rule, own_trace_form_rule, package_rule, process_rules, roughness_rules, text_option, trace_form_rule, unit_rule, word_rule};
+ghost use Rattle.fwupd_words.specs.CommandLine.{devices_rule, flag_rule, given_option, given_word, optional_word, own_package_rule, package_rule, packages_rule, process_rules, roughness_rules, text_option, trace_form_rule, unit_rule, word_rule};
 
 use clap::builder::ValueParser;
 use clap::{Arg, ArgAction, value_parser};
@@ -103,7 +103,6 @@ pub(crate) fn trace_form_option<'a>(alloc: Global, names: OptionNames<'a>) -> Ar
         "The form of the trace: digits, what packets say, or a capture",
     )
     .value_parser(names.traces)
-    .default_value("hex")
 }
 
 /// The option for the transmission unit.
@@ -188,10 +187,10 @@ pub(crate) fn roughness_options<'a>(alloc: Global) -> Result<Vec<Arg<'a>>, Alloc
         "Which chances these are: a seed gives the same run again",
     );
     Ok(vec![in alloc;
-        read_option(loss, "0", value_parser!(u8).range(0..101)),
-        read_option(duplicate, "0", value_parser!(u8).range(0..101)),
-        read_option(delay, "0", value_parser!(u8).range(0..9)),
-        read_option(seed, "0", value_parser!(u64)),
+        loss.value_parser(value_parser!(u8).range(0..101)),
+        duplicate.value_parser(value_parser!(u8).range(0..101)),
+        delay.value_parser(value_parser!(u8).range(0..9)),
+        seed.value_parser(value_parser!(u64)),
     ]?)
 }
 
@@ -206,6 +205,35 @@ pub(crate) fn package_option<'a>(alloc: Global) -> Arg<'a>
         "The number of the package in CONFIG, from 1 on",
     );
     read_option(package, "1", value_parser!(u32).range(1..))
+}
+
+/// The option for the packages of a run, which may be given more than once: a text for all devices,
+/// or for one.
+pub(crate) fn packages_option<'a>(alloc: Global) -> Arg<'a>
+    ensures { rule_of result ≡ packages_rule }
+{
+    let package = text_option(
+        alloc,
+        "package",
+        "N|EID=N",
+        "Updates with package N, or only EID with package N",
+    );
+    package.action(ArgAction::Append)
+}
+
+/// The option for the endpoint identifiers of devices, which may be given more than once.
+pub(crate) fn devices_option<'a>(alloc: Global) -> Arg<'a>
+    ensures { rule_of result ≡ devices_rule }
+{
+    let device = text_option(
+        alloc,
+        "device",
+        "EID",
+        "Updates only this device of CONFIG; may be given again",
+    );
+    device
+        .action(ArgAction::Append)
+        .value_parser(value_parser!(u8).range(8..255))
 }
 
 /// An option for the path of a folder of sockets.
@@ -226,19 +254,6 @@ pub(crate) fn own_package_option<'a>(alloc: Global) -> Arg<'a>
         "The number of the package in CONFIG, from 1 on",
     );
     package.value_parser(value_parser!(u32).range(1..))
-}
-
-/// The option for the format of a process's trace, without a default.
-fn own_trace_form_option<'a>(alloc: Global, names: OptionNames<'a>) -> Arg<'a>
-    ensures { rule_of result ≡ own_trace_form_rule names.entry }
-{
-    text_option(
-        alloc,
-        "trace-format",
-        "FORM",
-        "The form of the trace, as in 'fwupd run': hex unless given",
-    )
-    .value_parser(names.traces)
 }
 
 /// The options of a node's process that the device and the agent share.
@@ -267,7 +282,7 @@ pub(crate) fn process_options<'a>(
         tick.value_parser(value_parser!(u32).range(1..1001)),
         ticks.value_parser(value_parser!(u32).range(1..)),
         trace,
-        own_trace_form_option(alloc, names),
+        trace_form_option(alloc, names),
         record_option(
             alloc,
             "Writes each call of the node to a file, as lines of a filter",

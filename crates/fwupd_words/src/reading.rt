@@ -1,23 +1,27 @@
 //! Reads the arguments of the command line.
 
-ghost use Rattle.std.specs.Prelude.{◌≡◌, IfErr, IfOk, codes, map, option_map};
+ghost use Rattle.std.specs.Prelude.{◌≡◌, ◌⊎◌, IfErr, IfOk, OnOk, None, Some, codes, false, map, option_map};
 ghost use Rattle.std.specs.String.{string_bytes};
 ghost use Rattle.clap.specs.Words.{App, kind_of};
 ghost use Rattle.fwupd_words.specs.CommandLine.{IsCommandLine};
 ghost use Rattle.fwupd_words.specs.Reading.{FindsSubcommand, ReadsWords, RefusesWords, RefusesEndpoint};
+ghost use Rattle.clap.specs.declared.error.kind.ErrorKind.TheVariants.{OutOfMemory};
+ghost use Rattle.fwupd_words.specs.Clashes.{build_clash, has_dashed_output, has_form_alone, has_seed_alone, package_clash, replay_clash, run_clash};
 ghost use Rattle.fwupd_words.specs.Jobs.{AsksForJob};
-ghost use Rattle.fwupd_words.specs.Words.{AsksEndpoint, AsksKept, AsksNumber, AsksOrder, AsksRoughness, AsksRuns, AsksSeed, AsksSoak, AsksUnit, given_in};
+ghost use Rattle.fwupd_words.specs.Words.{AsksBuild, AsksEndpoint, AsksKept, AsksNumber, AsksOrder, AsksRoughness, AsksRuns, AsksSeed, AsksSoak, AsksUnit, given_in, texts_under};
 
-use crate::asked::{Job, Order, Plan, Replay, Show, Soak, SoakOrder, Update};
-use crate::commands::command;
+use crate::asked::{BuildOutput, Job, Order, Plan, Replay, Soak, SoakOrder, Status, Update};
+use crate::choosing::{devices_in, packages_in};
+use crate::commands::{command, refusal};
 use crate::nodes::{agent_in, device_in};
-use crate::values::{form_in, refusal, small_under, text_under, trace_form_in};
+use crate::packages::{has_twice, malformed_among};
+use crate::values::{chance_under, form_in, has_value, is_dash, is_set, text_under, trace_form_in};
 use clap::ArgMatches;
 use clap::error::ErrorKind;
-use fwupd_base::Roughness;
+use fwupd_base::{Roughness, Show};
 use mctp_ctl::Endpoint;
 use mctp_wire::Unit;
-use std::alloc::Global;
+use std::alloc::{AllocError, Global};
 use uuid::Uuid;
 
 /// The endpoint that the arguments of `answer` specify.
@@ -26,14 +30,19 @@ fn endpoint_in<'a>(alloc: Global, matches: &ArgMatches<'a>) -> Result<Endpoint, 
     ensures refused { IfErr result (RefusesEndpoint (given_in matches.now)) }
 {
     let Some(eid) = matches.get_one::<u8>("EID") else {
-        return Err(refusal(alloc, ErrorKind::MissingRequiredArgument, "EID is required")?);
+        return Err(refusal(
+            alloc,
+            "answer",
+            ErrorKind::MissingRequiredArgument,
+            "EID is required",
+        )?);
     };
     let text = text_under(matches, "uuid");
     match Uuid::parse_str(text) {
         Ok(uuid) => Ok(Endpoint { eid, uuid }),
         Err(error) => {
             let message = format!(in alloc; "invalid value '{text}' for '--uuid <UUID>': {error}")?;
-            Err(refusal(alloc, ErrorKind::ValueValidation, &message)?)
+            Err(refusal(alloc, "answer", ErrorKind::ValueValidation, &message)?)
         }
     }
 }
@@ -56,7 +65,7 @@ fn answer_in<'a>(alloc: Global, matches: &ArgMatches<'a>) -> Result<Job<'a>, cla
     }
 }
 
-/// The value of the package option.
+/// The value of the package option of `plan`.
 fn package_number(matches: &ArgMatches<'_>) -> usize
     ensures { AsksNumber (given_in matches.now) result }
 {
@@ -111,9 +120,9 @@ fn roughness_in(matches: &ArgMatches<'_>) -> Roughness
     ensures { AsksRoughness (given_in matches.now) result }
 {
     Roughness {
-        loss: small_under(matches, "loss"),
-        duplicate: small_under(matches, "duplicate"),
-        delay: small_under(matches, "delay"),
+        loss: chance_under(matches, "loss"),
+        duplicate: chance_under(matches, "duplicate"),
+        delay: chance_under(matches, "delay"),
         seed: seed_in(matches),
     }
 }
@@ -123,7 +132,8 @@ fn order_in(matches: &ArgMatches<'_>) -> Order
     ensures { AsksOrder (given_in matches.now) result }
 {
     Order {
-        number: package_number(matches),
+        packages: packages_in(matches),
+        devices: devices_in(matches),
         is_checked: matches.get_flag("check"),
         roughness: roughness_in(matches),
     }
@@ -149,6 +159,139 @@ fn soak_order_in(matches: &ArgMatches<'_>) -> SoakOrder
     }
 }
 
+/// Whether the format of a trace is given without a trace.
+fn has_form_alone(matches: &ArgMatches<'_>) -> bool
+    ensures { result ≡ has_form_alone (given_in matches.now) }
+{
+    has_value(matches, "trace-format") && !has_value(matches, "trace")
+}
+
+/// Whether a seed is given without a chance.
+fn has_seed_alone(matches: &ArgMatches<'_>) -> bool
+    ensures { result ≡ has_seed_alone (given_in matches.now) }
+{
+    has_value(matches, "seed")
+        && !has_value(matches, "loss")
+        && !has_value(matches, "duplicate")
+        && !has_value(matches, "delay")
+}
+
+/// The error for options of the subcommand `name` that do nothing without others.
+fn lack(alloc: Global, name: &str, message: &str) -> Result<clap::Error, AllocError>
+    ensures { IfOk result (λ error. kind_of error ≡ ErrorKind.MissingRequiredArgument) }
+{
+    refusal(alloc, name, ErrorKind::MissingRequiredArgument, message)
+}
+
+/// What a trace's format needs.
+const FORM_ALONE: &str = "'--trace-format' needs '--trace'";
+
+/// What a seed needs.
+const SEED_ALONE: &str = "'--seed' needs '--loss', '--duplicate' or '--delay'";
+
+/// Why no output is called `-`.
+const DASHED: &str =
+    "'--trace', '--sel', '--record' and '--report' need the path of a file, and '-' is none";
+
+/// Why a package on standard output isn't told of.
+const TOLD_ALONE: &str = "'--json' needs a FILE other than '-'";
+
+/// The job that the arguments of `replay` request.
+fn replay_in<'a>(alloc: Global, matches: &ArgMatches<'a>) -> Result<Job<'a>, clap::Error>
+    ensures job { IfOk result (AsksForJob (codes "replay") (given_in matches.now)) }
+    ensures refused { IfErr result (λ error. (kind_of error ≡ OutOfMemory)
+        ⊎ (replay_clash (given_in matches.now) ≡ Some (kind_of error))) }
+{
+    if has_form_alone(matches) {
+        return Err(lack(alloc, "replay", FORM_ALONE)?);
+    }
+    Ok(Job::Replay(Replay {
+        config: text_under(matches, "CONFIG"),
+        schedule: text_under(matches, "SCHEDULE"),
+        show: show_in(matches, true, None),
+    }))
+}
+
+/// How often values of `--package` may be given.
+const PACKAGE_TWICE: &str =
+    "'--package N' can be used once, and '--package EID=N' once for each EID";
+
+/// Tests the values of `--package` of `run`.
+///
+/// # Errors
+/// A value is malformed, or two of them are `N` or name the same device.
+fn test_packages(alloc: Global, matches: &ArgMatches<'_>) -> Result<(), clap::Error>
+    ensures fits { IfOk result (λ _. package_clash (texts_under (given_in matches.now) (codes "package")) ≡ None) }
+    ensures refused { IfErr result (λ error. (kind_of error ≡ OutOfMemory)
+        ⊎ (package_clash (texts_under (given_in matches.now) (codes "package")) ≡ Some (kind_of error))) }
+{
+    let Some(texts) = matches.get_raw("package") else {
+        return Ok(());
+    };
+    if let Some(text) = malformed_among(texts) {
+        let problem = format!(in alloc;
+            "invalid value '{text}' for '--package <N|EID=N>': N is 1 to 4294967295, EID 8 to 254"
+        )?;
+        return Err(refusal(alloc, "run", ErrorKind::ValueValidation, &problem)?);
+    }
+    if has_twice(texts) {
+        return Err(refusal(alloc, "run", ErrorKind::ArgumentConflict, PACKAGE_TWICE)?);
+    }
+    Ok(())
+}
+
+/// The job that the arguments of `run` request.
+fn run_in<'a>(alloc: Global, matches: &ArgMatches<'a>) -> Result<Job<'a>, clap::Error>
+    ensures job { IfOk result (AsksForJob (codes "run") (given_in matches.now)) }
+    ensures refused { IfErr result (λ error. (kind_of error ≡ OutOfMemory)
+        ⊎ (run_clash (given_in matches.now) ≡ Some (kind_of error))) }
+{
+    if has_form_alone(matches) {
+        return Err(lack(alloc, "run", FORM_ALONE)?);
+    }
+    if has_seed_alone(matches) {
+        return Err(lack(alloc, "run", SEED_ALONE)?);
+    }
+    if let Err(error) = test_packages(alloc, matches) {
+        return Err(error);
+    }
+    Ok(Job::Run(Update {
+        config: text_under(matches, "CONFIG"),
+        folder: text_under(matches, "FOLDER"),
+        order: order_in(matches),
+        show: show_in(matches, matches.get_flag("quiet"), matches.get_str("store")),
+    }))
+}
+
+/// Where the arguments of `build` have the package go.
+fn build_output<'a>(matches: &ArgMatches<'a>) -> BuildOutput<'a>
+    ensures { AsksBuild (given_in matches.now) result }
+{
+    let path = text_under(matches, "FILE");
+    if is_dash(path) {
+        BuildOutput::Standard
+    } else if matches.get_flag("json") {
+        BuildOutput::ToldFile(path)
+    } else {
+        BuildOutput::File(path)
+    }
+}
+
+/// The job that the arguments of `build` request.
+fn build_in<'a>(alloc: Global, matches: &ArgMatches<'a>) -> Result<Job<'a>, clap::Error>
+    ensures job { IfOk result (AsksForJob (codes "build") (given_in matches.now)) }
+    ensures refused { IfErr result (λ error. (kind_of error ≡ OutOfMemory)
+        ⊎ (build_clash (given_in matches.now) ≡ Some (kind_of error))) }
+{
+    if is_dash(text_under(matches, "FILE")) && is_set(matches, "json") {
+        return Err(refusal(alloc, "build", ErrorKind::ArgumentConflict, TOLD_ALONE)?);
+    }
+    Ok(Job::Build {
+        spec: text_under(matches, "SPEC"),
+        output: build_output(matches),
+    })
+}
+
 /// The job that the subcommand `name` with these arguments requests.
 fn job_of<'a>(alloc: Global, name: &str, matches: &ArgMatches<'a>) -> Result<Job<'a>, clap::Error>
     ensures job { IfOk result (AsksForJob name.now (given_in matches.now)) }
@@ -159,36 +302,27 @@ fn job_of<'a>(alloc: Global, name: &str, matches: &ArgMatches<'a>) -> Result<Job
         "inspect" => Ok(Job::Inspect {
             package: text_under(matches, "FILE"),
             form: form_in(matches),
+            is_digested: matches.get_flag("digest"),
         }),
-        "replay" => Ok(Job::Replay(Replay {
-            config: text_under(matches, "CONFIG"),
-            schedule: text_under(matches, "SCHEDULE"),
-            show: show_in(matches, true, None),
-        })),
+        "replay" => replay_in(alloc, matches),
         "plan" => Ok(Job::Plan(Plan {
             config: text_under(matches, "CONFIG"),
             store: matches.get_str("store"),
             number: package_number(matches),
             form: form_in(matches),
         })),
-        "run" => Ok(Job::Run(Update {
-            config: text_under(matches, "CONFIG"),
-            folder: text_under(matches, "FOLDER"),
-            order: order_in(matches),
-            show: show_in(matches, matches.get_flag("quiet"), matches.get_str("store")),
-        })),
+        "run" => run_in(alloc, matches),
         "soak" => Ok(Job::Soak(Soak {
             config: text_under(matches, "CONFIG"),
             order: soak_order_in(matches),
             record: matches.get_str("record"),
+            form: form_in(matches),
         })),
         "sel" => Ok(Job::Sel {
             log: text_under(matches, "FILE"),
+            form: form_in(matches),
         }),
-        "build" => Ok(Job::Build {
-            spec: text_under(matches, "SPEC"),
-            package: text_under(matches, "FILE"),
-        }),
+        "build" => build_in(alloc, matches),
         "device" => device_in(alloc, matches),
         "agent" => agent_in(alloc, matches),
         "decode" => Ok(Job::Decode {
@@ -196,12 +330,45 @@ fn job_of<'a>(alloc: Global, name: &str, matches: &ArgMatches<'a>) -> Result<Job
             unit: unit_in(matches),
             form: form_in(matches),
         }),
+        "status" => Ok(Job::Status(Status {
+            config: text_under(matches, "CONFIG"),
+            store: matches.get_str("store"),
+            form: form_in(matches),
+        })),
         _ => Err(refusal(
             alloc,
+            "fwupd",
             ErrorKind::MissingSubcommand,
             "a subcommand is required",
         )?),
     }
+}
+
+/// Whether a file that is to be written is called `-`.
+fn has_dashed_output(matches: &ArgMatches<'_>) -> bool
+    ensures { result ≡ has_dashed_output (given_in matches.now) }
+{
+    is_dash(text_under(matches, "trace"))
+        || is_dash(text_under(matches, "sel"))
+        || is_dash(text_under(matches, "record"))
+        || is_dash(text_under(matches, "report"))
+}
+
+/// The job that the subcommand `name` with these arguments requests, unless a file that is to be
+/// written is called `-`.
+fn asked_job<'a>(
+    alloc: Global,
+    name: &str,
+    matches: &ArgMatches<'a>,
+) -> Result<Job<'a>, clap::Error>
+    ensures job { IfOk result (AsksForJob name.now (given_in matches.now)) }
+    ensures undashed { OnOk result (has_dashed_output (given_in matches.now) ≡ false) }
+    ensures refused { IfErr result (RefusesWords name.now (given_in matches.now)) }
+{
+    if has_dashed_output(matches) {
+        return Err(refusal(alloc, name, ErrorKind::ValueValidation, DASHED)?);
+    }
+    job_of(alloc, name, matches)
 }
 
 /// The matches of the arguments.
@@ -226,9 +393,10 @@ pub fn parse<'a>(alloc: Global, words: &'a [String]) -> Result<Job<'a>, clap::Er
     let Some((name, matches)) = matches.subcommand() else {
         return Err(refusal(
             alloc,
+            "fwupd",
             ErrorKind::MissingSubcommand,
             "a subcommand is required",
         )?);
     };
-    job_of(alloc, name, matches)
+    asked_job(alloc, name, matches)
 }

@@ -1,27 +1,11 @@
 //! The values of arguments under their names.
 
-ghost use Rattle.std.specs.Prelude.{◌≡◌, IfOk};
-ghost use Rattle.clap.specs.Words.{kind_of};
-ghost use Rattle.fwupd_words.specs.Words.{AsksForm, AsksSmall, AsksTraceForm, given_in, has_value, is_set, text_under};
+ghost use Rattle.std.specs.Prelude.{◌≡◌};
+ghost use Rattle.fwupd_words.specs.Words.{AsksChance, AsksForm, AsksSmall, AsksTraceForm, given_in, has_value, is_dash, is_set, text_under};
 ghost use Rattle.fwupd_words.specs.Processes.{AsksOptional};
 
-use crate::asked::TraceForm;
-use crate::commands::command;
 use clap::ArgMatches;
-use clap::error::ErrorKind;
-use fwupd_base::Form;
-use std::alloc::{AllocError, Global};
-
-/// An error of this kind, with this message.
-pub(crate) fn refusal(
-    alloc: Global,
-    kind: ErrorKind,
-    message: &str,
-) -> Result<clap::Error, AllocError>
-    ensures { IfOk result (λ error. kind_of error ≡ kind) }
-{
-    command(alloc)?.error(kind, message)
-}
+use fwupd_base::{Form, TraceForm};
 
 /// The text argument or option `name`, or an empty text if it is missing.
 pub(crate) fn text_under<'a>(matches: &ArgMatches<'a>, name: &str) -> &'a str
@@ -38,6 +22,13 @@ pub(crate) fn has_value(matches: &ArgMatches<'_>, name: &str) -> bool
     ensures { result ≡ has_value (given_in matches.now) name.now }
 {
     matches.get_str(name).is_some()
+}
+
+/// Whether a path means standard input or standard output.
+pub(crate) fn is_dash(path: &str) -> bool
+    ensures { result ≡ is_dash path.now }
+{
+    path == "-"
 }
 
 /// Whether the flag `name` is set.
@@ -75,6 +66,16 @@ pub(crate) fn trace_form_in(matches: &ArgMatches<'_>) -> TraceForm
 /// The number of 8 bits under `name`, or 0 if it is missing.
 pub(crate) fn small_under(matches: &ArgMatches<'_>, name: &str) -> u8
     ensures { AsksSmall (given_in matches.now) name.now result }
+{
+    match matches.get_one::<u8>(name) {
+        Some(number) => number,
+        None => 0,
+    }
+}
+
+/// The number of 8 bits of the option `name`, or 0 if it is missing.
+pub(crate) fn chance_under(matches: &ArgMatches<'_>, name: &str) -> u8
+    ensures { AsksChance (given_in matches.now) name.now result }
 {
     match matches.get_one::<u8>(name) {
         Some(number) => number,

@@ -5,6 +5,7 @@ mod inspected;
 mod inspection;
 mod jobs;
 mod openings;
+mod printed;
 mod traces;
 
 use fwupd_base::{AnswerFault, answer_stream};

@@ -1,6 +1,7 @@
 -- A session's reading of its borrowed package.
 use Rattle.std.specs.Prelude.{Bool, List, None, Option, Some, [], if◌then◌else◌, length, nat_lt, slice_index_or, suc, take, zero, ◌%◌, ◌/◌, ◌==◌, ℕ}
 use Rattle.std.specs.Borrow.{Bor}
+use Rattle.fw_package.specs.Choice.{no_text}
 use Rattle.fw_package.specs.Package.{ComponentOf, PackageText}
 use Rattle.fw_package.specs.Package.{DescriptorOf as DescriptorKnown, TextOf as TextKept}
 use Rattle.fwup_wire.specs.Values.{DeviceDescriptorOf, TypedTextOf, VersionOf}
@@ -8,7 +9,7 @@ use Rattle.fwup_wire.specs.declared.values.Key.{Key}
 
 -- the package used if there is none
 abbrev pub no_package : PackageText
-no_package = record { header_size = 0; records = []; components = [] }
+no_package = record { header_size = 0; release = []; version = no_text; records = []; components = [] }
 
 -- the borrowed package, if there is one
 abbrev pub borrowed_package : Option (Bor PackageText) → PackageText

@@ -51,6 +51,7 @@ const NO_COMPONENT: Component<'static> = Component {
     identifier: 0,
     stamp: 0,
     options: 0,
+    method: 0,
     offset: 0,
     text: fw_package::Text {
         kind: 0,

@@ -10,11 +10,12 @@ use fw_setup::SystemStores;
 use fw_soak::{SoakObserver, Summary};
 use fw_store::SystemFolder;
 use fw_world::{Step, World};
-use fwupd_base::{Form, Roughness};
+use fwupd_base::{Form, PackageChoice, Roughness};
 use fwupd_jobs::{
     Beginning, DeviceProcess, FileFault, FileIdentity, Files, Host, JobFault, Joined, Network,
-    Observer, ObserverFault, Order, Output, PacketTrace, Parts, Plan, Serving, Show, TraceForm,
-    Update, Watching, WholeFiles, Wire, Wires, Wiring, plan_file, update_checked,
+    Observer, ObserverFault, Order, Output, PacketTrace, Parts, Plan, Serving, Show, Status,
+    TraceForm, Update, Watching, WholeFiles, Wire, Wires, Wiring, plan_file, status_file,
+    update_checked,
 };
 use fwupd_nodes::Observed;
 use fwupd_watch::{SystemCalls, system_places};
@@ -469,7 +470,8 @@ fn updated<'a, L: Link + Drop, S: Wires<L> + Drop>(
         config: "c",
         folder: "f",
         order: Order {
-            number: 1,
+            packages: PackageChoice::new(1),
+            devices: None,
             is_checked: true,
             roughness: Roughness::none(),
         },
@@ -569,6 +571,48 @@ fn an_update_is_foretold(rt: HostRuntime) -> Result<(), Fail> {
     for (config, number, text) in table {
         let told = planned(&rt, config, &package, number)?;
         assert!(rt; told.as_slice() == text, "{}", told.escape_ascii());
+    }
+    Ok(())
+}
+
+/// What runs on the devices of a configuration, and the text of the fault, if any.
+fn status(rt: &HostRuntime, config: &[u8], form: Form) -> Result<Vec<u8>, Fail> {
+    let files = [("c", 1, config)];
+    let mut output = match Output::new(rt.alloc(), Vec::new(rt.alloc())) {
+        Ok(output) => output,
+        Err(fault) => return outcome(rt, Err(fault), Vec::new(rt.alloc())),
+    };
+    let end = status_file(
+        rt.alloc(),
+        &MemFiles { files: &files },
+        &SystemStores::new(rt),
+        Status {
+            config: "c",
+            store: None,
+            form,
+        },
+        &mut output,
+    );
+    outcome(rt, end, output.into_writer())
+}
+
+#[test]
+fn what_runs_is_told(rt: HostRuntime) -> Result<(), Fail> {
+    let text = b"device 9\ncomponent 10 ident 1 size 1 stamp 00000001 version \"1.0\" \
+        sha256 bceef655b5a034911f1c3718ce056531b45ef03b4c7b1f15629e867294011a7d\n"
+        .as_slice();
+    let json = b"{\"format\":\"fwupd-status/1\",\"devices\":[{\"eid\":9,\"components\":[\
+        {\"classification\":10,\"identifier\":1,\"index\":0,\"size\":1,\"stamp\":1,\"version\":\"1.0\",\
+        \"sha256\":\"bceef655b5a034911f1c3718ce056531b45ef03b4c7b1f15629e867294011a7d\"}]}]}\n"
+        .as_slice();
+    let table: [(&[u8], Form, &[u8]); 3] = [
+        (WHOLE, Form::Text, text),
+        (WHOLE, Form::Json, json),
+        (b"agent", Form::Text, b"c: line 1: Fields"),
+    ];
+    for (config, form, wanted) in table {
+        let told = status(&rt, config, form)?;
+        assert!(rt; told.as_slice() == wanted, "{}", told.escape_ascii());
     }
     Ok(())
 }

@@ -174,21 +174,32 @@ fn a_log_has_at_most_128_whole_records(rt: HostRuntime) -> Result<(), Fail> {
 #[test]
 fn the_log_in_a_file_is_told(rt: HostRuntime) -> Result<(), Fail> {
     let record = bytes_of(&rt, "0200 C1 0B000000 000000 02 09 0100 0100")?;
-    let table: [(&str, &[u8]); 3] = [
+    let json =
+        b"{\"format\":\"fwupd-sel/1\",\"records\":[{\"id\":2,\"time\":11,\"event\":\"applied\",\"device\":9,\"package\":1,\"component\":1}]}\n".as_slice();
+    let table: [(&str, Form, &[u8]); 5] = [
         (
             "l",
+            Form::Text,
             b"   2 |         11 | applied   | device 9 package 1 component 1\n",
         ),
-        ("s", b"sel: Size"),
-        ("none", b"none: unreadable"),
+        ("l", Form::Json, json),
+        ("s", Form::Text, b"sel: Size"),
+        ("s", Form::Json, b"sel: Size"),
+        ("none", Form::Text, b"none: unreadable"),
     ];
-    for (path, wanted) in table {
+    for (path, form, wanted) in table {
         let files: [(&str, u64, &[u8]); 2] = [("l", 1, &record), ("s", 2, b"short")];
         let mut output = match Output::new(rt.alloc(), Vec::new(rt.alloc())) {
             Ok(output) => output,
             Err(_) => return Ok(()),
         };
-        let end = sel_file(rt.alloc(), &MemFiles { files: &files }, path, &mut output);
+        let end = sel_file(
+            rt.alloc(),
+            &MemFiles { files: &files },
+            path,
+            form,
+            &mut output,
+        );
         let told = outcome(&rt, end, output.into_writer())?;
         assert!(rt; told.as_slice() == wanted, "{}", told.escape_ascii());
     }

@@ -2,8 +2,8 @@
 
 use crate::tests::histories::{package_file, worked};
 use fw_package::Package;
-use fw_soak::{Setup, SoakObserver, Soaked, Summary, soak, summary_text};
-use fwupd_base::Roughness;
+use fw_soak::{Setup, SoakObserver, Soaked, Summary, soak, summary_in};
+use fwupd_base::{Form, Roughness};
 use std::alloc::Global;
 use std::test::Fail;
 
@@ -89,8 +89,13 @@ fn tells_a_summary(rt: HostRuntime) {
         longest: 50,
         violations: 6,
     };
-    if let Ok(text) = summary_text(rt.alloc(), &summary) {
+    if let Ok(text) = summary_in(rt.alloc(), &summary, Form::Text) {
         let want = b"runs 1\nactivations 20\nlosses 300\nrestarts 4\nlongest 50\nviolations 6\n";
+        assert!(rt; text.as_slice() == want.as_slice());
+    }
+    if let Ok(text) = summary_in(rt.alloc(), &summary, Form::Json) {
+        let want =
+            b"{\"format\":\"fwupd-soak/1\",\"runs\":1,\"activations\":20,\"losses\":300,\"restarts\":4,\"longest\":50,\"violations\":6}\n";
         assert!(rt; text.as_slice() == want.as_slice());
     }
 }

@@ -10,12 +10,13 @@ const HEADER: usize = 134;
 const WHOLE: usize = 439;
 
 /// The fields of a component in the header, in order.
-fn fields(place: &Place<'_>) -> [usize; 7] {
+fn fields(place: &Place<'_>) -> [usize; 8] {
     [
         usize::from(place.classification),
         usize::from(place.identifier),
         place.stamp as usize,
         usize::from(place.options),
+        usize::from(place.method),
         place.offset,
         usize::from(place.text.kind),
         place.size,
@@ -32,8 +33,8 @@ fn has_places(outline: &Outline<'_>) -> bool {
         return false;
     };
     places.next().is_none()
-        && fields(&first) == [10, 1, 0xFFFF_FFFF, 0, 134, 1, 0]
-        && fields(&second) == [10, 2, 7, 2, 134, 1, 300]
+        && fields(&first) == [10, 1, 0xFFFF_FFFF, 0, 0, 134, 1, 0]
+        && fields(&second) == [10, 2, 7, 2, 0, 134, 1, 300]
         && first.text.bytes == b"v1".as_slice()
         && second.text.bytes == b"v2".as_slice()
 }
@@ -61,6 +62,9 @@ fn is_worked(file: &[u8], size: usize, file_length: usize) -> bool {
         return false;
     };
     outline.header_size() == HEADER
+        && outline.release() == [0x15; 13].as_slice()
+        && outline.version().kind == 1
+        && outline.version().bytes == b"pkg".as_slice()
         && outline.record_count() == 2
         && outline.place_count() == 2
         && has_records(&outline)

@@ -1,4 +1,4 @@
-use Rattle.std.proofs.Common.{◌≡◌, ◌≤◌, length, take}
+use Rattle.std.proofs.Common.{◌≡◌, take}
 use Rattle.std.specs.List.{sum_by}
 use Rattle.fw_soak.specs.Counts.{capped_count, lost_at}
 use Rattle.fw_soak.proofs.counts.losses.Given as goal

@@ -1,4 +1,4 @@
-use Rattle.std.proofs.Common.{◌∙◌, ap, refl, sym}
+use Rattle.std.proofs.Common.{◌∙◌, ap, sym}
 use Rattle.fw_soak.specs.Chances.{generator_past}
 use Rattle.fw_soak.proofs.Placing.{past_two}
 use Rattle.fw_soak.proofs.setup.pass_banks.Goals as goal

@@ -1,4 +1,5 @@
 use Rattle.std.proofs.Common.{inl, inr, refl}
+use Rattle.fw_json.specs.Forms.{inspection_in}
 use Rattle.fwupd_jobs.proofs.Examined.{breaks, inspection_fails, inspects}
 use Rattle.fwupd_nodes.proofs.Packed.{unread_package}
 use Rattle.fwupd_jobs.proofs.inspecting.inspect_file.Goals as goal
@@ -17,10 +18,10 @@ returns-in-Err-inspect_beginning_in-clause-fault g c =
 
 pub returns-in-Ok-write-clause-ok : goal.returns-in-Ok-write-clause-ok
 returns-in-Ok-write-clause-ok g c =
-    inspects (g.F.Files.holds c.args.files.now c.args.path.now) c.args.form c.in-Ok.ensures.held.bytes c.in-Ok-inspect_beginning_in.text.items c.args.output.now c.write.new.self
+    inspects (g.F.Files.holds c.args.files.now c.args.path.now) (inspection_in c.args.form) c.in-Ok.ensures.held.bytes c.in-Ok-inspect_beginning_in.text.items c.args.output.now c.write.new.self
     c.in-Ok.ensures.held.held ((rw c.deref.ensures.value at c.in-Ok-inspect_beginning_in.ensures.text) c.in-Ok.ensures.held.bytes c.in-Ok.ensures.held.is) (rw c.deref-2.ensures.value at c.in-Ok-write.ensures.ok)
 
 pub returns-clause-fault : goal.returns-clause-fault
 returns-clause-fault g c =
-    inl (breaks (g.F.Files.holds c.args.files.now c.args.path.now) c.args.form c.in-Ok.ensures.held.bytes c.in-Ok-inspect_beginning_in.text.items c.in-Err-write.fault c.args.output.now c.write.new.self
+    inl (breaks (g.F.Files.holds c.args.files.now c.args.path.now) (inspection_in c.args.form) c.in-Ok.ensures.held.bytes c.in-Ok-inspect_beginning_in.text.items c.in-Err-write.fault c.args.output.now c.write.new.self
     c.in-Err-write.ensures.fault c.in-Ok.ensures.held.held ((rw c.deref.ensures.value at c.in-Ok-inspect_beginning_in.ensures.text) c.in-Ok.ensures.held.bytes c.in-Ok.ensures.held.is) (rw c.deref-2.ensures.value at c.in-Err-write.ensures.failed))

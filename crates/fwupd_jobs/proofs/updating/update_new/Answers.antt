@@ -1,5 +1,6 @@
 use Rattle.std.proofs.Common.{ap, map, ◌∷◌, ◌∙◌}
 use Rattle.std.specs.Prelude.{string_bytes}
+use Rattle.fwupd_base.specs.PackageChoices.{number_for}
 use Rattle.fwupd_watch.proofs.Happened.{kept_fresh}
 use Rattle.fwupd_jobs.proofs.Numbered.{barred_by, watched_by}
 use Rattle.fwupd_jobs.proofs.Told.{barred_of_none, driven_of_none, safe_reached, unbegun, update_ends}
@@ -8,9 +9,9 @@ use Rattle.fwupd_jobs.proofs.updating.update_new.Goals as goal
 
 pub returns-in-Err-clause-fault : goal.returns-in-Err-clause-fault
 returns-in-Err-clause-fault g c source named path same =
-    unbegun (g.H.Files.Files.holds c.args.host.now.files) source c.args.job.order.number (show_of c.args.job.show) (g.H.Watch.Observer.refuses c.args.host.now.watch) (g.H.Wires.Wires.lacks c.args.host.now.wires c.args.job.folder.now) c.in-Err.fault
+    unbegun (g.H.Files.Files.holds c.args.host.now.files) source (number_for c.args.job.order.packages) (show_of c.args.job.show) (g.H.Watch.Observer.refuses c.args.host.now.watch) (g.H.Wires.Wires.lacks c.args.host.now.wires c.args.job.folder.now) c.in-Err.fault
     (g.H.Watch.Observer.watched c.begin_apart.new.watch) c.args.host.now.output
-    (barred_by (g.H.Files.Files.holds c.args.host.now.files) source c.args.job.order.number (show_of c.args.job.show) (g.H.Watch.Observer.refuses c.args.host.now.watch) c.in-Err.fault (g.H.Watch.Observer.watched c.begin_apart.new.watch) c.args.world.now
+    (barred_by (g.H.Files.Files.holds c.args.host.now.files) source (number_for c.args.job.order.packages) (show_of c.args.job.show) (g.H.Watch.Observer.refuses c.args.host.now.watch) c.in-Err.fault (g.H.Watch.Observer.watched c.begin_apart.new.watch) c.args.world.now
     named c.args.job.config.now (map (λ p. string_bytes p) c.args.packages.now) path same c.in-Err.ensures.fault)
 
 pub returns-in-Err-clause-stores : goal.returns-in-Err-clause-stores
@@ -21,12 +22,12 @@ pub returns-in-Ok-update_over-clause-ok : goal.returns-in-Ok-update_over-clause-
 returns-in-Ok-update_over-clause-ok g c source named path same = record {
   world = c.args.world.now;
   begins =
-      watched_by (g.H.Files.Files.holds c.args.host.now.files) source c.args.job.order.number (show_of c.args.job.show) c.args.world.now named c.args.job.config.now (map (λ p. string_bytes p) c.args.packages.now) path same
+      watched_by (g.H.Files.Files.holds c.args.host.now.files) source (number_for c.args.job.order.packages) (show_of c.args.job.show) c.args.world.now named c.args.job.config.now (map (λ p. string_bytes p) c.args.packages.now) path same
       c.in-Ok.ensures.apart;
   shown = c.update_over.ensures.same ∙ c.in-Ok.ensures.shows;
   left = c.update_over.new.world;
   updated = c.in-Ok-update_over.ensures.updated;
-  promised = safe_reached c.args.job.order.number c.args.world.now c.update_over.new.world c.runs_are_promised.ensures.law c.requires c.update_over.ensures.reached;
+  promised = safe_reached (number_for c.args.job.order.packages) c.args.world.now c.update_over.new.world c.runs_are_promised.ensures.law c.requires c.update_over.ensures.reached;
   seen = c.in-Ok-update_over.ensures.seen;
   turns = c.in-Ok-update_over.ensures.turns c.in-Ok.ensures.anew.0;
   none_lost = c.in-Ok-update_over.ensures.none_lost ∙ c.in-Ok.ensures.anew.1;
@@ -41,12 +42,12 @@ returns-in-Ok-update_over-clause-ok g c source named path same = record {
 
 pub returns-in-Err-update_over-clause-fault : goal.returns-in-Err-update_over-clause-fault
 returns-in-Err-update_over-clause-fault g c source named path same =
-    update_ends (g.H.Files.Files.holds c.args.host.now.files) source c.args.job.order.number (show_of c.args.job.show) (g.H.Watch.Observer.refuses c.args.host.now.watch) (g.H.Wires.Wires.lacks c.args.host.now.wires c.args.job.folder.now) c.args.world.now
+    update_ends (g.H.Files.Files.holds c.args.host.now.files) source (number_for c.args.job.order.packages) (show_of c.args.job.show) (g.H.Watch.Observer.refuses c.args.host.now.watch) (g.H.Wires.Wires.lacks c.args.host.now.wires c.args.job.folder.now) c.args.world.now
     c.update_over.new.world c.in-Err-update_over.fault (g.H.Watch.Observer.watched c.update_over.new.host.watch) c.args.host.now.output c.update_over.new.host.output
-    (watched_by (g.H.Files.Files.holds c.args.host.now.files) source c.args.job.order.number (show_of c.args.job.show) c.args.world.now named c.args.job.config.now (map (λ p. string_bytes p) c.args.packages.now) path same
+    (watched_by (g.H.Files.Files.holds c.args.host.now.files) source (number_for c.args.job.order.packages) (show_of c.args.job.show) c.args.world.now named c.args.job.config.now (map (λ p. string_bytes p) c.args.packages.now) path same
     c.in-Ok.ensures.apart)
     (c.update_over.ensures.same ∙ c.in-Ok.ensures.shows)
-    (safe_reached c.args.job.order.number c.args.world.now c.update_over.new.world c.runs_are_promised.ensures.law c.requires c.update_over.ensures.reached)
+    (safe_reached (number_for c.args.job.order.packages) c.args.world.now c.update_over.new.world c.runs_are_promised.ensures.law c.requires c.update_over.ensures.reached)
     (c.update_over.ensures.sees c.in-Ok.ensures.anew.0)
     c.in-Err-update_over.ensures.lost
     (λ broken none. c.in-Err-update_over.ensures.recorded_still broken none c.in-Ok.ensures.recording)
@@ -57,5 +58,5 @@ returns-in-Err-update_over-clause-fault g c source named path same =
 
 pub returns-in-Err-update_over-clause-stores : goal.returns-in-Err-update_over-clause-stores
 returns-in-Err-update_over-clause-stores g c =
-    driven_of_none c.args.job.order.number c.args.job.show.form (g.H.Wires.Wires.lacks c.args.host.now.wires c.args.job.folder.now) c.args.world.now c.update_over.new.world c.in-Err-update_over.fault (g.H.Watch.Observer.watched c.update_over.new.host.watch)
+    driven_of_none (number_for c.args.job.order.packages) c.args.job.show.form (g.H.Wires.Wires.lacks c.args.host.now.wires c.args.job.folder.now) c.args.world.now c.update_over.new.world c.in-Err-update_over.fault (g.H.Watch.Observer.watched c.update_over.new.host.watch)
     c.args.host.now.output c.update_over.new.host.output c.in-Err-update_over.ensures.fault

@@ -1,5 +1,6 @@
 use Rattle.std.proofs.Common.{inl, inr, subst, sym, ◌∙◌}
 use Rattle.std.specs.Prelude.{IfSome}
+use Rattle.fwupd_base.specs.PackageChoices.{number_for}
 use Rattle.fwupd_watch.specs.Histories.{MayHaveHistoryLines}
 use Rattle.fwupd_watch.specs.Recordings.{HasRecordedSteps}
 use Rattle.fwupd_watch.specs.Running.{RunsStepsSeen}
@@ -14,12 +15,12 @@ returns-in-Err-clause-lost g c e =
 pub returns-in-Err-clause-fault : goal.returns-in-Err-clause-fault
 returns-in-Err-clause-fault g c = elim c.in-Err.ensures.fault [
   | inl e ↦ inl e
-  | inr h ↦ inr (caused_still c.args.order.number c.args.world.now c.update_observed.new.world c.in-Err.fault (g.V.Observer.watched c.update_observed.new.watch) (g.V.Observer.watched c.lose_failed.new.watch) c.lose_failed.ensures.fault c.lose_failed.ensures.ended h)
+  | inr h ↦ inr (caused_still (number_for c.args.order.packages) c.args.world.now c.update_observed.new.world c.in-Err.fault (g.V.Observer.watched c.update_observed.new.watch) (g.V.Observer.watched c.lose_failed.new.watch) c.lose_failed.ensures.fault c.lose_failed.ensures.ended h)
 ]
 
 pub returns-in-Err-clause-sees : goal.returns-in-Err-clause-sees
 returns-in-Err-clause-sees g c none =
-    subst (RunsStepsSeen c.args.order.number c.args.world.now c.update_observed.new.world) (sym c.lose_failed.ensures.seen) (c.update_observed.ensures.sees none)
+    subst (RunsStepsSeen (number_for c.args.order.packages) c.args.world.now c.update_observed.new.world) (sym c.lose_failed.ensures.seen) (c.update_observed.ensures.sees none)
 
 pub returns-in-Err-clause-history_still : goal.returns-in-Err-clause-history_still
 returns-in-Err-clause-history_still g c kept =

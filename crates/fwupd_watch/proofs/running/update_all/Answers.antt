@@ -1,4 +1,5 @@
 use Rattle.std.proofs.Common.{◌∙◌, ◌+◌, arith, ap, inl, length, map, refl, subst, sym}
+use Rattle.fwupd_base.specs.PackageChoices.{number_for}
 use Rattle.fwupd_watch.specs.Running.{RunsStepsSeen, UpdatesDevices, starts_of}
 use Rattle.fw_edge.specs.Ledgers.{AllSent, packet_counts}
 use Rattle.fw_steps.specs.Moments.{entries_between}
@@ -11,7 +12,7 @@ use Rattle.fwupd_watch.proofs.running.update_all.Goals as goal
 
 pub loop-init : goal.loop-init
 loop-init g c = record {
-  updates = updates_none c.args.number c.args.world.now c.start_all-started.new.world c.in-Ok.ensures.started;
+  updates = updates_none (number_for c.args.packages.now) c.args.world.now c.start_all-started.new.world c.in-Ok.ensures.started;
   devices = c.requires ∙ ap length (sym c.in-Ok.ensures.same);
   none = c.clear.ensures.items;
   sent =
@@ -22,7 +23,7 @@ loop-init g c = record {
   lost = c.note-noted.ensures.lost;
   recorded =
       run_begun c.args.world.now c.start_all-started.new.world (g.V.Observer.watched c.args.watch.now).recording (g.V.Observer.watched c.note-noted.new.self).recording c.start_all-started.new.steps.items c.as_slice.result.now
-      (starts_of c.args.number c.args.world.now.sites) c.as_slice.ensures.value c.in-Ok.ensures.listed c.in-Ok.ensures.started c.in-Ok-noted.ensures.noted;
+      (starts_of (number_for c.args.packages.now) c.args.world.now.sites) c.as_slice.ensures.value c.in-Ok.ensures.listed c.in-Ok.ensures.started c.in-Ok-noted.ensures.noted;
   history =
       kept_same (g.V.Observer.watched c.args.watch.now).history (g.V.Observer.watched c.note-noted.new.self).history c.args.world.now.history c.start_all-started.new.world.history c.note-noted.ensures.history
       c.start_all-started.ensures.history;
@@ -31,13 +32,13 @@ loop-init g c = record {
 
 pub returns-in-Err-drive-clause-reached : goal.returns-in-Err-drive-clause-reached
 returns-in-Err-drive-clause-reached g c =
-    updates_off c.args.number c.args.world.now c.loop.world c.drive.new.world c.loop.counter c.loop.steps.items c.drive.new.steps.items c.loop.invariant.updates c.drive.ensures.drives.drives
+    updates_off (number_for c.args.packages.now) c.args.world.now c.loop.world c.drive.new.world c.loop.counter c.loop.steps.items c.drive.new.steps.items c.loop.invariant.updates c.drive.ensures.drives.drives
 
 pub returns-then-driven-eq0-clause-updated : goal.returns-then-driven-eq0-clause-updated
 returns-then-driven-eq0-clause-updated g c = record {
   ticks = c.loop.counter + c.in-Ok-drive.driven.turns;
   updates =
-      updates_more c.args.number c.args.world.now c.loop.world c.drive.new.world c.loop.counter c.in-Ok-drive.driven.turns c.loop.steps.items c.drive.new.steps.items c.loop.invariant.updates
+      updates_more (number_for c.args.packages.now) c.args.world.now c.loop.world c.drive.new.world c.loop.counter c.in-Ok-drive.driven.turns c.loop.steps.items c.drive.new.steps.items c.loop.invariant.updates
       c.loop.invariant.none c.drive.ensures.drives.drives c.in-Ok-drive.ensures.done.ticks;
   within = omega (arith, c.if-driven-eq0.true);
   ended = inl (c.in-Ok-drive.ensures.done.ended (omega (arith, c.if-driven-eq0.true)));
@@ -45,11 +46,11 @@ returns-then-driven-eq0-clause-updated g c = record {
 
 pub returns-then-driven-eq0-clause-reached : goal.returns-then-driven-eq0-clause-reached
 returns-then-driven-eq0-clause-reached g c =
-    updates_off c.args.number c.args.world.now c.loop.world c.drive.new.world c.loop.counter c.loop.steps.items c.drive.new.steps.items c.loop.invariant.updates c.drive.ensures.drives.drives
+    updates_off (number_for c.args.packages.now) c.args.world.now c.loop.world c.drive.new.world c.loop.counter c.loop.steps.items c.drive.new.steps.items c.loop.invariant.updates c.drive.ensures.drives.drives
 
 pub returns-in-Err-see_turn-clause-reached : goal.returns-in-Err-see_turn-clause-reached
 returns-in-Err-see_turn-clause-reached g c =
-    updates_off c.args.number c.args.world.now c.loop.world c.drive.new.world c.loop.counter c.loop.steps.items c.drive.new.steps.items c.loop.invariant.updates c.drive.ensures.drives.drives
+    updates_off (number_for c.args.packages.now) c.args.world.now c.loop.world c.drive.new.world c.loop.counter c.loop.steps.items c.drive.new.steps.items c.loop.invariant.updates c.drive.ensures.drives.drives
 
 pub returns-in-Err-see_turn-clause-failed : goal.returns-in-Err-see_turn-clause-failed
 returns-in-Err-see_turn-clause-failed g c =
@@ -81,8 +82,8 @@ returns-then-driven-eq0-clause-sent g c =
 pub loop-preserved : goal.loop-preserved
 loop-preserved g c = record {
   updates =
-      subst (λ n. UpdatesDevices c.args.number c.args.world.now c.drive.new.world (c.loop.counter + n)) (omega (arith, c.in-Ok-drive.ensures.done.within, c.if-driven-eq0.false))
-      (updates_more c.args.number c.args.world.now c.loop.world c.drive.new.world c.loop.counter c.in-Ok-drive.driven.turns c.loop.steps.items c.drive.new.steps.items c.loop.invariant.updates
+      subst (λ n. UpdatesDevices (number_for c.args.packages.now) c.args.world.now c.drive.new.world (c.loop.counter + n)) (omega (arith, c.in-Ok-drive.ensures.done.within, c.if-driven-eq0.false))
+      (updates_more (number_for c.args.packages.now) c.args.world.now c.loop.world c.drive.new.world c.loop.counter c.in-Ok-drive.driven.turns c.loop.steps.items c.drive.new.steps.items c.loop.invariant.updates
       c.loop.invariant.none c.drive.ensures.drives.drives c.in-Ok-drive.ensures.done.ticks);
   devices = c.drive.ensures.devices;
   none = c.clear-in-loop.ensures.items;
@@ -103,43 +104,43 @@ loop-preserved g c = record {
 }
 
 pub returns-clause-reached : goal.returns-clause-reached
-returns-clause-reached g c = updates_reached c.args.number c.args.world.now c.loop.world c.loop.counter c.loop.invariant.updates
+returns-clause-reached g c = updates_reached (number_for c.args.packages.now) c.args.world.now c.loop.world c.loop.counter c.loop.invariant.updates
 
 pub returns-in-Err-drive-clause-sees : goal.returns-in-Err-drive-clause-sees
 returns-in-Err-drive-clause-sees g c none =
-    updates_seen_off c.args.number c.args.world.now c.loop.world c.drive.new.world c.loop.counter (g.V.Observer.watched c.broken_off.new.watch).seen c.loop.steps.items c.drive.new.steps.items c.loop.invariant.updates
+    updates_seen_off (number_for c.args.packages.now) c.args.world.now c.loop.world c.drive.new.world c.loop.counter (g.V.Observer.watched c.broken_off.new.watch).seen c.loop.steps.items c.drive.new.steps.items c.loop.invariant.updates
     c.loop.invariant.none c.drive.ensures.drives.drives (let few = c.in-Err-drive.ensures.stopped.ticks in let first = c.in-Err-drive.ensures.stopped.within in omega arith)
     (seen_next (g.V.Observer.watched c.loop.watch).seen (g.V.Observer.watched c.broken_off.new.watch).seen c.loop.counter (omega arith) (c.loop.invariant.seen none) c.broken_off.ensures.seen)
 
 pub returns-then-driven-eq0-clause-sees : goal.returns-then-driven-eq0-clause-sees
 returns-then-driven-eq0-clause-sees g c none =
-    updates_seen c.args.number c.args.world.now c.drive.new.world c.loop.counter (g.V.Observer.watched c.loop.watch).seen
-    (subst (λ n. UpdatesDevices c.args.number c.args.world.now c.drive.new.world n) (omega (arith, c.if-driven-eq0.true))
-    (updates_more c.args.number c.args.world.now c.loop.world c.drive.new.world c.loop.counter c.in-Ok-drive.driven.turns c.loop.steps.items c.drive.new.steps.items c.loop.invariant.updates
+    updates_seen (number_for c.args.packages.now) c.args.world.now c.drive.new.world c.loop.counter (g.V.Observer.watched c.loop.watch).seen
+    (subst (λ n. UpdatesDevices (number_for c.args.packages.now) c.args.world.now c.drive.new.world n) (omega (arith, c.if-driven-eq0.true))
+    (updates_more (number_for c.args.packages.now) c.args.world.now c.loop.world c.drive.new.world c.loop.counter c.in-Ok-drive.driven.turns c.loop.steps.items c.drive.new.steps.items c.loop.invariant.updates
     c.loop.invariant.none c.drive.ensures.drives.drives c.in-Ok-drive.ensures.done.ticks))
     (c.loop.invariant.seen none)
 
 pub returns-in-Err-see_turn-clause-sees : goal.returns-in-Err-see_turn-clause-sees
 returns-in-Err-see_turn-clause-sees g c none =
-    updates_seen c.args.number c.args.world.now c.drive.new.world (c.loop.counter + 1) (g.V.Observer.watched c.see_turn.new.watch).seen
-    (subst (λ n. UpdatesDevices c.args.number c.args.world.now c.drive.new.world (c.loop.counter + n)) (omega (arith, c.in-Ok-drive.ensures.done.within, c.if-driven-eq0.false))
-    (updates_more c.args.number c.args.world.now c.loop.world c.drive.new.world c.loop.counter c.in-Ok-drive.driven.turns c.loop.steps.items c.drive.new.steps.items c.loop.invariant.updates
+    updates_seen (number_for c.args.packages.now) c.args.world.now c.drive.new.world (c.loop.counter + 1) (g.V.Observer.watched c.see_turn.new.watch).seen
+    (subst (λ n. UpdatesDevices (number_for c.args.packages.now) c.args.world.now c.drive.new.world (c.loop.counter + n)) (omega (arith, c.in-Ok-drive.ensures.done.within, c.if-driven-eq0.false))
+    (updates_more (number_for c.args.packages.now) c.args.world.now c.loop.world c.drive.new.world c.loop.counter c.in-Ok-drive.driven.turns c.loop.steps.items c.drive.new.steps.items c.loop.invariant.updates
     c.loop.invariant.none c.drive.ensures.drives.drives c.in-Ok-drive.ensures.done.ticks))
     (seen_next (g.V.Observer.watched c.loop.watch).seen (g.V.Observer.watched c.see_turn.new.watch).seen c.loop.counter (omega arith) (c.loop.invariant.seen none) c.see_turn.ensures.seen)
 
 pub returns-clause-sees : goal.returns-clause-sees
-returns-clause-sees g c none = updates_seen c.args.number c.args.world.now c.loop.world c.loop.counter (g.V.Observer.watched c.loop.watch).seen c.loop.invariant.updates (c.loop.invariant.seen none)
+returns-clause-sees g c none = updates_seen (number_for c.args.packages.now) c.args.world.now c.loop.world c.loop.counter (g.V.Observer.watched c.loop.watch).seen c.loop.invariant.updates (c.loop.invariant.seen none)
 
 pub returns-in-Err-clause-sees : goal.returns-in-Err-clause-sees
 returns-in-Err-clause-sees g c none =
-    subst (RunsStepsSeen c.args.number c.args.world.now c.start_all-started.new.world) (sym (c.note-noted.ensures.seen ∙ none)) c.start_all-started.ensures.unseen_steps
+    subst (RunsStepsSeen (number_for c.args.packages.now) c.args.world.now c.start_all-started.new.world) (sym (c.note-noted.ensures.seen ∙ none)) c.start_all-started.ensures.unseen_steps
 
 pub returns-in-Err-clause-unwritten : goal.returns-in-Err-clause-unwritten
 returns-in-Err-clause-unwritten g c = none_unwritten c.in-Err.fault _ c.in-Err.ensures.unseen
 
 pub returns-in-Err-noted-clause-sees : goal.returns-in-Err-noted-clause-sees
 returns-in-Err-noted-clause-sees g c none =
-    subst (RunsStepsSeen c.args.number c.args.world.now c.start_all-started.new.world) (sym (c.note-noted.ensures.seen ∙ none)) c.start_all-started.ensures.unseen_steps
+    subst (RunsStepsSeen (number_for c.args.packages.now) c.args.world.now c.start_all-started.new.world) (sym (c.note-noted.ensures.seen ∙ none)) c.start_all-started.ensures.unseen_steps
 
 pub returns-in-Err-noted-clause-unwritten : goal.returns-in-Err-noted-clause-unwritten
 returns-in-Err-noted-clause-unwritten g c = unwritten_by c.in-Err-noted.fault _ c.observer_fault.result c.observer_fault.ensures.told c.in-Err-noted.ensures.err

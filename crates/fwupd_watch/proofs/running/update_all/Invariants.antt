@@ -1,5 +1,6 @@
 use Rattle.std.proofs.Common.{◌≡◌, [], length, map}
 use Rattle.fw_edge.specs.Ledgers.{AllSent, packet_counts}
+use Rattle.fwupd_base.specs.PackageChoices.{number_for}
 use Rattle.fwupd_watch.specs.Histories.{HasHistoryLinesIfAny}
 use Rattle.fwupd_watch.specs.Recordings.{RecordsRun}
 use Rattle.fwupd_watch.specs.Running.{UpdatesDevices}
@@ -8,7 +9,7 @@ use Rattle.fwupd_watch.proofs.running.update_all.Given as goal
 -- the ticks so far
 abbrev pub invariant-loop : goal.invariant-loop
 invariant-loop g l = record {
-  updates : UpdatesDevices l.number l.fn.world l.world l.counter;
+  updates : UpdatesDevices (number_for l.packages) l.fn.world l.world l.counter;
   devices : length l.links ≡ length l.world.sites;
   none : l.steps.items ≡ [];
   sent : AllSent (packet_counts l.fn.world.sites) (packet_counts l.world.sites) (map (λ k. (g.L.Link.tally k).sent) l.fn.links) (map (λ k. (g.L.Link.tally k).sent) l.links);

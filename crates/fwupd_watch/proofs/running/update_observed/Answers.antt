@@ -1,4 +1,5 @@
 use Rattle.std.proofs.Common.{refl, subst, sym, ◌∙◌}
+use Rattle.fwupd_base.specs.PackageChoices.{number_for}
 use Rattle.fwupd_watch.specs.Histories.{MayHaveHistoryLines}
 use Rattle.fwupd_watch.specs.Running.{RunsStepsSeen}
 use Rattle.fw_edge.specs.declared.driving.EdgeFault.TheVariants as edges
@@ -9,22 +10,22 @@ use Rattle.fwupd_watch.proofs.running.update_observed.Goals as goal
 
 pub returns-in-Err-clause-fault : goal.returns-in-Err-clause-fault
 returns-in-Err-clause-fault g c =
-    update_caused c.args.number _ _ _ _ c.in-Err.ensures.fault c.in-Err.ensures.step
+    update_caused (number_for c.args.packages.now) _ _ _ _ c.in-Err.ensures.fault c.in-Err.ensures.step
     (unwritten_still c.end-watched.result _ _ c.in-Err.fault c.in-Err.ensures.unwritten c.end-watched.ensures.first c.end-watched.ensures.err) c.end-watched.ensures.ended
 
 pub returns-in-Err-watched-clause-fault : goal.returns-in-Err-watched-clause-fault
 returns-in-Err-watched-clause-fault g c =
-    update_caused c.args.number _ _ _ _ c.observer_fault.ensures.ends (λ e. absurd (watched_apart c.in-Err-watched.fault edges.Step (sym c.observer_fault.ensures.told ∙ e)))
+    update_caused (number_for c.args.packages.now) _ _ _ _ c.observer_fault.ensures.ends (λ e. absurd (watched_apart c.in-Err-watched.fault edges.Step (sym c.observer_fault.ensures.told ∙ e)))
     (unwritten_by c.in-Err-watched.fault _ _ c.observer_fault.ensures.told c.in-Err-watched.ensures.err) c.end-watched.ensures.ended
 
 pub returns-in-Err-clause-sees : goal.returns-in-Err-clause-sees
-returns-in-Err-clause-sees g c none = subst (RunsStepsSeen c.args.number c.args.world.now c.update_all-end.new.world) (sym c.end-watched.ensures.seen) (c.update_all-end.ensures.sees none)
+returns-in-Err-clause-sees g c none = subst (RunsStepsSeen (number_for c.args.packages.now) c.args.world.now c.update_all-end.new.world) (sym c.end-watched.ensures.seen) (c.update_all-end.ensures.sees none)
 
 pub returns-in-Err-watched-clause-sees : goal.returns-in-Err-watched-clause-sees
-returns-in-Err-watched-clause-sees g c none = subst (RunsStepsSeen c.args.number c.args.world.now c.update_all-end.new.world) (sym c.end-watched.ensures.seen) (c.update_all-end.ensures.sees none)
+returns-in-Err-watched-clause-sees g c none = subst (RunsStepsSeen (number_for c.args.packages.now) c.args.world.now c.update_all-end.new.world) (sym c.end-watched.ensures.seen) (c.update_all-end.ensures.sees none)
 
 pub returns-in-Ok-watched-clause-sees : goal.returns-in-Ok-watched-clause-sees
-returns-in-Ok-watched-clause-sees g c none = subst (RunsStepsSeen c.args.number c.args.world.now c.update_all-end.new.world) (sym c.end-watched.ensures.seen) (c.update_all-end.ensures.sees none)
+returns-in-Ok-watched-clause-sees g c none = subst (RunsStepsSeen (number_for c.args.packages.now) c.args.world.now c.update_all-end.new.world) (sym c.end-watched.ensures.seen) (c.update_all-end.ensures.sees none)
 
 pub returns-in-Ok-watched-clause-recorded : goal.returns-in-Ok-watched-clause-recorded
 returns-in-Ok-watched-clause-recorded g c new =

@@ -1,6 +1,6 @@
 use Rattle.std.proofs.Common.{◌∙◌, ap, ap₂, refl}
 use Rattle.std.proofs.lemmas.Result.{IfOk-weaker}
-use Rattle.fwupd_words.specs.CommandLine.{agent, answer, build, device, inspect, is_plain, plan, replay, run, sel, soak, with_one}
+use Rattle.fwupd_words.specs.CommandLine.{agent, answer, build, decode, device, inspect, is_plain, plan, replay, run, sel, soak, with_one}
 use Rattle.fwupd_words.proofs.Lines.{then_one}
 use Rattle.fwupd_words.proofs.commands.command_with.Goals as goal
 
@@ -16,5 +16,6 @@ returns c =
     let to_build = then_one c.in_ok-command-7.command c.in_ok-build_command.field-0 c.in_ok-command-8.command _ build c.in_ok-command-8.ensures to_sel c.in_ok-build_command.ensures refl in
     let to_device = then_one c.in_ok-command-8.command c.in_ok-device_command.field-0 c.in_ok-command-9.command _ (device c.args.names) c.in_ok-command-9.ensures to_build c.in_ok-device_command.ensures refl in
     let to_agent = then_one c.in_ok-command-9.command c.in_ok-agent_command.field-0 c.in_ok-command-10.command _ (agent c.args.names) c.in_ok-command-10.ensures to_device c.in_ok-agent_command.ensures refl in
-    let plain = ap is_plain c.in_ok-decode_command.ensures in
-    IfOk-weaker c.with_one-11.result _ _ (λ whole is. is ∙ ap₂ with_one to_agent c.in_ok-decode_command.ensures) (c.with_one-11.ensures plain)
+    let to_decode = then_one c.in_ok-command-10.command c.in_ok-decode_command.field-0 c.in_ok-command-11.command _ (decode c.args.names) c.in_ok-command-11.ensures to_agent c.in_ok-decode_command.ensures refl in
+    let plain = ap is_plain c.in_ok-status_command.ensures in
+    IfOk-weaker c.with_one-12.result _ _ (λ whole is. is ∙ ap₂ with_one to_decode c.in_ok-status_command.ensures) (c.with_one-12.ensures plain)
