@@ -16,16 +16,16 @@ _fwupd() {
         *) case ${COMP_WORDS[1]}:$word in
             answer:-*) words="--uuid --serial --help" ;;
             inspect:-*) words="--digest --json --help" ;;
-            replay:-*) words="--trace --trace-format --sel --store --json --help" ;;
-            plan:-*) words="--package --store --json --help" ;;
-            run:-*) words="--package --device --check --quiet --trace --trace-format --sel --record --store --json --loss --duplicate --delay --seed --help" ;;
-            soak:-*) words="--runs --record --json --loss --duplicate --delay --seed --help" ;;
+            replay:-*) words="--trace --trace-format --sel --store --image --json --help" ;;
+            plan:-*) words="--package --store --image --json --help" ;;
+            run:-*) words="--package --device --check --quiet --trace --trace-format --sel --record --store --image --json --loss --duplicate --delay --seed --help" ;;
+            soak:-*) words="--runs --record --image --json --loss --duplicate --delay --seed --help" ;;
             sel:-*) words="--json --help" ;;
             build:-*) words="--json --help" ;;
-            device:-*) words="--auto --open --store --report --listen --take-over --tty --tick --ticks --trace --trace-format --record --help --listen --tty" ;;
+            device:-*) words="--auto --open --store --image --report --listen --take-over --tty --tick --ticks --trace --trace-format --record --help --listen --tty" ;;
             agent:-*) words="--auto --open --sel --store --report --connect --package --check --json --tty --tick --ticks --trace --trace-format --record --help --connect --tty" ;;
             decode:-*) words="--unit --json --help" ;;
-            status:-*) words="--store --json --help" ;;
+            status:-*) words="--store --image --json --help" ;;
         esac ;;
     esac
     if [[ $words ]]; then

@@ -1,6 +1,7 @@
 mod Answering
 mod DeviceSets
 mod Digits
+mod Images
 mod PackageChoices
 mod SerialLines
 mod Servers

@@ -1,6 +1,7 @@
 pub mod Answering
 pub mod Answers
 pub mod DeviceSets
+pub mod ImageFiles
 pub mod Inspection
 pub mod Lines
 pub mod PackageChoices

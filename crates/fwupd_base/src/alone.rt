@@ -1,10 +1,12 @@
 //! Nodes by themselves: a device or the agent, as a filter of lines.
 
+use crate::image_files::ConfigSource;
+
 /// A device by itself.
 #[derive(Clone, Copy)]
 pub struct DeviceAlone<'a> {
-    /// The path of the configuration.
-    pub config: &'a str,
+    /// The configuration.
+    pub config: ConfigSource<'a>,
     /// The device's endpoint identifier, 8 to 254.
     pub eid: u8,
     /// Whether the verdict that the device waits for is given at the end of each turn.

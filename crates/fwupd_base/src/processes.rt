@@ -1,6 +1,7 @@
 //! Nodes as processes: a device or the agent, joined to its peers by sockets or a serial line.
 
 use crate::forms::{Form, TraceForm};
+use crate::image_files::ConfigSource;
 
 /// What joins the process of a node to its peers.
 #[derive(Clone, Copy)]
@@ -38,8 +39,8 @@ pub struct Watching<'a> {
 /// A device as a process.
 #[derive(Clone, Copy)]
 pub struct DeviceProcess<'a> {
-    /// The path of the configuration.
-    pub config: &'a str,
+    /// The configuration.
+    pub config: ConfigSource<'a>,
     /// The device's endpoint identifier, 8 to 254.
     pub eid: u8,
     /// The folder of the devices' stores, if the device's images persist.

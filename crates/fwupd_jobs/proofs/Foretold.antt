@@ -3,7 +3,6 @@ use Rattle.std.proofs.Common.{◌≡◌, ◌≤◌, ◌<◌, ◌∙◌, ◌⊎�
 use Rattle.std.specs.Prelude.{IsSomeAnd, string_bytes}
 use Rattle.fw_package.specs.Package.{PackageText}
 use Rattle.fw_package.specs.Reading.{package_of}
-use Rattle.fw_script.specs.Configs.{config_of}
 use Rattle.fw_script.specs.Seen.{config_seen, device_of}
 use Rattle.fw_script.specs.declared.config.Config.{Config}
 use Rattle.fw_script.specs.declared.config.DeviceConfig.{DeviceConfig}
@@ -12,7 +11,7 @@ use Rattle.fw_json.specs.Forms.{plan_in}
 use Rattle.fwupd_base.specs.declared.forms.Form.{Form}
 use Rattle.fwupd_watch.specs.Outputs.{FailsToWriteOutput, OutputOf}
 use Rattle.fwupd_jobs.specs.Planned.{Forecasts, PlanEnds}
-use Rattle.fwupd_nodes.specs.Setups.{AreDevices, ArePackages, ArePacked, Says, SourceOf, TellsUnopened}
+use Rattle.fwupd_nodes.specs.Setups.{AreDevices, ArePackages, ArePacked, IsConfigured, SourceOf, TellsUnopened}
 use Rattle.fwupd_watch.specs.Files.{FileOf}
 use Rattle.fwupd_watch.specs.declared.faults.JobFault.{JobFault}
 use Rattle.fwupd_watch.specs.declared.faults.JobFault.TheVariants as faults
@@ -21,7 +20,7 @@ use Rattle.fwupd_nodes.proofs.Packed.{as_many, named_there, packages_so, through
 
 -- The text of a package among those of a configuration, for the devices with their stored images.
 pub foretold : (files : List ℕ → FileOf) (source : SourceOf) (number : ℕ) (form : Form) (config : Config) (names : List (String Global)) (contents slice : List (Vec ℕ Global)) (ps lent : List PackageText)
-    (p : PackageText) (stocked devices : List DeviceConfig) (text : List ℕ) → Says config_of (files source.path) (config_seen config) → names ≡ config.packages.items
+    (p : PackageText) (stocked devices : List DeviceConfig) (text : List ℕ) → IsConfigured files source.config (config_seen config) → names ≡ config.packages.items
     → ArePacked files (map (λ q. string_bytes q) names) (map (λ f. f.items) contents) → slice ≡ contents → map (λ q. Ok q) ps ≡ map (λ f. package_of f.items) slice
     → lent ≡ ps → p ≡ package_at lent number → 1 ≤ number → number ≤ length lent → AreDevices source.stores (map device_of config.devices.items) (map device_of stocked) → devices ≡ stocked
     → text ≡ plan_in form number p (map device_of devices) → Forecasts files source number form text
@@ -57,7 +56,7 @@ package_there files number count names contents slice ps lent packed same read a
 
 -- The store of a device can't be read.
 pub lacks_images : (files : List ℕ → FileOf) (source : SourceOf) (number : ℕ) (form : Form) (config : Config) (names : List (String Global)) (ps : List PackageText) (told : JobFault) (before : OutputOf)
-    → Says config_of (files source.path) (config_seen config) → names ≡ config.packages.items → ArePackages files (map (λ q. string_bytes q) config.packages.items) ps → 1 ≤ number → number ≤ length names
+    → IsConfigured files source.config (config_seen config) → names ≡ config.packages.items → ArePackages files (map (λ q. string_bytes q) config.packages.items) ps → 1 ≤ number → number ≤ length names
     → (told ≡ faults.Memory) ⊎ IsSomeAnd source.stores (λ s. TellsUnopened s (map device_of config.devices.items) told) → PlanEnds files source number form told before before
 lacks_images files source number form config names ps told before says named are counted there (inl e) = inr (inl e, refl)
 lacks_images files source number form config names ps told before says named are counted there (inr u) = inr (

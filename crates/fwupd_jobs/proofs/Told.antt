@@ -4,7 +4,7 @@ use Rattle.std.specs.Prelude.{IfSome, string_bytes}
 use Rattle.std.proofs.lemmas.List.{take_all}
 use Rattle.fw_json.specs.Forms.{report_in}
 use Rattle.fwupd_base.specs.declared.forms.Form.{Form}
-use Rattle.fw_script.specs.Configs.{ConfigOf, DeviceConfigOf, config_of}
+use Rattle.fw_script.specs.Configs.{ConfigOf, DeviceConfigOf}
 use Rattle.fw_script.specs.Schedules.{script_of}
 use Rattle.fw_script.specs.Seen.{config_seen, device_of}
 use Rattle.fw_script.specs.declared.config.Config.{Config}
@@ -25,7 +25,8 @@ use Rattle.fwupd_jobs.specs.Updated.{DrivingEnds, IsPromisedUpdate, IsUnlinked, 
 use Rattle.fwupd_watch.specs.Apart.{IsApart, IsBarred}
 use Rattle.fwupd_watch.specs.Running.{IsBrokenRun, ShowOf, RunsSteps, RunsStepsSeen, ObserverOf, shown_of, starts_of, job_fault_of_observer}
 use Rattle.fwupd_watch.specs.Files.{FileOf}
-use Rattle.fwupd_nodes.specs.Setups.{AreChosen, ChoiceFails, ChosenSetupFails, ChosenStoresFail, IsSetup, LacksChosen, LacksChosenPackage, PackagesFail, Says, SourceOf, StoresFail, TellsStore, TextFails, chosen_in, have_packages}
+use Rattle.fwupd_watch.specs.Inputs.{inputs_of}
+use Rattle.fwupd_nodes.specs.Setups.{AreChosen, ChoiceFails, ChosenSetupFails, ChosenStoresFail, IsConfigured, IsSetup, LacksChosen, LacksChosenPackage, PackagesFail, Says, SourceOf, StoresFail, TellsStore, TextFails, chosen_in, have_packages}
 use Rattle.fwupd_jobs.proofs.Numbered.{numbered_in}
 use Rattle.fw_edge.specs.declared.driving.EdgeFault.TheVariants as edges
 use Rattle.fwupd_watch.specs.declared.faults.JobFault.{JobFault}
@@ -78,7 +79,7 @@ unopened : (files : List ℕ → FileOf) (source : SourceOf) (numbers : ℕ → 
     → (told ≡ faults.Memory)
     ⊎ (ChosenSetupFails files source numbers told
     ⊎ (((told ≡ faults.NoPackage) × LacksChosenPackage files source numbers)
-    ⊎ (ChosenStoresFail files source told ⊎ (LacksTrace files source numbers show refuses told watched ⊎ (LacksLink files source numbers show lacks told ⊎ LacksChosen files source told)))))
+    ⊎ (ChosenStoresFail files source numbers told ⊎ (LacksTrace files source numbers show refuses told watched ⊎ (LacksLink files source numbers show lacks told ⊎ LacksChosen files source told)))))
 unopened files source numbers show refuses lacks w told watched begins (inl e) = inl e
 unopened files source numbers show refuses lacks w told watched begins (inr u) =
     inr (inr (inr (inr (inr (inl (record { world = w; begins = begins; unlinked = u }))))))
@@ -97,7 +98,7 @@ update_ends files source numbers show refuses lacks w v told watched before now 
 
 -- a chosen device is missing, or has no package of its number
 pub choice_end : (files : List ℕ → FileOf) (source : SourceOf) (numbers : ℕ → ℕ) (show : ShowOf) (refuses : List ℕ → Bool) (lacks : ℕ → Bool) (told : JobFault) (watched : ObserverOf) (before : OutputOf) (config : Config) (count : ℕ)
-    → Says config_of (files source.path) (config_seen config) → count ≡ config.packages.len → ChoiceFails source.chosen numbers count (map device_of config.devices.items) told
+    → IsConfigured files source.config (config_seen config) → count ≡ config.packages.len → ChoiceFails source.chosen numbers count (map device_of config.devices.items) told
     → UpdateEnds files source numbers show refuses lacks told watched before before
 choice_end files source numbers show refuses lacks told watched before config count says is (inl missing) =
     inr (inr (inr (inr (inr (inr (inr (inr (record { config = config_seen config; says = says; missing = missing })))))), refl))
@@ -118,7 +119,7 @@ choice_end files source numbers show refuses lacks told watched before config co
 
 -- a package can't be read
 pub packages_end : (files : List ℕ → FileOf) (source : SourceOf) (numbers : ℕ → ℕ) (show : ShowOf) (refuses : List ℕ → Bool) (lacks : ℕ → Bool) (told : JobFault) (watched : ObserverOf) (before : OutputOf) (config : Config) (count : ℕ)
-    (picked : List DeviceConfigOf) (slice : List (String Global)) → Says config_of (files source.path) (config_seen config) → AreChosen source.chosen (map device_of config.devices.items) picked → count ≡ config.packages.len
+    (picked : List DeviceConfigOf) (slice : List (String Global)) → IsConfigured files source.config (config_seen config) → AreChosen source.chosen (map device_of config.devices.items) picked → count ≡ config.packages.len
     → have_packages numbers count picked ≡ true → slice ≡ config.packages.items → (told ≡ faults.Memory) ⊎ PackagesFail files (map (λ q. string_bytes q) slice) told
     → UpdateEnds files source numbers show refuses lacks told watched before before
 packages_end files source numbers show refuses lacks told watched before config count picked slice says pick is numbered same (inl e) = inr (inr (inl e, refl))
@@ -136,7 +137,7 @@ packages_end files source numbers show refuses lacks told watched before config 
 
 -- the store of a device can't be opened
 pub stores_end : (files : List ℕ → FileOf) (source : SourceOf) (numbers : ℕ → ℕ) (show : ShowOf) (refuses : List ℕ → Bool) (lacks : ℕ → Bool) (told : JobFault) (watched : ObserverOf) (before : OutputOf)
-    → (told ≡ faults.Memory) ⊎ ChosenStoresFail files source told → UpdateEnds files source numbers show refuses lacks told watched before before
+    → (told ≡ faults.Memory) ⊎ ChosenStoresFail files source numbers told → UpdateEnds files source numbers show refuses lacks told watched before before
 stores_end files source numbers show refuses lacks told watched before (inl e) = inr (inr (inl e, refl))
 stores_end files source numbers show refuses lacks told watched before (inr h) = inr (inr (inr (inr (inr (inl h))), refl))
 
@@ -147,7 +148,7 @@ stores_end_replay files config schedule show refuses told watched before (inr h)
 
 -- a package can't be read
 pub packages_end_replay : (files : List ℕ → FileOf) (config : SourceOf) (schedule : List ℕ) (show : ShowOf) (refuses : List ℕ → Bool) (told : JobFault) (watched : ObserverOf) (before : OutputOf) (c : ConfigOf) (paths : List (List ℕ))
-    → Says config_of (files config.path) c → paths ≡ c.packages → (told ≡ faults.Memory) ⊎ PackagesFail files paths told → ReplayEnds files config schedule show refuses told watched before before
+    → IsConfigured files config.config c → paths ≡ c.packages → (told ≡ faults.Memory) ⊎ PackagesFail files paths told → ReplayEnds files config schedule show refuses told watched before before
 packages_end_replay files config schedule show refuses told watched before c paths says are (inl e) = inr (inr (inl (inl e, refl)))
 packages_end_replay files config schedule show refuses told watched before c paths says are (inr h) =
     inr (inr (inl (inr (inl (inr (record { config = c; says = says; fail = subst (λ ps. PackagesFail files ps told) are h }))), refl)))
@@ -183,10 +184,10 @@ schedule_ends files config schedule show refuses w told watched before setup (in
 
 -- a replay whose observer doesn't begin
 pub unkept_ends : (files : List ℕ → FileOf) (config : SourceOf) (schedule : List ℕ) (show : ShowOf) (refuses : List ℕ → Bool) (told : JobFault) (watched : ObserverOf) (before : OutputOf) (c : ConfigOf) (paths : List (List ℕ))
-    → Says config_of (files config.path) c → paths ≡ c.packages → (told ≡ faults.Memory) ⊎ IsBarred files refuses show (schedule ∷ config.path ∷ paths) told watched → ReplayEnds files config schedule show refuses told watched before before
+    → IsConfigured files config.config c → paths ≡ c.packages → (told ≡ faults.Memory) ⊎ IsBarred files refuses show (schedule ∷ inputs_of config.config paths) told watched → ReplayEnds files config schedule show refuses told watched before before
 unkept_ends files config schedule show refuses told watched before c paths says same (inl e) = inr (inr (inl (inl e, refl)))
 unkept_ends files config schedule show refuses told watched before c paths says same (inr b) =
-    inr (inr (inr (inr (record { says = c; is = says; barred = subst (λ ps. IsBarred files refuses show (schedule ∷ config.path ∷ ps) told watched) same b }, refl))))
+    inr (inr (inr (inr (record { says = c; is = says; barred = subst (λ ps. IsBarred files refuses show (schedule ∷ inputs_of config.config ps) told watched) same b }, refl))))
 
 -- a replay whose report is written, and whose observer had a fault
 pub unseen_ends : (files : List ℕ → FileOf) (config : SourceOf) (schedule : List ℕ) (show : ShowOf) (refuses : List ℕ → Bool) (fault : ObserverFault) (told : JobFault) (watched : ObserverOf) (before now : OutputOf)
@@ -196,11 +197,11 @@ unseen_ends files config schedule show refuses fault told watched before now rep
 
 -- and one whose observer had none
 pub seen_ends : (files : List ℕ → FileOf) (config : SourceOf) (schedule : List ℕ) (show : ShowOf) (watched : ObserverOf) (before now : OutputOf) (c : ConfigOf) (paths : List (List ℕ))
-    → Says config_of (files config.path) c → paths ≡ c.packages → IsApart files show (schedule ∷ config.path ∷ paths) → watched.shows ≡ shown_of show → watched.fault ≡ None → watched.has_ended ≡ true
+    → IsConfigured files config.config c → paths ≡ c.packages → IsApart files show (schedule ∷ inputs_of config.config paths) → watched.shows ≡ shown_of show → watched.fault ≡ None → watched.has_ended ≡ true
     → Reports files config schedule show.form None before now → ReportsReplay files config schedule show watched before now
 seen_ends files config schedule show watched before now c paths says same apart shown seen ended reports = record {
   reports = reports;
-  apart = record { says = c; is = says; apart = subst (λ ps. IsApart files show (schedule ∷ config.path ∷ ps)) same apart };
+  apart = record { says = c; is = says; apart = subst (λ ps. IsApart files show (schedule ∷ inputs_of config.config ps)) same apart };
   shown = shown;
   seen = seen;
   let_end = ended;

@@ -57,10 +57,10 @@ clue_to_store job device why = None
 -- a job that reads a package, or those of a configuration
 abbrev pub clue_to_package : Job → Option ClueOf
 clue_to_package (jobs.Inspect path form digested) = Some (ClueOf.NotAPackage path.now)
-clue_to_package (jobs.Replay r) = Some (ClueOf.NoPackage r.config.now)
-clue_to_package (jobs.Run u) = Some (ClueOf.NoPackage u.config.now)
-clue_to_package (jobs.Soak s) = Some (ClueOf.NoPackage s.config.now)
-clue_to_package (jobs.Plan p) = Some (ClueOf.NoPackage p.config.now)
+clue_to_package (jobs.Replay r) = Some (ClueOf.NoPackage r.config.path.now)
+clue_to_package (jobs.Run u) = Some (ClueOf.NoPackage u.config.path.now)
+clue_to_package (jobs.Soak s) = Some (ClueOf.NoPackage s.config.path.now)
+clue_to_package (jobs.Plan p) = Some (ClueOf.NoPackage p.config.path.now)
 clue_to_package job = None
 
 abbrev pub clue_to_step : Job → (number : ℕ) → Option ClueOf

@@ -1,5 +1,5 @@
 -- The result of each job that arguments request.
-use Rattle.std.specs.Prelude.{ℕ, ◌≡◌, ◌≢◌, ◌⊎◌, true, false, Bool, Err, List, None, Ok, Option, option_map}
+use Rattle.std.specs.Prelude.{ℕ, ◌≡◌, ◌≢◌, ◌⊎◌, true, false, Err, List, None, Ok, Option, option_map}
 use Rattle.clap.specs.Values.{kind_of}
 use Rattle.clap.specs.Words.{App}
 use Rattle.clap.specs.declared.error.Error.{Error}
@@ -18,12 +18,13 @@ use Rattle.fwupd_jobs.specs.Planned.{PlanEnds, Plans}
 use Rattle.fwupd_nodes.specs.Processes.{AgentProcessEnds, DeviceProcessEnds, RunsAgent, RunsDevice}
 use Rattle.fwupd_jobs.specs.Replayed.{ReplayEnds, ReportsReplay}
 use Rattle.fwupd_watch.specs.Running.{ObserverOf, show_of}
-use Rattle.fwupd_watch.specs.Files.{FileOf, any_file}
+use Rattle.fwupd_watch.specs.Files.{any_file}
 use Rattle.fwupd_nodes.specs.Hosts.{FoundOf, LeftOf}
 use Rattle.fwupd_nodes.specs.Setups.{any_stores, source_of}
 use Rattle.fwupd_jobs.specs.Soaked.{SoakEnds, SoaksClean}
 use Rattle.fwupd_jobs.specs.Statuses.{PrintsStatus, StatusEnds}
 use Rattle.fw_json.specs.Digests.{digested_in}
+use Rattle.fwupd_base.specs.ImageFiles.{config_source}
 use Rattle.fwupd_base.specs.declared.forms.Form.TheVariants as forms
 use Rattle.fwupd_words.specs.CommandLine.{IsCommandLine}
 use Rattle.fwupd_words.specs.Reading.{ReadsWords}
@@ -40,7 +41,7 @@ abbrev pub IsBuildDone : BuildOutput → (spec : List ℕ) → FoundOf → LeftO
 IsBuildDone (targets.File file) spec h l = Builds h.files spec h.is_known (l.held file.now) × (l.output ≡ h.output)
 IsBuildDone (targets.ToldFile file) spec h l =
     Builds h.files spec h.is_known (l.held file.now) × Inspects (h.files file.now) (digested_in forms.Json) h.output l.output
-IsBuildDone targets.Standard spec h l = PrintsPackage h.files spec h.output l.output
+IsBuildDone targets.Standard spec h l = PrintsPackage h.files spec h.output l.output × (l.held ≡ h.held)
 
 -- It isn't built, and nothing is at a place or written; or it is, and what its file holds isn't
 -- written.
@@ -57,19 +58,19 @@ IsDone (jobs.Answer endpoint) h l = AnswersAll endpoint h.input l.input h.output
 IsDone (jobs.AnswerSerial endpoint) h l = AnswersSerial endpoint (streams_found h) (streams_left l)
 IsDone (jobs.Inspect path form digested) h l = Inspects (h.files path.now) (inspection_for digested form) h.output l.output
 IsDone (jobs.Replay r) h l =
-    ReportsReplay h.files (source_of h.stores (option_map (λ p. p.now) r.show.store) r.config.now) r.schedule.now (show_of r.show) l.watched h.output l.output
+    ReportsReplay h.files (source_of h.stores (option_map (λ p. p.now) r.show.store) (config_source r.config)) r.schedule.now (show_of r.show) l.watched h.output l.output
 IsDone (jobs.Run u) h l =
-    ReportsChecked h.files (source_of h.stores (option_map (λ p. p.now) u.show.store) u.config.now) u.order (show_of u.show) l.watched h.output l.output
+    ReportsChecked h.files (source_of h.stores (option_map (λ p. p.now) u.show.store) (config_source u.config)) u.order (show_of u.show) l.watched h.output l.output
 IsDone (jobs.Build spec output) h l = IsBuildDone output spec.now h l
 IsDone (jobs.Sel path form) h l = ReportsLog (h.files path.now) form h.output l.output
-IsDone (jobs.Soak s) h l = SoaksClean h.files s.config.now s.order s.form (option_map (λ p. p.now) s.record) h.output l.output
+IsDone (jobs.Soak s) h l = SoaksClean h.files (config_source s.config) s.order s.form (option_map (λ p. p.now) s.record) h.output l.output
 IsDone (jobs.Device d) h l = ServesDevice d h l
 IsDone (jobs.Agent a) h l = ServesAgent a h l
 IsDone (jobs.DeviceProcess d) h l = RunsDevice d h.files h.stores h.output l.output
 IsDone (jobs.AgentProcess a) h l = RunsAgent a h.files h.agent_store h.output (record { is_known = h.is_known; held = l.held; output = l.output })
 IsDone (jobs.Decode file unit form) h l = Decodes h.files (option_map (λ p. p.now) file) unit form h.input l.input h.output l.output
-IsDone (jobs.Plan p) h l = Plans h.files (source_of h.stores (option_map (λ q. q.now) p.store) p.config.now) p.number p.form h.output l.output
-IsDone (jobs.Status s) h l = PrintsStatus h.files (source_of h.stores (option_map (λ q. q.now) s.store) s.config.now) s.form h.output l.output
+IsDone (jobs.Plan p) h l = Plans h.files (source_of h.stores (option_map (λ q. q.now) p.store) (config_source p.config)) p.number p.form h.output l.output
+IsDone (jobs.Status s) h l = PrintsStatus h.files (source_of h.stores (option_map (λ q. q.now) s.store) (config_source s.config)) s.form h.output l.output
 
 -- The result of a job that isn't done.
 abbrev pub JobEnds : Job → JobFault → FoundOf → LeftOf → Type 0
@@ -77,13 +78,13 @@ JobEnds (jobs.Answer endpoint) told h l = AnswerEnds endpoint h.input l.input to
 JobEnds (jobs.AnswerSerial endpoint) told h l = SerialEnds endpoint told (streams_found h) (streams_left l)
 JobEnds (jobs.Inspect path form digested) told h l = InspectEnds h.files path.now (inspection_for digested form) told h.output l.output
 JobEnds (jobs.Replay r) told h l =
-    ReplayEnds h.files (source_of h.stores (option_map (λ p. p.now) r.show.store) r.config.now) r.schedule.now (show_of r.show) h.refuses told l.watched h.output l.output
+    ReplayEnds h.files (source_of h.stores (option_map (λ p. p.now) r.show.store) (config_source r.config)) r.schedule.now (show_of r.show) h.refuses told l.watched h.output l.output
 JobEnds (jobs.Run u) told h l =
-    CheckedEnds h.files (source_of h.stores (option_map (λ p. p.now) u.show.store) u.config.now) u.order (show_of u.show) h.refuses (h.lacks u.folder.now) told l.watched h.output l.output
+    CheckedEnds h.files (source_of h.stores (option_map (λ p. p.now) u.show.store) (config_source u.config)) u.order (show_of u.show) h.refuses (h.lacks u.folder.now) told l.watched h.output l.output
 JobEnds (jobs.Build spec output) told h l = IsBuildUndone output spec.now told h l
 JobEnds (jobs.Sel path form) told h l = LogEnds h.files path.now form told h.output l.output
 JobEnds (jobs.Soak s) told h l =
-    SoakEnds h.files s.config.now s.order s.form (option_map (λ p. p.now) s.record) told h.is_known l.held h.output l.output × (told ≢ faults.Violation → l.held ≡ h.held)
+    SoakEnds h.files (config_source s.config) s.order s.form (option_map (λ p. p.now) s.record) told h.is_known l.held h.output l.output × (told ≢ faults.Violation → l.held ≡ h.held)
 JobEnds (jobs.Device d) told h l = DeviceEnds d told h l
 JobEnds (jobs.Agent a) told h l = AgentEnds a told h l
 JobEnds (jobs.DeviceProcess d) told h l = DeviceProcessEnds d told h.files h.stores h.output l.output
@@ -91,9 +92,9 @@ JobEnds (jobs.AgentProcess a) told h l =
     AgentProcessEnds a told h.files h.agent_store h.output (record { is_known = h.is_known; held = l.held; output = l.output })
 JobEnds (jobs.Decode file unit form) told h l = DecodeEnds h.files (option_map (λ p. p.now) file) unit form h.input l.input told h.output l.output
 JobEnds (jobs.Plan p) told h l =
-    PlanEnds h.files (source_of h.stores (option_map (λ q. q.now) p.store) p.config.now) p.number p.form told h.output l.output
+    PlanEnds h.files (source_of h.stores (option_map (λ q. q.now) p.store) (config_source p.config)) p.number p.form told h.output l.output
 JobEnds (jobs.Status s) told h l =
-    StatusEnds h.files (source_of h.stores (option_map (λ q. q.now) s.store) s.config.now) s.form told h.output l.output
+    StatusEnds h.files (source_of h.stores (option_map (λ q. q.now) s.store) (config_source s.config)) s.form told h.output l.output
 
 -- A job isn't done. The exit status is that of its fault, for which this holds.
 pub record IsUndone (status : ℕ) (job : Job) (found : FoundOf) (left : LeftOf) : Type 0 where

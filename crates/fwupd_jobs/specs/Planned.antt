@@ -1,12 +1,12 @@
 -- The output of the plan of an update.
 use Rattle.std.specs.Prelude.{ℕ, ◌≡◌, ◌≤◌, ◌⊎◌, List, length}
 use Rattle.fw_package.specs.Package.{PackageText}
-use Rattle.fw_script.specs.Configs.{ConfigOf, DeviceConfigOf, config_of}
+use Rattle.fw_script.specs.Configs.{ConfigOf, DeviceConfigOf}
 use Rattle.ua_core.specs.Lent.{package_at}
 use Rattle.fw_json.specs.Forms.{plan_in}
 use Rattle.fwupd_base.specs.declared.forms.Form.{Form}
 use Rattle.fwupd_watch.specs.Outputs.{FailsToWriteOutput, OutputOf, WritesOutput}
-use Rattle.fwupd_nodes.specs.Setups.{AreDevices, ArePackages, LacksPackage, NumberedSetupFails, Says, SourceOf, StoresFail}
+use Rattle.fwupd_nodes.specs.Setups.{AreDevices, ArePackages, IsConfigured, LacksPackage, NumberedSetupFails, SourceOf, StoresFail}
 use Rattle.fwupd_watch.specs.Files.{FileOf}
 use Rattle.fwupd_watch.specs.declared.faults.JobFault.{JobFault}
 use Rattle.fwupd_watch.specs.declared.faults.JobFault.TheVariants as faults
@@ -17,7 +17,7 @@ pub record Forecasts (files : List ℕ → FileOf) (source : SourceOf) (number :
   pub config : ConfigOf
   pub packages : List PackageText
   pub devices : List DeviceConfigOf
-  pub says : Says config_of (files source.path) config
+  pub says : IsConfigured files source.config config
   pub are : ArePackages files config.packages packages
   pub counted : 1 ≤ number
   pub there : number ≤ length packages
@@ -48,8 +48,8 @@ pub record LacksImages (files : List ℕ → FileOf) (source : SourceOf) (number
 abbrev pub LacksPlan : (files : List ℕ → FileOf) (source : SourceOf) (number : ℕ) (told : JobFault) → Type 0
 LacksPlan files source number told =
     (told ≡ faults.Memory)
-    ⊎ (NumberedSetupFails files source.path number told
-    ⊎ (((told ≡ faults.NoPackage) × LacksPackage files source.path number) ⊎ LacksImages files source number told))
+    ⊎ (NumberedSetupFails files source.config number told
+    ⊎ (((told ≡ faults.NoPackage) × LacksPackage files source.config number) ⊎ LacksImages files source number told))
 
 -- The result of a plan that failed. If writing didn't fail, nothing is written.
 abbrev pub PlanEnds : (files : List ℕ → FileOf) (source : SourceOf) (number : ℕ) (form : Form) (told : JobFault) (before now : OutputOf) → Type 0

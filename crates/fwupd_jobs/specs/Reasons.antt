@@ -1,10 +1,12 @@
 -- What is wrong with a line of a configuration, a schedule or a package's description, or with a
--- store, in words.
+-- store, and why a file can't be written, in words.
 use Rattle.std.specs.Prelude.{ℕ, List, codes}
 use Rattle.fw_script.specs.declared.faults.ScriptCause.{ScriptCause}
 use Rattle.fw_script.specs.declared.faults.ScriptCause.TheVariants as causes
 use Rattle.fw_store.specs.declared.faults.OpenFault.{OpenFault}
 use Rattle.fw_store.specs.declared.faults.OpenFault.TheVariants as stores
+use Rattle.fwupd_jobs.specs.declared.unwritten.Unwritten.{Unwritten}
+use Rattle.fwupd_jobs.specs.declared.unwritten.Unwritten.TheVariants as files
 
 abbrev pub reason_of : ScriptCause → List ℕ
 reason_of causes.Directive = codes "no line of this format begins with this word"
@@ -23,3 +25,10 @@ reason_of_store stores.Damaged = codes "'active' there isn't as it was written, 
 reason_of_store stores.Foreign = codes "what it keeps is of components, devices or packages that CONFIG lacks"
 reason_of_store stores.Unreadable = codes "it can't be read, or can't be made"
 reason_of_store stores.Memory = codes "memory was refused"
+
+abbrev pub reason_of_unwritten : Unwritten → List ℕ
+reason_of_unwritten files.NotPlain = codes "it is no plain file"
+reason_of_unwritten files.Dangling = codes "it is a link to no file"
+reason_of_unwritten files.Another = codes "it is another file of this command, too"
+reason_of_unwritten files.InStore = codes "it is in the folder of --store"
+reason_of_unwritten files.Unknown = codes "writing failed, and its disk may be full"

@@ -1,6 +1,6 @@
 -- The world after a replay, and the output of a replay.
 use Rattle.std.specs.Prelude.{ℕ, ◌≡◌, ◌<◌, ◌+◌, ◌⊎◌, Bool, true, IfSome, List, ◌∷◌, Option, Some, None, length, slice_get, take}
-use Rattle.fw_script.specs.Configs.{ConfigOf, config_of}
+use Rattle.fw_script.specs.Configs.{ConfigOf}
 use Rattle.fw_script.specs.Schedules.{script_of}
 use Rattle.fw_json.specs.Forms.{report_in}
 use Rattle.fwupd_base.specs.declared.forms.Form.{Form}
@@ -17,7 +17,8 @@ use Rattle.fwupd_jobs.specs.Promises.{IsPromisedRun}
 use Rattle.fwupd_watch.specs.Apart.{IsApart, IsBarred}
 use Rattle.fwupd_watch.specs.Running.{ShowOf, ObserverOf, shown_of, job_fault_of_observer}
 use Rattle.fwupd_watch.specs.Files.{FileOf}
-use Rattle.fwupd_nodes.specs.Setups.{IsSetup, Says, SetupFails, SourceOf, StoresFail, TextFails}
+use Rattle.fwupd_watch.specs.Inputs.{inputs_of}
+use Rattle.fwupd_nodes.specs.Setups.{IsConfigured, IsSetup, Says, SetupFails, SourceOf, StoresFail, TextFails}
 use Rattle.fwupd_watch.specs.declared.running.ObserverFault.{ObserverFault}
 use Rattle.fwupd_watch.specs.declared.faults.JobFault.{JobFault}
 use Rattle.fwupd_watch.specs.declared.faults.JobFault.TheVariants as faults
@@ -88,8 +89,8 @@ pub record ScheduleFails (files : List ℕ → FileOf) (config : SourceOf) (sche
 -- No output of the observer overwrites a file that the replay reads.
 pub record IsReplayApart (files : List ℕ → FileOf) (config : SourceOf) (schedule : List ℕ) (show : ShowOf) : Type 0 where
   pub says : ConfigOf
-  pub is : Says config_of (files config.path) says
-  pub apart : IsApart files show (schedule ∷ config.path ∷ says.packages)
+  pub is : IsConfigured files config.config says
+  pub apart : IsApart files show (schedule ∷ inputs_of config.config says.packages)
 
 -- The report is written. The observer showed the requested outputs, had no fault, and has ended.
 pub record ReportsReplay (files : List ℕ → FileOf) (config : SourceOf) (schedule : List ℕ) (show : ShowOf) (watched : ObserverOf) (before now : OutputOf) : Type 0 where
@@ -111,14 +112,14 @@ pub record ReportsUnseen (files : List ℕ → FileOf) (config : SourceOf) (sche
 -- refused.
 pub record LacksKept (files : List ℕ → FileOf) (config : SourceOf) (schedule : List ℕ) (show : ShowOf) (refuses : List ℕ → Bool) (told : JobFault) (watched : ObserverOf) : Type 0 where
   pub says : ConfigOf
-  pub is : Says config_of (files config.path) says
-  pub barred : IsBarred files refuses show (schedule ∷ config.path ∷ says.packages) told watched
+  pub is : IsConfigured files config.config says
+  pub barred : IsBarred files refuses show (schedule ∷ inputs_of config.config says.packages) told watched
 
 -- Nothing is replayed: memory was refused, or one of the inputs, the first in their order, is
 -- faulty, or a device's store is.
 abbrev pub StopsBefore : (files : List ℕ → FileOf) (config : SourceOf) (schedule : List ℕ) (told : JobFault) → Type 0
 StopsBefore files config schedule told =
-    (told ≡ faults.Memory) ⊎ (SetupFails files config.path told ⊎ (StoresFail files config told ⊎ ScheduleFails files config schedule told))
+    (told ≡ faults.Memory) ⊎ (SetupFails files config.config told ⊎ (StoresFail files config told ⊎ ScheduleFails files config schedule told))
 
 -- The result of a replay that failed. If nothing is replayed, nothing is written.
 abbrev pub ReplayEnds : (files : List ℕ → FileOf) (config : SourceOf) (schedule : List ℕ) (show : ShowOf) (refuses : List ℕ → Bool) (told : JobFault) (watched : ObserverOf) (before now : OutputOf) → Type 0

@@ -1,10 +1,10 @@
 -- The output of what runs on devices.
 use Rattle.std.specs.Prelude.{ℕ, ◌≡◌, ◌⊎◌, IsSomeAnd, List}
-use Rattle.fw_script.specs.Configs.{ConfigOf, DeviceConfigOf, config_of}
+use Rattle.fw_script.specs.Configs.{ConfigOf, DeviceConfigOf}
 use Rattle.fw_json.specs.Statuses.{status_in}
 use Rattle.fwupd_base.specs.declared.forms.Form.{Form}
 use Rattle.fwupd_watch.specs.Outputs.{FailsToWriteOutput, OutputOf, WritesOutput}
-use Rattle.fwupd_nodes.specs.Setups.{AreDevices, Says, SourceOf, TellsUnopened, TextFails}
+use Rattle.fwupd_nodes.specs.Setups.{AreDevices, ConfigFails, IsConfigured, SourceOf, TellsUnopened}
 use Rattle.fwupd_watch.specs.Files.{FileOf}
 use Rattle.fwupd_watch.specs.declared.faults.JobFault.{JobFault}
 use Rattle.fwupd_watch.specs.declared.faults.JobFault.TheVariants as faults
@@ -14,7 +14,7 @@ use Rattle.fwupd_watch.specs.declared.faults.JobFault.TheVariants as faults
 pub record IsStatus (files : List ℕ → FileOf) (source : SourceOf) (form : Form) (text : List ℕ) : Type 0 where
   pub config : ConfigOf
   pub devices : List DeviceConfigOf
-  pub says : Says config_of (files source.path) config
+  pub says : IsConfigured files source.config config
   pub stocked : AreDevices source.stores config.devices devices
   pub is : text ≡ status_in form devices
 
@@ -34,7 +34,7 @@ pub record BreaksStatus (files : List ℕ → FileOf) (source : SourceOf) (form 
 -- The configuration is right, and the store of a device can't be read.
 pub record LacksStock (files : List ℕ → FileOf) (source : SourceOf) (told : JobFault) : Type 0 where
   pub config : ConfigOf
-  pub says : Says config_of (files source.path) config
+  pub says : IsConfigured files source.config config
   pub unopened : IsSomeAnd source.stores (λ s. TellsUnopened s config.devices told)
 
 -- The result if that failed. If writing didn't fail, nothing is written, and memory was refused, or
@@ -42,4 +42,4 @@ pub record LacksStock (files : List ℕ → FileOf) (source : SourceOf) (told : 
 abbrev pub StatusEnds : (files : List ℕ → FileOf) (source : SourceOf) (form : Form) (told : JobFault) (before now : OutputOf) → Type 0
 StatusEnds files source form told before now =
     BreaksStatus files source form told before now
-    ⊎ (((told ≡ faults.Memory) ⊎ (TextFails config_of files source.path told ⊎ LacksStock files source told)) × (now ≡ before))
+    ⊎ (((told ≡ faults.Memory) ⊎ (ConfigFails files source.config told ⊎ LacksStock files source told)) × (now ≡ before))

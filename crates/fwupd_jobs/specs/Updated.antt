@@ -15,6 +15,7 @@ use Rattle.fwupd_jobs.specs.Promises.{IsPromisedRun}
 use Rattle.fwupd_watch.specs.Recordings.{HasRecordedSteps}
 use Rattle.fwupd_nodes.specs.Sessions.{UndoneOf, undone_in}
 use Rattle.fwupd_watch.specs.Files.{FileOf}
+use Rattle.fwupd_watch.specs.Inputs.{inputs_of}
 use Rattle.fwupd_watch.specs.Running.{IsCaused, UpdateOk, ShowOf, RunsSteps, RunsStepsSeen, UpdatesDevices, ObserverOf, shown_of, starts_of}
 use Rattle.fwupd_watch.specs.Apart.{IsApart, IsBarred}
 use Rattle.fwupd_nodes.specs.Setups.{ChosenSetupFails, ChosenStoresFail, IsSetup, LacksChosen, LacksChosenPackage, SourceOf, chosen_in, have_packages}
@@ -78,7 +79,7 @@ pub record IsNumberedSetup (files : List ℕ → FileOf) (config : SourceOf) (nu
 -- The world of a configuration of which no output overwrites a file.
 pub record IsObservedSetup (files : List ℕ → FileOf) (config : SourceOf) (numbers : ℕ → ℕ) (show : ShowOf) (w : WorldOf) : Type 0 where
   pub named : IsNumberedSetup files config numbers w
-  pub apart : IsApart files show (config.path ∷ named.setup.config.packages)
+  pub apart : IsApart files show (inputs_of config.config named.setup.config.packages)
 
 -- The updates of the first devices were started, the run took steps, and of the world is promised
 -- what is of every run of these steps.
@@ -133,7 +134,7 @@ pub record BreaksReport (files : List ℕ → FileOf) (config : SourceOf) (numbe
 pub record LacksTrace (files : List ℕ → FileOf) (config : SourceOf) (numbers : ℕ → ℕ) (show : ShowOf) (refuses : List ℕ → Bool) (told : JobFault) (watched : ObserverOf) : Type 0 where
   pub world : WorldOf
   pub named : IsNumberedSetup files config numbers world
-  pub barred : IsBarred files refuses show (config.path ∷ named.setup.config.packages) told watched
+  pub barred : IsBarred files refuses show (inputs_of config.config named.setup.config.packages) told watched
 
 -- A link to a device of the configuration can't be opened.
 pub record LacksLink (files : List ℕ → FileOf) (config : SourceOf) (numbers : ℕ → ℕ) (show : ShowOf) (lacks : ℕ → Bool) (told : JobFault) : Type 0 where
@@ -148,7 +149,7 @@ LacksUpdate files config numbers show refuses lacks told watched =
     (told ≡ faults.Memory)
     ⊎ (ChosenSetupFails files config numbers told
     ⊎ (((told ≡ faults.NoPackage) × LacksChosenPackage files config numbers)
-    ⊎ (ChosenStoresFail files config told ⊎ (LacksTrace files config numbers show refuses told watched ⊎ (LacksLink files config numbers show lacks told ⊎ LacksChosen files config told)))))
+    ⊎ (ChosenStoresFail files config numbers told ⊎ (LacksTrace files config numbers show refuses told watched ⊎ (LacksLink files config numbers show lacks told ⊎ LacksChosen files config told)))))
 
 -- The result of an update that failed. If the run doesn't begin, nothing is written.
 abbrev pub UpdateEnds : (files : List ℕ → FileOf) (config : SourceOf) (numbers : ℕ → ℕ) (show : ShowOf) (refuses : List ℕ → Bool) (lacks : ℕ → Bool) (told : JobFault) (watched : ObserverOf) (before now : OutputOf) → Type 0

@@ -2,6 +2,7 @@
 
 ghost use Rattle.std.specs.Prelude.{◌≡◌, ◌⊎◌, IfErr, OnOk, option_map};
 ghost use Rattle.fw_setup.specs.Stocks.{stores_in};
+ghost use Rattle.fwupd_base.specs.ImageFiles.{config_source};
 ghost use Rattle.fwupd_jobs.specs.Checked.{CheckedEnds, ReportsChecked};
 ghost use Rattle.fwupd_watch.specs.Running.{HasObserverFault, show_of};
 ghost use Rattle.fwupd_nodes.specs.Setups.{TellsStore, source_of};
@@ -26,12 +27,12 @@ pub fn update_checked<H: Parts>(
 ) -> Result<(), JobFault>
     ensures ok { OnOk result (ReportsChecked (H.Files.holds host.old.files)
         (source_of (stores_in (H.Stores.is_known host.old.stores) (H.Stores.files host.old.stores))
-        (option_map (λ p. p.now) job.entry.show.store) job.entry.config.now) job.entry.order
+        (option_map (λ p. p.now) job.entry.show.store) (config_source job.entry.config)) job.entry.order
         (show_of job.entry.show) (H.Watch.watched host.new.watch) host.old.output
         host.new.output) }
     ensures fault { IfErr result (λ e. CheckedEnds (H.Files.holds host.old.files)
         (source_of (stores_in (H.Stores.is_known host.old.stores) (H.Stores.files host.old.stores))
-        (option_map (λ p. p.now) job.entry.show.store) job.entry.config.now) job.entry.order
+        (option_map (λ p. p.now) job.entry.show.store) (config_source job.entry.config)) job.entry.order
         (show_of job.entry.show) (H.Watch.refuses host.old.watch)
         (H.Wires.lacks host.old.wires job.entry.folder.now) e (H.Watch.watched host.new.watch)
         host.old.output host.new.output) }

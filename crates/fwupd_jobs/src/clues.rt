@@ -83,7 +83,9 @@ pub fn clue_to<'a>(job: &Job<'a>, fault: &'a JobFault) -> Option<Clue<'a>>
         (JobFault::Package(_), Job::Replay(Replay { config, .. }))
         | (JobFault::Package(_), Job::Run(Update { config, .. }))
         | (JobFault::Package(_), Job::Soak(Soak { config, .. }))
-        | (JobFault::Package(_), Job::Plan(Plan { config, .. })) => Some(Clue::Package(config)),
+        | (JobFault::Package(_), Job::Plan(Plan { config, .. })) => Some(Clue::Package(
+            config.path,
+        )),
         (JobFault::Step(number, _), Job::Replay(replay)) => {
             Some(Clue::Step(replay.schedule, *number))
         }

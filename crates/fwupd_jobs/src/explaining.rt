@@ -8,6 +8,7 @@ use crate::clue_lines::{line_at, package_lines, step_line};
 use crate::clues::{Clue, clue_to};
 use crate::identifiers::later_version;
 use crate::reasons::{reason, store_reason};
+use crate::unwritten::{read_again, unwritten_reason, why_unwritten};
 use crate::warnings::warnings;
 use fw_package::Package;
 use fw_script::{ScriptFault, read_package_spec};
@@ -30,15 +31,6 @@ fn explain_unreadable(rt: &HostRuntime, path: &str) {
             let _ = eprintln!(rt; "{path}: {error}");
         }
     }
-}
-
-/// The bytes of a file, read once more. Standard input, a pipe, a device or a socket isn't read
-/// again, since that may block.
-fn read_again(rt: &HostRuntime, path: &str) -> Option<Vec<u8>> {
-    if path == "-" || is_special(rt, path) {
-        return None;
-    }
-    SystemFiles::new(rt).read(rt.alloc(), path).ok()
 }
 
 /// Whether bytes aren't a package.
@@ -132,20 +124,22 @@ fn refusal(rt: &HostRuntime, path: &str) -> Option<io::Error> {
     }
 }
 
-/// Prints why a file can't be written or made.
-fn explain_unwritten(rt: &HostRuntime, path: &str) {
+/// Prints why a file can't be written or made: the system's error, or else what of the job is in
+/// its way.
+fn explain_unwritten(rt: &HostRuntime, job: &Job<'_>, path: &str) {
     let _ = match refusal(rt, path) {
         Some(error) => eprintln!(rt; "{path}: {error}"),
-        None => eprintln!(rt;
-            "{path}: it is no plain file, or another file of this command, or in its store, or its disk is full"
-        ),
+        None => {
+            let reason = unwritten_reason(why_unwritten(rt, job, path));
+            eprintln!(rt; "{path}: {reason}")
+        }
     };
 }
 
 /// Prints why the history of the stores in a folder can't be written.
-fn explain_history(rt: &HostRuntime, folder: &str) {
+fn explain_history(rt: &HostRuntime, job: &Job<'_>, folder: &str) {
     if let Ok(path) = history_path(rt.alloc(), folder) {
-        explain_unwritten(rt, &path);
+        explain_unwritten(rt, job, &path);
     }
 }
 
@@ -172,8 +166,8 @@ pub fn explain(rt: &HostRuntime, job: &Job<'_>, fault: &JobFault) {
         Some(Clue::Package(config)) => explain_package(rt, config),
         Some(Clue::Line(path, fault)) => explain_line(rt, path, fault),
         Some(Clue::Step(schedule, number)) => explain_step(rt, schedule, number),
-        Some(Clue::Unwritten(path)) => explain_unwritten(rt, path),
-        Some(Clue::History(folder)) => explain_history(rt, folder),
+        Some(Clue::Unwritten(path)) => explain_unwritten(rt, job, path),
+        Some(Clue::History(folder)) => explain_history(rt, job, folder),
         Some(Clue::Store(root, device, why)) => explain_store(rt, root, device, why),
         Some(Clue::AgentStore(root, why)) => explain_agent_store(rt, root, why),
         None => {}

@@ -26,6 +26,7 @@ mod sockets;
 mod statuses;
 mod system_wiring;
 mod telling;
+mod unwritten;
 mod updating;
 mod warnings;
 mod words;
@@ -35,7 +36,8 @@ pub use building::{build_file, build_printed, build_told};
 pub use checking::update_checked;
 pub use fw_store::Durable;
 pub use fwupd_base::{
-    AgentAlone, AgentProcess, DeviceAlone, DeviceProcess, Serving, Show, TraceForm, Watching, Wire,
+    AgentAlone, AgentProcess, ConfigSource, DeviceAlone, DeviceProcess, ImageFile, ImageFiles,
+    Serving, Show, TraceForm, Watching, Wire,
 };
 pub use fwupd_nodes::{
     Host, Joined, Network, Parts, Undone, Wires, Wiring, agent_file, answer_serial, decode_file,

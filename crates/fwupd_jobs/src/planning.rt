@@ -2,6 +2,7 @@
 
 ghost use Rattle.std.specs.Prelude.{IfErr, OnOk, option_map};
 ghost use Rattle.fw_setup.specs.Stocks.{stores_in};
+ghost use Rattle.fwupd_base.specs.ImageFiles.{config_source};
 ghost use Rattle.fwupd_jobs.specs.Planned.{PlanEnds, Plans};
 ghost use Rattle.fwupd_nodes.specs.Setups.{source_of};
 
@@ -10,7 +11,7 @@ use fw_json::plan_in;
 use fw_script::Config;
 use fw_setup::{Stores, forecast};
 use fw_store::Folder;
-use fwupd_nodes::{configuration, package_files, packages_in, read_kept};
+use fwupd_nodes::{configured, package_files, packages_in, read_kept};
 use fwupd_watch::{Files, JobFault, Output};
 use fwupd_words::Plan;
 use std::alloc::Global;
@@ -21,10 +22,10 @@ use std::io::Write;
 /// is only read. No update is started.
 ///
 /// # Errors
-/// The first fault, in this order: of the configuration; `NoPackage` if it has no package of this
-/// number; of each of its packages; `Store` of the first device whose store can't be read. `Output`
-/// if the text can't be written; a beginning of it may be written. `Memory` if memory is refused;
-/// nothing is written then.
+/// The first fault, in this order: of the configuration and its images; `NoPackage` if it has no
+/// package of this number; of each of its packages; `Store` of the first device whose store can't
+/// be read. `Output` if the text can't be written; a beginning of it may be written. `Memory` if
+/// memory is refused; nothing is written then.
 pub fn plan_file<F: Files, D: Folder + Drop, T: Stores<D>, W: Write + Drop>(
     alloc: Global,
     files: &F,
@@ -34,11 +35,11 @@ pub fn plan_file<F: Files, D: Folder + Drop, T: Stores<D>, W: Write + Drop>(
 ) -> Result<(), JobFault>
     ensures ok { OnOk result (Plans (F.holds files.now)
         (source_of (stores_in (T.is_known stores.now) (T.files stores.now))
-        (option_map (λ p. p.now) job.entry.store) job.entry.config.now) job.entry.number
+        (option_map (λ p. p.now) job.entry.store) (config_source job.entry.config)) job.entry.number
         job.entry.form output.old output.new) }
     ensures fault { IfErr result (λ e. PlanEnds (F.holds files.now)
         (source_of (stores_in (T.is_known stores.now) (T.files stores.now))
-        (option_map (λ p. p.now) job.entry.store) job.entry.config.now) job.entry.number
+        (option_map (λ p. p.now) job.entry.store) (config_source job.entry.config)) job.entry.number
         job.entry.form e output.old output.new) }
 {
     let Config {
@@ -46,7 +47,7 @@ pub fn plan_file<F: Files, D: Folder + Drop, T: Stores<D>, W: Write + Drop>(
         unit: _,
         devices,
         packages: paths,
-    } = match configuration(alloc, files, job.config) {
+    } = match configured(alloc, files, &job.config) {
         Ok(config) => config,
         Err(fault) => return Err(fault),
     };

@@ -11,8 +11,10 @@ ghost use Rattle.fw_steps.specs.Replays.{RefusesStep};
 ghost use Rattle.fw_steps.specs.Worlds.{full_tick};
 ghost use Rattle.fw_setup.specs.Nodes.{nodes_made};
 ghost use Rattle.fw_setup.specs.Stocks.{stores_in};
+ghost use Rattle.fwupd_base.specs.ImageFiles.{config_source};
 ghost use Rattle.fwupd_jobs.specs.Replayed.{IsReplayed, ReplayEnds, ReportsReplay, taken_of};
 ghost use Rattle.fwupd_watch.specs.Apart.{IsApart, IsBarred};
+ghost use Rattle.fwupd_watch.specs.Inputs.{inputs_of};
 ghost use Rattle.fwupd_watch.specs.Running.{HasObserverFault, show_of, shown_of};
 ghost use Rattle.fwupd_nodes.specs.Setups.{source_of};
 
@@ -25,9 +27,9 @@ use fw_world::{
     Missed, Step, StepFault, World, clocks_keep_time, moments_are_tied, replay, runs_are_promised,
 };
 use fwupd_base::{Form, Show};
-use fwupd_nodes::{Host, Parts, configuration, package_files, packages_in, read_kept, schedule};
+use fwupd_nodes::{Host, Parts, configured, package_files, packages_in, read_kept, schedule};
 use fwupd_watch::{
-    Files, JobFault, Observer, ObserverFault, begin_apart, is_one_path, observer_fault,
+    Files, Inputs, JobFault, Observer, ObserverFault, begin_apart, is_one_path, observer_fault,
 };
 use fwupd_words::Replay;
 use mctp_ctl::Endpoint;
@@ -178,11 +180,11 @@ fn begin_replay<F: Files, V: Observer>(
     ensures shows { OnOk result ((V.watched watch.new).shows ≡ shown_of (show_of job.entry.show)) }
     ensures anew { OnOk result ((V.watched watch.new).seen ≡ 0) }
     ensures apart { OnOk result (IsApart (F.holds files.now) (show_of job.entry.show)
-        (job.entry.schedule.now ∷ job.entry.config.now ∷ map (λ p. string_bytes p) packages.now)) }
+        (job.entry.schedule.now ∷ inputs_of (config_source job.entry.config) (map (λ p. string_bytes p) packages.now))) }
     ensures untouched { IfErr result (λ e. (watch.new ≡ watch.old) ⊎ HasObserverFault e (V.watched watch.new).fault) }
     ensures fault { IfErr result (λ e. (e ≡ JobFault.Memory)
         ⊎ IsBarred (F.holds files.now) (V.refuses watch.old) (show_of job.entry.show)
-        (job.entry.schedule.now ∷ job.entry.config.now ∷ map (λ p. string_bytes p) packages.now) e
+        (job.entry.schedule.now ∷ inputs_of (config_source job.entry.config) (map (λ p. string_bytes p) packages.now)) e
         (V.watched watch.new)) }
 {
     if is_one_path(files, job.show.trace, job.schedule) {
@@ -194,7 +196,8 @@ fn begin_replay<F: Files, V: Observer>(
     if is_one_path(files, job.show.record, job.schedule) {
         return Err(JobFault::Record);
     }
-    match begin_apart(alloc, files, job.config, packages, job.show, watch) {
+    let inputs = Inputs::new(&job.config, packages);
+    match begin_apart(alloc, files, inputs, job.show, watch) {
         Ok(()) => Ok(()),
         Err(fault) => Err(fault),
     }
@@ -205,8 +208,8 @@ fn begin_replay<F: Files, V: Observer>(
 /// images in its store, which is only read. Tracing packets doesn't change the report.
 ///
 /// # Errors
-/// The first fault, in this order: of the configuration; of each of its packages; `Store` of the
-/// first device whose store can't be read; of the schedule.
+/// The first fault, in this order: of the configuration and its images; of each of its packages;
+/// `Store` of the first device whose store can't be read; of the schedule.
 /// `Trace`, `Log` or `Record` if the observer can't begin, or if an output would overwrite one of
 /// these files or another output, or is in a store.
 /// `Step` if a step, numbered from 1, is refused; the report is of the world before it.
@@ -220,12 +223,12 @@ pub fn replay_files<H: Parts>(
 ) -> Result<(), JobFault>
     ensures ok { OnOk result (ReportsReplay (H.Files.holds host.old.files)
         (source_of (stores_in (H.Stores.is_known host.old.stores) (H.Stores.files host.old.stores))
-        (option_map (λ p. p.now) job.entry.show.store) job.entry.config.now)
+        (option_map (λ p. p.now) job.entry.show.store) (config_source job.entry.config))
         job.entry.schedule.now (show_of job.entry.show) (H.Watch.watched host.new.watch)
         host.old.output host.new.output) }
     ensures fault { IfErr result (λ e. ReplayEnds (H.Files.holds host.old.files)
         (source_of (stores_in (H.Stores.is_known host.old.stores) (H.Stores.files host.old.stores))
-        (option_map (λ p. p.now) job.entry.show.store) job.entry.config.now)
+        (option_map (λ p. p.now) job.entry.show.store) (config_source job.entry.config))
         job.entry.schedule.now (show_of job.entry.show) (H.Watch.refuses host.old.watch) e
         (H.Watch.watched host.new.watch) host.old.output host.new.output) }
     ensures untouched { IfErr result (λ e. (host.new.watch ≡ host.old.watch)
@@ -236,7 +239,7 @@ pub fn replay_files<H: Parts>(
         unit,
         devices,
         packages: paths,
-    } = match configuration(alloc, &host.files, job.config) {
+    } = match configured(alloc, &host.files, &job.config) {
         Ok(config) => config,
         Err(fault) => return Err(fault),
     };

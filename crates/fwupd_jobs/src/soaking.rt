@@ -2,14 +2,15 @@
 
 ghost use Rattle.std.specs.Prelude.{◌≡◌, ◌≢◌, ◌⊎◌, IfErr, None, OnErr, OnOk, Some, false, option_map, true};
 ghost use Rattle.fw_script.specs.ScheduleTexts.{schedule_text};
+ghost use Rattle.fwupd_base.specs.ImageFiles.{config_source};
 ghost use Rattle.fwupd_jobs.specs.Soaked.{ReportsViolation, SoakEnds, SoaksClean};
 
 use crate::numbering::is_numbered;
 use fw_script::{Config, write_schedule};
 use fw_soak::{Setup, soak, summary_in};
 use fw_world::Step;
-use fwupd_nodes::{Host, Parts, configuration, package_files, packages_in};
-use fwupd_watch::{JobFault, OutputPlaces, is_over_read, write_file};
+use fwupd_nodes::{Host, Parts, configured, package_files, packages_in};
+use fwupd_watch::{Inputs, JobFault, OutputPlaces, is_over_read, write_file};
 use fwupd_words::Soak;
 use std::alloc::Global;
 use std::io::Write;
@@ -83,17 +84,17 @@ fn judge<W: Write + Drop, P: OutputPlaces<W>>(
 /// given.
 ///
 /// # Errors
-/// The first fault, in this order: of the configuration; `NoPackage` if it has none; of each of its
-/// packages; `Record` if the steps would overwrite one of these files; `Memory`; nothing is written
-/// then.
+/// The first fault, in this order: of the configuration and its images; `NoPackage` if it has none;
+/// of each of its packages; `Record` if the steps would overwrite one of these files; `Memory`;
+/// nothing is written then.
 /// `Output` if the totals can't be written.
 /// `Record` or `Memory` if the steps can't be written, else `Violation` if there was one.
 pub fn soak_file<H: Parts>(alloc: Global, job: Soak<'_>, host: &mut Host<H>) -> Result<(), JobFault>
-    ensures ok { OnOk result (SoaksClean (H.Files.holds host.old.files) job.entry.config.now
+    ensures ok { OnOk result (SoaksClean (H.Files.holds host.old.files) (config_source job.entry.config)
         job.entry.order job.entry.form (option_map (λ p. p.now) job.entry.record) host.old.output
         host.new.output) }
     ensures fault { IfErr result (λ e. SoakEnds (H.Files.holds host.old.files)
-        job.entry.config.now job.entry.order job.entry.form (option_map (λ p. p.now) job.entry.record) e
+        (config_source job.entry.config) job.entry.order job.entry.form (option_map (λ p. p.now) job.entry.record) e
         (H.Places.is_known host.old.places) (H.Places.held host.new.places) host.old.output
         host.new.output) }
     ensures clean { OnOk result (H.Places.held host.new.places ≡ H.Places.held host.old.places) }
@@ -107,7 +108,7 @@ pub fn soak_file<H: Parts>(alloc: Global, job: Soak<'_>, host: &mut Host<H>) -> 
         unit,
         devices,
         packages: paths,
-    } = match configuration(alloc, &host.files, job.config) {
+    } = match configured(alloc, &host.files, &job.config) {
         Ok(config) => config,
         Err(fault) => return Err(fault),
     };
@@ -122,7 +123,11 @@ pub fn soak_file<H: Parts>(alloc: Global, job: Soak<'_>, host: &mut Host<H>) -> 
         Ok(packages) => packages,
         Err(fault) => return Err(fault),
     };
-    if is_over_read(&host.files, job.record, job.config, paths.as_slice()) {
+    if is_over_read(
+        &host.files,
+        job.record,
+        Inputs::new(&job.config, paths.as_slice()),
+    ) {
         return Err(JobFault::Record);
     }
     let setup = Setup {

@@ -2,6 +2,7 @@
 
 ghost use Rattle.std.specs.Prelude.{IfErr, OnOk, option_map};
 ghost use Rattle.fw_setup.specs.Stocks.{stores_in};
+ghost use Rattle.fwupd_base.specs.ImageFiles.{config_source};
 ghost use Rattle.fwupd_jobs.specs.Statuses.{PrintsStatus, StatusEnds};
 ghost use Rattle.fwupd_nodes.specs.Setups.{source_of};
 
@@ -9,7 +10,7 @@ use fw_json::status_in;
 use fw_script::Config;
 use fw_setup::Stores;
 use fw_store::Folder;
-use fwupd_nodes::{configuration, read_kept};
+use fwupd_nodes::{configured, read_kept};
 use fwupd_watch::{Files, JobFault, Output};
 use fwupd_words::Status;
 use std::alloc::Global;
@@ -19,9 +20,9 @@ use std::io::Write;
 /// stores is given, each device has the images in its store, which is only read.
 ///
 /// # Errors
-/// The first fault of the configuration; `Store` of the first device whose store can't be read.
-/// `Output` if the text can't be written; a beginning of it may be written. `Memory` if memory is
-/// refused; nothing is written then.
+/// The first fault of the configuration and its images; `Store` of the first device whose store
+/// can't be read. `Output` if the text can't be written; a beginning of it may be written. `Memory`
+/// if memory is refused; nothing is written then.
 pub fn status_file<F: Files, D: Folder + Drop, T: Stores<D>, W: Write + Drop>(
     alloc: Global,
     files: &F,
@@ -31,11 +32,11 @@ pub fn status_file<F: Files, D: Folder + Drop, T: Stores<D>, W: Write + Drop>(
 ) -> Result<(), JobFault>
     ensures ok { OnOk result (PrintsStatus (F.holds files.now)
         (source_of (stores_in (T.is_known stores.now) (T.files stores.now))
-        (option_map (λ p. p.now) job.entry.store) job.entry.config.now)
+        (option_map (λ p. p.now) job.entry.store) (config_source job.entry.config))
         job.entry.form output.old output.new) }
     ensures fault { IfErr result (λ e. StatusEnds (F.holds files.now)
         (source_of (stores_in (T.is_known stores.now) (T.files stores.now))
-        (option_map (λ p. p.now) job.entry.store) job.entry.config.now)
+        (option_map (λ p. p.now) job.entry.store) (config_source job.entry.config))
         job.entry.form e output.old output.new) }
 {
     let Config {
@@ -43,7 +44,7 @@ pub fn status_file<F: Files, D: Folder + Drop, T: Stores<D>, W: Write + Drop>(
         unit: _,
         devices,
         packages: _,
-    } = match configuration(alloc, files, job.config) {
+    } = match configured(alloc, files, &job.config) {
         Ok(config) => config,
         Err(fault) => return Err(fault),
     };

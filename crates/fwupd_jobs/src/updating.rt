@@ -1,9 +1,10 @@
 //! Updates the devices of a configuration.
 
-ghost use Rattle.std.specs.Prelude.{◌≡◌, ◌⊎◌, Bool, IfErr, IfOk, IfSome, List, None, OnOk, length, map, option_map, string_bytes, true, ℕ};
+ghost use Rattle.std.specs.Prelude.{◌≡◌, ◌⊎◌, IfErr, IfOk, IfSome, None, OnOk, length, map, option_map, string_bytes, true};
 ghost use Rattle.std.specs.List.{AllByRecursion};
 ghost use Rattle.fw_json.specs.Forms.{report_in};
 ghost use Rattle.fw_setup.specs.Stocks.{stores_in};
+ghost use Rattle.fwupd_base.specs.ImageFiles.{config_source};
 ghost use Rattle.fwupd_base.specs.PackageChoices.{number_for};
 ghost use Rattle.fw_steps.specs.Opening.{IsOpeningWorld};
 ghost use Rattle.fwupd_watch.specs.Outputs.{FailsToWriteOutput, WritesOutput};
@@ -23,9 +24,9 @@ use fw_setup::{opening_world, opening_world_over};
 use fw_world::{World, runs_are_promised};
 use fwupd_base::{Form, Roughness};
 use fwupd_nodes::{
-    Host, Parts, Undone, Wires, configuration, open_kept, package_files, packages_in, undone_in,
+    Host, Parts, Undone, Wires, configured, open_kept, package_files, packages_in, undone_in,
 };
-use fwupd_watch::{JobFault, Observer, Output, begin_apart, update_observed};
+use fwupd_watch::{Inputs, JobFault, Observer, Output, begin_apart, update_observed};
 use fwupd_words::{Order, Update};
 use mctp_wire::Unit;
 use std::alloc::Global;
@@ -270,13 +271,13 @@ fn update_new<B: Bank + Drop, H: Parts>(
     requires { IsOpeningWorld world.old }
     ensures ok { IfOk result (λ undone. (source : SourceOf) (named : IsNumberedSetup
         (H.Files.holds host.old.files) source (number_for job.entry.order.packages) world.old)
-        → source.path ≡ job.entry.config.now
+        → source.config ≡ config_source job.entry.config
         → named.setup.config.packages ≡ map (λ p. string_bytes p) packages.now
         → ReportsUpdate (H.Files.holds host.old.files) source (number_for job.entry.order.packages) (show_of job.entry.show)
         (H.Watch.watched host.new.watch) host.old.output host.new.output undone) }
     ensures fault { IfErr result (λ e. (source : SourceOf) (named : IsNumberedSetup
         (H.Files.holds host.old.files) source (number_for job.entry.order.packages) world.old)
-        → source.path ≡ job.entry.config.now
+        → source.config ≡ config_source job.entry.config
         → named.setup.config.packages ≡ map (λ p. string_bytes p) packages.now
         → UpdateEnds (H.Files.holds host.old.files) source (number_for job.entry.order.packages) (show_of job.entry.show)
         (H.Watch.refuses host.old.watch) (H.Wires.lacks host.old.wires job.entry.folder.now) e
@@ -286,14 +287,8 @@ fn update_new<B: Bank + Drop, H: Parts>(
     ensures stores { IfErr result (λ e. TellsStore e → ⊥) }
 {
     runs_are_promised();
-    match begin_apart(
-        alloc,
-        &host.files,
-        job.config,
-        packages,
-        job.show,
-        &mut host.watch,
-    ) {
+    let inputs = Inputs::new(&job.config, packages);
+    match begin_apart(alloc, &host.files, inputs, job.show, &mut host.watch) {
         Ok(()) => {}
         Err(fault) => return Err(fault),
     }
@@ -309,9 +304,10 @@ fn update_new<B: Bank + Drop, H: Parts>(
 /// given, each device begins with the images in its store, and writes activated images there.
 ///
 /// # Errors
-/// The first fault, in this order: of the configuration; `NoDevice` with the least requested
-/// endpoint identifier that is that of no device; `NoPackage` if it has no package of the number of
-/// one of them; of each of its packages; `Store` of the first device whose store can't be opened;
+/// The first fault, in this order: of the configuration and its images; `NoDevice` with the least
+/// requested endpoint identifier that is that of no device; `NoPackage` if it has no package of the
+/// number of one of them; of each of its packages; `Store` of the first device whose store can't be
+/// opened;
 /// `Trace`, `Log`, `Record` or `History` if the observer can't begin, or if an output would
 /// overwrite one of these files or another output, or is in a store; `Socket` if a link can't be
 /// opened.
@@ -326,12 +322,12 @@ pub fn update_files<H: Parts>(
 ) -> Result<Undone, JobFault>
     ensures ok { IfOk result (λ undone. ReportsUpdate (H.Files.holds host.old.files)
         (chosen_source (source_of (stores_in (H.Stores.is_known host.old.stores) (H.Stores.files host.old.stores))
-        (option_map (λ p. p.now) job.entry.show.store) job.entry.config.now) job.entry.order.devices)
+        (option_map (λ p. p.now) job.entry.show.store) (config_source job.entry.config)) job.entry.order.devices)
         (number_for job.entry.order.packages) (show_of job.entry.show)
         (H.Watch.watched host.new.watch) host.old.output host.new.output undone) }
     ensures fault { IfErr result (λ e. UpdateEnds (H.Files.holds host.old.files)
         (chosen_source (source_of (stores_in (H.Stores.is_known host.old.stores) (H.Stores.files host.old.stores))
-        (option_map (λ p. p.now) job.entry.show.store) job.entry.config.now) job.entry.order.devices)
+        (option_map (λ p. p.now) job.entry.show.store) (config_source job.entry.config)) job.entry.order.devices)
         (number_for job.entry.order.packages) (show_of job.entry.show)
         (H.Watch.refuses host.old.watch) (H.Wires.lacks host.old.wires job.entry.folder.now) e
         (H.Watch.watched host.new.watch) host.old.output host.new.output) }
@@ -344,7 +340,7 @@ pub fn update_files<H: Parts>(
         unit,
         devices,
         packages: paths,
-    } = match configuration(alloc, &host.files, job.config) {
+    } = match configured(alloc, &host.files, &job.config) {
         Ok(config) => config,
         Err(fault) => return Err(fault),
     };

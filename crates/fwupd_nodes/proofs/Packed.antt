@@ -7,7 +7,7 @@ use Rattle.std.specs.List.{AllByRecursion}
 use Rattle.fw_package.specs.Package.{PackageText}
 use Rattle.fw_package.specs.Reading.{package_of}
 use Rattle.fw_package.specs.declared.fault.PackageFault.{PackageFault}
-use Rattle.fw_script.specs.Configs.{DeviceConfigOf, config_of}
+use Rattle.fw_script.specs.Configs.{DeviceConfigOf}
 use Rattle.fw_script.specs.Seen.{config_seen, device_of}
 use Rattle.fw_script.specs.declared.config.Config.{Config}
 use Rattle.fw_script.specs.declared.faults.ScriptCause.{ScriptCause}
@@ -18,7 +18,8 @@ use Rattle.fw_steps.specs.Worlds.{WorldOf}
 use Rattle.fw_setup.specs.Nodes.{nodes_made}
 use Rattle.fw_setup.specs.Stocks.{HaveStoredImages, IsUnopened, StoresOf}
 use Rattle.fw_setup.specs.declared.stores.Unopened.{Unopened}
-use Rattle.fwupd_nodes.specs.Setups.{AreDevices, ArePackages, ArePacked, IsPacked, IsSetup, IsUnreadable, HasNoText, NumberedSetupFails, PackageFails, PackagesFail, Says, SourceOf, StoresFail, TellsUnopened, TextFails, TextFault, misread_by, job_fault_of_misread, job_fault_of_unread, AreConfigured, ChosenStoresFail, chosen_in, chosen_source}
+use Rattle.fwupd_base.specs.ImageFiles.{ConfigSourceOf}
+use Rattle.fwupd_nodes.specs.Setups.{AreDevices, ArePackages, ArePacked, IsConfigured, IsPacked, IsSetup, IsUnreadable, HasNoText, NumberedSetupFails, PackageFails, PackagesFail, SourceOf, StoresFail, TellsUnopened, TextFails, TextFault, misread_by, job_fault_of_misread, job_fault_of_unread, AreConfigured, ChosenStoresFail, chosen_in, chosen_source, have_packages}
 use Rattle.fwupd_watch.specs.Files.{FileOf, MayHold}
 use Rattle.fwupd_watch.specs.declared.faults.JobFault.{JobFault}
 use Rattle.fwupd_watch.specs.declared.faults.JobFault.TheVariants as faults
@@ -44,6 +45,8 @@ unsaid_so read path text file fault faults.Log h held is = absurd h
 unsaid_so read path text file fault faults.LogSize h held is = absurd h
 unsaid_so read path text file fault faults.Violation h held is = absurd h
 unsaid_so read path text file fault (faults.NoDevice eid) h held is = absurd h
+unsaid_so read path text file fault (faults.NoComponent eid class ident) h held is = absurd h
+unsaid_so read path text file fault (faults.LongImage name) h held is = absurd h
 unsaid_so read path text file fault faults.Report h held is = absurd h
 unsaid_so read path text file fault faults.Record h held is = absurd h
 unsaid_so read path text file fault faults.History h held is = absurd h
@@ -172,10 +175,10 @@ fails_at files paths i p name contents told lt is called h (inr f) =
     (subst (λ n. PackageFails files n told) called f))
 
 -- the packages of a configuration that has one of this number
-pub numbered_fails : (files : List ℕ → FileOf) (path : List ℕ) (number : ℕ) (config : Config) (slice : List (String Global)) (told : JobFault) → Says config_of (files path) (config_seen config) → slice ≡ config.packages.items
-    → 1 ≤ number → number ≤ length slice → (told ≡ faults.Memory) ⊎ PackagesFail files (map (λ q. string_bytes q) slice) told → (told ≡ faults.Memory) ⊎ NumberedSetupFails files path number told
-numbered_fails files path number config slice told says is counted there (inl e) = inl e
-numbered_fails files path number config slice told says is counted there (inr f) =
+pub numbered_fails : (files : List ℕ → FileOf) (source : ConfigSourceOf) (number : ℕ) (config : Config) (slice : List (String Global)) (told : JobFault) → IsConfigured files source (config_seen config) → slice ≡ config.packages.items
+    → 1 ≤ number → number ≤ length slice → (told ≡ faults.Memory) ⊎ PackagesFail files (map (λ q. string_bytes q) slice) told → (told ≡ faults.Memory) ⊎ NumberedSetupFails files source number told
+numbered_fails files source number config slice told says is counted there (inl e) = inl e
+numbered_fails files source number config slice told says is counted there (inr f) =
     inr (inr (record {
       config = config_seen config;
       says = says;
@@ -214,7 +217,7 @@ named_there files config names contents slice ps named packed same read =
 -- a configuration with its packages, and with the images in the stores of its devices, gives a
 -- world
 pub set_up : (files : List ℕ → FileOf) (source : SourceOf) (config : Config) (ps packs : List PackageText) (devices : List DeviceConfigOf) (w : WorldOf)
-    → Says config_of (files source.path) (config_seen config) → ArePackages files (map (λ p. string_bytes p) config.packages.items) ps
+    → IsConfigured files source.config (config_seen config) → ArePackages files (map (λ p. string_bytes p) config.packages.items) ps
     → AreDevices source.stores (map device_of config.devices.items) devices → packs ≡ ps
     → w ≡ new_world config.agent (nodes_made config.unit config.agent.eid devices) packs → IsSetup files (chosen_source source None) w
 set_up files source config ps packs devices w says are stocked lent is = record {
@@ -229,24 +232,26 @@ set_up files source config ps packs devices w says are stocked lent is = record 
 }
 
 -- or the store of a device can't be opened
-pub stores_fail : (files : List ℕ → FileOf) (source : SourceOf) (config : Config) (ps : List PackageText) (told : JobFault) → Says config_of (files source.path) (config_seen config)
+pub stores_fail : (files : List ℕ → FileOf) (source : SourceOf) (config : Config) (ps : List PackageText) (told : JobFault) → IsConfigured files source.config (config_seen config)
     → ArePackages files (map (λ p. string_bytes p) config.packages.items) ps → (told ≡ faults.Memory) ⊎ IsSomeAnd source.stores (λ s. TellsUnopened s (map device_of config.devices.items) told)
     → (told ≡ faults.Memory) ⊎ StoresFail files source told
 stores_fail files source config ps told says are (inl e) = inl e
 stores_fail files source config ps told says are (inr u) = inr (record { config = config_seen config; says = says; packages = ps; are = are; unopened = u })
 
 -- or that of a chosen device
-pub chosen_stores_fail : (files : List ℕ → FileOf) (source : SourceOf) (config : Config) (chosen : List DeviceConfigOf) (ps : List PackageText) (told : JobFault) → Says config_of (files source.path) (config_seen config)
+pub chosen_stores_fail : (files : List ℕ → FileOf) (source : SourceOf) (numbers : ℕ → ℕ) (config : Config) (chosen : List DeviceConfigOf) (ps : List PackageText) (told : JobFault) → IsConfigured files source.config (config_seen config)
     → ArePackages files (map (λ p. string_bytes p) config.packages.items) ps → AreConfigured source.chosen (map device_of config.devices.items) → chosen ≡ chosen_in source.chosen (map device_of config.devices.items)
+    → have_packages numbers (length (map (λ p. string_bytes p) config.packages.items)) (chosen_in source.chosen (map device_of config.devices.items)) ≡ true
     → (told ≡ faults.Memory) ⊎ IsSomeAnd source.stores (λ s. TellsUnopened s chosen told)
-    → (told ≡ faults.Memory) ⊎ ChosenStoresFail files source told
-chosen_stores_fail files source config chosen ps told says are there is (inl e) = inl e
-chosen_stores_fail files source config chosen ps told says are there is (inr u) = inr (record {
+    → (told ≡ faults.Memory) ⊎ ChosenStoresFail files source numbers told
+chosen_stores_fail files source numbers config chosen ps told says are there is numbered (inl e) = inl e
+chosen_stores_fail files source numbers config chosen ps told says are there is numbered (inr u) = inr (record {
   config = config_seen config;
   says = says;
   packages = ps;
   are = are;
   there = there;
+  numbered = numbered;
   unopened = subst (λ ds. IsSomeAnd source.stores (λ s. TellsUnopened s ds told)) is u;
 })
 

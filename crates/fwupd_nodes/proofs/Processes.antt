@@ -22,9 +22,11 @@ use Rattle.fwupd_nodes.specs.Setups.{AreDevices, ArePacked, PackagesFail, Says}
 use Rattle.fwupd_traces.specs.Watches.{Ended}
 use Rattle.fwupd_watch.specs.Apart.{IsApart, IsOverRead}
 use Rattle.fwupd_watch.specs.Files.{FileOf}
+use Rattle.fwupd_watch.specs.Inputs.{inputs_of}
 use Rattle.fwupd_watch.specs.Outputs.{OutputOf, WritesOutput}
 use Rattle.fwupd_watch.specs.declared.faults.JobFault.{JobFault}
 use Rattle.fwupd_watch.specs.declared.faults.JobFault.TheVariants as faults
+use Rattle.fwupd_base.specs.ImageFiles.{config_source}
 use Rattle.fwupd_base.specs.declared.processes.AgentProcess.{AgentProcess}
 use Rattle.fwupd_base.specs.declared.processes.DeviceProcess.{DeviceProcess}
 
@@ -44,13 +46,13 @@ runs_setup (Ok u) job s stored stocked n before after is images runs =
 runs_setup (Err e) job s stored stocked n before after is images runs = tt
 
 pub runs_device : (r : Result (Prim.Unit {0}) JobFault) (job : DeviceProcess) (s : DeviceSetupOf) (files : List ℕ → FileOf) (stored : (root : List ℕ) → StoresOf) (before after : OutputOf)
-    → IsDeviceSetup (device_alone job) files s → IsApart files (device_shows job) (job.config.now ∷ [])
+    → IsDeviceSetup (device_alone job) files s → IsApart files (device_shows job) (inputs_of (config_source job.config) [])
     → OnOk r (RunsSetup job s stored before after) → OnOk r (RunsDevice job files stored before after)
 runs_device (Ok u) job s files stored before after begins apart runs = record { setup = s; begins = begins; apart = apart; runs = runs }
 runs_device (Err e) job s files stored before after begins apart runs = tt
 
 pub device_overwrites : (job : DeviceProcess) (told : JobFault) (s : DeviceSetupOf) (files : List ℕ → FileOf) (stored : (root : List ℕ) → StoresOf) (before : OutputOf)
-    → IsDeviceSetup (device_alone job) files s → (told ≡ faults.Memory) ⊎ IsOverRead files (device_shows job) (job.config.now ∷ []) told → DeviceProcessEnds job told files stored before before
+    → IsDeviceSetup (device_alone job) files s → (told ≡ faults.Memory) ⊎ IsOverRead files (device_shows job) (inputs_of (config_source job.config) []) told → DeviceProcessEnds job told files stored before before
 device_overwrites job told s files stored before begins over = inl (inr (record { setup = s; begins = begins; over = over }), refl)
 
 -- a device's node was a process, and writing its report failed, or what observed it did
@@ -74,7 +76,7 @@ setup_stops (Err e) job s stored stocked n before after is images stops = setup_
 
 -- it is such a device, and fails later
 pub device_stops : (r : Result (Prim.Unit {0}) JobFault) (job : DeviceProcess) (s : DeviceSetupOf) (files : List ℕ → FileOf) (stored : (root : List ℕ) → StoresOf) (before after : OutputOf)
-    → IsDeviceSetup (device_alone job) files s → IsApart files (device_shows job) (job.config.now ∷ []) → IfErr r (λ e. SetupStops job s stored e before after)
+    → IsDeviceSetup (device_alone job) files s → IsApart files (device_shows job) (inputs_of (config_source job.config) []) → IfErr r (λ e. SetupStops job s stored e before after)
     → IfErr r (λ e. DeviceProcessEnds job e files stored before after)
 device_stops (Ok u) job s files stored before after begins apart stops = tt
 device_stops (Err e) job s files stored before after begins apart stops = inr (record { setup = s; begins = begins; apart = apart; stops = stops })

@@ -16,9 +16,11 @@ use Rattle.fw_trace.specs.Records.{records_bytes}
 use Rattle.fwupd_nodes.specs.declared.alone.DeviceSetup.{DeviceSetup}
 use Rattle.mctp_wire.specs.declared.unit.Unit.{«Unit»}
 use Rattle.fwupd_nodes.specs.Hosts.{FoundOf, LeftOf}
-use Rattle.fwupd_nodes.specs.Setups.{AreDevices, ArePackages, PackagesFail, Says, SourceOf, TellsUnopened, TextFails, source_of}
+use Rattle.fwupd_nodes.specs.Setups.{AreDevices, ArePackages, ConfigFails, IsConfigured, PackagesFail, Says, SourceOf, TellsUnopened, TextFails, source_of}
+use Rattle.fwupd_base.specs.ImageFiles.{config_source}
 use Rattle.fwupd_base.specs.declared.stream.AnswerFault.{AnswerFault}
 use Rattle.fwupd_watch.specs.Files.{FileOf, IsApartFrom, IsOverOne}
+use Rattle.fwupd_watch.specs.Inputs.{inputs_of}
 use Rattle.fwupd_watch.specs.Serving.{ServesAll, ServingEnds, StreamsOf}
 use Rattle.fwupd_watch.specs.declared.faults.JobFault.{JobFault}
 use Rattle.fwupd_watch.specs.declared.faults.JobFault.TheVariants as faults
@@ -98,7 +100,7 @@ NodeEnds job n told found left =
 
 -- the configuration and the store of a device, with its identifier
 abbrev pub device_source : DeviceAlone → FoundOf → SourceOf
-device_source job found = source_of found.stores (option_map (λ p. p.now) job.store) job.config.now
+device_source job found = source_of found.stores (option_map (λ p. p.now) job.store) (config_source job.config)
 
 -- a device as configured, in a list of its own, and the unit and the agent of its network
 pub record DeviceSetupOf : Type 0 where
@@ -109,30 +111,30 @@ pub record DeviceSetupOf : Type 0 where
 abbrev pub device_setup_seen : DeviceSetup → DeviceSetupOf
 device_setup_seen s = record { unit = s.unit; agent = s.agent; only = map device_of s.only.items }
 
--- It is that of the configuration in a file, which the report doesn't overwrite.
+-- It is that of a configuration, which the report doesn't overwrite.
 pub record IsDeviceSetup (job : DeviceAlone) (files : List ℕ → FileOf) (s : DeviceSetupOf) : Type 0 where
   pub config : ConfigOf
-  pub says : Says config_of (files job.config.now) config
+  pub says : IsConfigured files (config_source job.config) config
   pub named : IsOnly config.devices job.eid s.only
   pub unit : s.unit ≡ config.unit
   pub agent : s.agent ≡ config.agent.eid
-  pub apart : IfSome (option_map (λ p. p.now) job.report) (λ p. AllByRecursion (IsApartFrom files p) (job.config.now ∷ []))
+  pub apart : IfSome (option_map (λ p. p.now) job.report) (λ p. AllByRecursion (IsApartFrom files p) (inputs_of (config_source job.config) []))
 
 -- The report would overwrite the configuration.
 pub record OverwritesConfig (job : DeviceAlone) (told : JobFault) (files : List ℕ → FileOf) : Type 0 where
   pub is : told ≡ faults.Report
-  pub over : IsSomeAnd (option_map (λ p. p.now) job.report) (λ p. IsOverOne files p (job.config.now ∷ []))
+  pub over : IsSomeAnd (option_map (λ p. p.now) job.report) (λ p. IsOverOne files p (inputs_of (config_source job.config) []))
 
 -- The configuration has no such device.
 pub record MissesDevice (job : DeviceAlone) (told : JobFault) (files : List ℕ → FileOf) : Type 0 where
   pub is : told ≡ faults.NoDevice job.eid
   pub config : ConfigOf
-  pub says : Says config_of (files job.config.now) config
+  pub says : IsConfigured files (config_source job.config) config
   pub none : LacksDevice config.devices job.eid
 
 abbrev pub DeviceSetupFails : DeviceAlone → (files : List ℕ → FileOf) → JobFault → Type 0
 DeviceSetupFails job files told =
-    (told ≡ faults.Memory) ⊎ (TextFails config_of files job.config.now told ⊎ (OverwritesConfig job told files ⊎ MissesDevice job told files))
+    (told ≡ faults.Memory) ⊎ (ConfigFails files (config_source job.config) told ⊎ (OverwritesConfig job told files ⊎ MissesDevice job told files))
 
 -- The device is served, with the images in its store, if it has one.
 pub record ServesSetup (job : DeviceAlone) (s : DeviceSetupOf) (found : FoundOf) (left : LeftOf) : Type 0 where

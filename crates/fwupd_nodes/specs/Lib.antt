@@ -3,6 +3,7 @@ pub mod Alone
 pub mod Answered
 pub mod Decoded
 pub mod Hosts
+pub mod Images
 pub mod Processes
 pub mod Sessions
 pub mod Setups

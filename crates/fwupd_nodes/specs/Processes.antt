@@ -27,11 +27,13 @@ use Rattle.fwupd_nodes.specs.Setups.{AreDevices, ArePacked, PackagesFail, Says, 
 use Rattle.fwupd_traces.specs.Watches.{Ended}
 use Rattle.fwupd_watch.specs.Apart.{IsApart, IsOverRead}
 use Rattle.fwupd_watch.specs.Files.{FileOf}
+use Rattle.fwupd_watch.specs.Inputs.{inputs_of}
 use Rattle.fwupd_watch.specs.Outputs.{FailsToWriteOutput, OutputOf, WritesOutput}
 use Rattle.fwupd_watch.specs.Processes.{fault_of_watch}
 use Rattle.fwupd_watch.specs.Running.{ShowOf}
 use Rattle.fwupd_watch.specs.declared.faults.JobFault.{JobFault}
 use Rattle.fwupd_watch.specs.declared.faults.JobFault.TheVariants as faults
+use Rattle.fwupd_base.specs.ImageFiles.{config_source}
 use Rattle.fwupd_base.specs.declared.alone.DeviceAlone.{DeviceAlone}
 use Rattle.fwupd_base.specs.declared.processes.AgentProcess.{AgentProcess}
 use Rattle.fwupd_base.specs.declared.processes.DeviceProcess.{DeviceProcess}
@@ -105,7 +107,7 @@ pub record RunsSetup (job : DeviceProcess) (s : DeviceSetupOf) (stores : (root :
 pub record RunsDevice (job : DeviceProcess) (files : List ℕ → FileOf) (stores : (root : List ℕ) → StoresOf) (before after : OutputOf) : Type 0 where
   pub setup : DeviceSetupOf
   pub begins : IsDeviceSetup (device_alone job) files setup
-  pub apart : IsApart files (device_shows job) (job.config.now ∷ [])
+  pub apart : IsApart files (device_shows job) (inputs_of (config_source job.config) [])
   pub runs : RunsSetup job setup stores before after
 
 -- WHY IT FAILS
@@ -141,14 +143,14 @@ SetupStops job s stores told before after = (after ≡ before) ⊎ SetupBreaks j
 pub record OverwritesDevice (job : DeviceProcess) (told : JobFault) (files : List ℕ → FileOf) : Type 0 where
   pub setup : DeviceSetupOf
   pub begins : IsDeviceSetup (device_alone job) files setup
-  pub over : (told ≡ faults.Memory) ⊎ IsOverRead files (device_shows job) (job.config.now ∷ []) told
+  pub over : (told ≡ faults.Memory) ⊎ IsOverRead files (device_shows job) (inputs_of (config_source job.config) []) told
 
 -- It is such a device, and its outputs overwrite nothing. It fails later: nothing is written, or
 -- the device was a process.
 pub record StopsDevice (job : DeviceProcess) (files : List ℕ → FileOf) (stores : (root : List ℕ) → StoresOf) (told : JobFault) (before after : OutputOf) : Type 0 where
   pub setup : DeviceSetupOf
   pub begins : IsDeviceSetup (device_alone job) files setup
-  pub apart : IsApart files (device_shows job) (job.config.now ∷ [])
+  pub apart : IsApart files (device_shows job) (inputs_of (config_source job.config) [])
   pub stops : SetupStops job setup stores told before after
 
 -- The first fault: of the configuration and its device, or of the outputs, and nothing is written;

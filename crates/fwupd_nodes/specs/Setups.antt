@@ -3,6 +3,7 @@
 use Rattle.std.specs.Global.{Global}
 use Rattle.std.specs.Prelude.{ℕ, ◌≡◌, ◌≢◌, ◌<◌, ◌≤◌, ◌==◌, ◌++◌, ◌⊎◌, ◌&&◌, Bool, true, false, List, [], ◌∷◌, Option, None, Some, Result, Ok, Err, IsOk, IsSomeAnd, String, length, nat_le, option_map, string_bytes}
 use Rattle.std.specs.List.{filter, list_all, list_any}
+use Rattle.fd_core.specs.Codes.{longest_image}
 use Rattle.fw_package.specs.Package.{PackageText}
 use Rattle.fw_package.specs.Reading.{package_of}
 use Rattle.fw_package.specs.declared.fault.PackageFault.{PackageFault}
@@ -15,7 +16,9 @@ use Rattle.fw_steps.specs.Worlds.{WorldOf}
 use Rattle.fw_setup.specs.Nodes.{nodes_made}
 use Rattle.fw_setup.specs.Stocks.{HaveStoredImages, IsUnopened, StoresOf}
 use Rattle.fwupd_base.specs.DeviceSets.{has_eid}
+use Rattle.fwupd_base.specs.ImageFiles.{ConfigSourceOf, ImageFileOf}
 use Rattle.fwupd_base.specs.declared.device_set.DeviceSet.{DeviceSet}
+use Rattle.fwupd_nodes.specs.Images.{devices_imaged, has_component}
 use Rattle.fwupd_watch.specs.Files.{FileOf, MayHold}
 use Rattle.fwupd_watch.specs.declared.faults.JobFault.{JobFault}
 use Rattle.fwupd_watch.specs.declared.faults.JobFault.TheVariants as faults
@@ -100,7 +103,70 @@ IsNone file fault = ⊥
 abbrev pub TextFails : {A : Type 0} → (List ℕ → Result A ScriptFault) → (files : List ℕ → FileOf) → (path : List ℕ) → JobFault → Type 0
 TextFails read files path fault = IsUnread path (files path) fault ⊎ HasNoText read path (files path) fault
 
--- and why a package can't be
+-- ---- a configuration with the images of files
+
+-- The bytes of an image's file, which are the image of a component that is there. This holds of
+-- them.
+pub record HasImage (files : List ℕ → FileOf) (devices : List DeviceConfigOf) (image : ImageFileOf) (Holds : List ℕ → Type 0) : Type 0 where
+  pub there : has_component devices image ≡ true
+  pub bytes : List ℕ
+  pub held : MayHold (files image.path) bytes
+  pub fits : length bytes ≤ longest_image
+  pub holds : Holds bytes
+
+-- The devices with the images of files, one after the other.
+abbrev pub HaveImages : (files : List ℕ → FileOf) → List ImageFileOf → (configured devices : List DeviceConfigOf) → Type 0
+HaveImages files [] configured devices = devices ≡ configured
+HaveImages files (image ∷ images) configured devices =
+    HasImage files configured image (λ bytes. HaveImages files images (devices_imaged image bytes configured) devices)
+
+-- The file holds more bytes than an image may have.
+pub record IsLong (files : List ℕ → FileOf) (path : List ℕ) : Type 0 where
+  pub bytes : List ℕ
+  pub held : MayHold (files path) bytes
+  pub long : longest_image < length bytes
+
+-- the fault is that the file of this path is too long
+abbrev pub IsLongAt : (path : List ℕ) → JobFault → Type 0
+IsLongAt path (faults.LongImage name) = string_bytes name ≡ path
+IsLongAt path fault = ⊥
+
+-- why an image can't be read from the file of a path
+abbrev pub ImageFileFails : (files : List ℕ → FileOf) → (path : List ℕ) → JobFault → Type 0
+ImageFileFails files path told = IsUnread path (files path) told ⊎ (IsLongAt path told × IsLong files path)
+
+-- why a component can't get the image of a file: it isn't there, or its file can't be read
+abbrev pub ImageFails : (files : List ℕ → FileOf) → List DeviceConfigOf → ImageFileOf → JobFault → Type 0
+ImageFails files devices image (faults.NoComponent eid class ident) =
+    (has_component devices image ≡ false) × (eid ≡ image.eid) × (class ≡ image.key.classification) × (ident ≡ image.key.identifier)
+ImageFails files devices image told = (has_component devices image ≡ true) × ImageFileFails files image.path told
+
+-- the first of the images that fails
+abbrev pub ImagesFail : (files : List ℕ → FileOf) → List ImageFileOf → List DeviceConfigOf → JobFault → Type 0
+ImagesFail files [] devices told = ⊥
+ImagesFail files (image ∷ images) devices told =
+    ImageFails files devices image told ⊎ HasImage files devices image (λ bytes. ImagesFail files images (devices_imaged image bytes devices) told)
+
+-- The configuration of a source.
+pub record IsConfigured (files : List ℕ → FileOf) (source : ConfigSourceOf) (config : ConfigOf) : Type 0 where
+  pub text : ConfigOf
+  pub says : Says config_of (files source.path) text
+  pub images : HaveImages files source.images text.devices config.devices
+  pub is : config ≡ record text { devices = config.devices }
+
+-- The text is a configuration, and one of the images fails.
+pub record LacksImage (files : List ℕ → FileOf) (source : ConfigSourceOf) (told : JobFault) : Type 0 where
+  pub text : ConfigOf
+  pub says : Says config_of (files source.path) text
+  pub fails : ImagesFail files source.images text.devices told
+
+-- why there is no configuration
+abbrev pub ConfigFails : (files : List ℕ → FileOf) → ConfigSourceOf → JobFault → Type 0
+ConfigFails files source told = TextFails config_of files source.path told ⊎ LacksImage files source told
+
+-- ---- packages
+
+-- why a package can't be read from the file of a path
 abbrev pub PackageFails : (files : List ℕ → FileOf) → (path : List ℕ) → JobFault → Type 0
 PackageFails files path fault = IsUnread path (files path) fault ⊎ IsNone (files path) fault
 
@@ -120,10 +186,10 @@ pub record PackagesFail (files : List ℕ → FileOf) (paths : List (List ℕ)) 
   pub read : ArePackages files before packages
   pub fails : PackageFails files path fault
 
--- The source of nodes: the path of a configuration, the knowledge of the stores of its devices, if
--- they have some, and the set of the chosen devices, if not all are chosen.
+-- The source of nodes: a configuration, the knowledge of the stores of its devices, if they have
+-- some, and the set of the chosen devices, if not all are chosen.
 pub record SourceOf : Type 0 where
-  pub path : List ℕ
+  pub config : ConfigSourceOf
   pub stores : Option StoresOf
   pub chosen : Option DeviceSet
 
@@ -133,8 +199,8 @@ any_stores = record { is_known = false; files = λ device name. None }
 
 -- all devices of a configuration, with the stores in a folder, if one is given; and the chosen
 -- devices
-abbrev pub source_of : ((root : List ℕ) → StoresOf) → (root : Option (List ℕ)) → (path : List ℕ) → SourceOf
-source_of stores root path = record { path = path; stores = option_map stores root; chosen = None }
+abbrev pub source_of : ((root : List ℕ) → StoresOf) → (root : Option (List ℕ)) → ConfigSourceOf → SourceOf
+source_of stores root config = record { config = config; stores = option_map stores root; chosen = None }
 
 abbrev pub chosen_source : SourceOf → Option DeviceSet → SourceOf
 chosen_source source chosen = record source { chosen = chosen }
@@ -196,32 +262,32 @@ pub record IsSetup (files : List ℕ → FileOf) (source : SourceOf) (w : WorldO
   pub config : ConfigOf
   pub packages : List PackageText
   pub devices : List DeviceConfigOf
-  pub says : Says config_of (files source.path) config
+  pub says : IsConfigured files source.config config
   pub are : ArePackages files config.packages packages
   pub there : AreConfigured source.chosen config.devices
   pub stocked : AreDevices source.stores (chosen_in source.chosen config.devices) devices
   pub world : w ≡ new_world config.agent (nodes_made config.unit config.agent.eid devices) packages
 
 -- why there is none
-pub record PackagesOfFail (files : List ℕ → FileOf) (path : List ℕ) (fault : JobFault) : Type 0 where
+pub record PackagesOfFail (files : List ℕ → FileOf) (source : ConfigSourceOf) (fault : JobFault) : Type 0 where
   pub config : ConfigOf
-  pub says : Says config_of (files path) config
+  pub says : IsConfigured files source config
   pub fail : PackagesFail files config.packages fault
 
-abbrev pub SetupFails : (files : List ℕ → FileOf) → (path : List ℕ) → JobFault → Type 0
-SetupFails files path fault = TextFails config_of files path fault ⊎ PackagesOfFail files path fault
+abbrev pub SetupFails : (files : List ℕ → FileOf) → ConfigSourceOf → JobFault → Type 0
+SetupFails files source fault = ConfigFails files source fault ⊎ PackagesOfFail files source fault
 
 -- and why there is none if a package `number`, counted from 1, is requested, which is checked
 -- before any package is read
-pub record NumberedFail (files : List ℕ → FileOf) (path : List ℕ) (number : ℕ) (fault : JobFault) : Type 0 where
+pub record NumberedFail (files : List ℕ → FileOf) (source : ConfigSourceOf) (number : ℕ) (fault : JobFault) : Type 0 where
   pub config : ConfigOf
-  pub says : Says config_of (files path) config
+  pub says : IsConfigured files source config
   pub counted : 1 ≤ number
   pub there : number ≤ length config.packages
   pub fail : PackagesFail files config.packages fault
 
-abbrev pub NumberedSetupFails : (files : List ℕ → FileOf) → (path : List ℕ) → (number : ℕ) → JobFault → Type 0
-NumberedSetupFails files path number fault = TextFails config_of files path fault ⊎ NumberedFail files path number fault
+abbrev pub NumberedSetupFails : (files : List ℕ → FileOf) → ConfigSourceOf → (number : ℕ) → JobFault → Type 0
+NumberedSetupFails files source number fault = ConfigFails files source fault ⊎ NumberedFail files source number fault
 
 -- the fault is that of the first of the devices whose store can't be opened
 abbrev pub TellsUnopened : StoresOf → List DeviceConfigOf → JobFault → Type 0
@@ -236,13 +302,13 @@ TellsStore fault = ⊥
 -- The configuration in a file lacks a chosen device.
 pub record LacksChosen (files : List ℕ → FileOf) (source : SourceOf) (fault : JobFault) : Type 0 where
   pub config : ConfigOf
-  pub says : Says config_of (files source.path) config
+  pub says : IsConfigured files source.config config
   pub missing : TellsMissing source.chosen config.devices fault
 
 -- It has the chosen devices, one of which has no package of its number.
 pub record LacksChosenPackage (files : List ℕ → FileOf) (source : SourceOf) (numbers : ℕ → ℕ) : Type 0 where
   pub config : ConfigOf
-  pub says : Says config_of (files source.path) config
+  pub says : IsConfigured files source.config config
   pub there : AreConfigured source.chosen config.devices
   pub none : have_packages numbers (length config.packages) (chosen_in source.chosen config.devices) ≡ false
 
@@ -250,34 +316,35 @@ pub record LacksChosenPackage (files : List ℕ → FileOf) (source : SourceOf) 
 -- after each device and its number were found in the configuration
 pub record ChosenPackagesFail (files : List ℕ → FileOf) (source : SourceOf) (numbers : ℕ → ℕ) (fault : JobFault) : Type 0 where
   pub config : ConfigOf
-  pub says : Says config_of (files source.path) config
+  pub says : IsConfigured files source.config config
   pub there : AreConfigured source.chosen config.devices
   pub numbered : have_packages numbers (length config.packages) (chosen_in source.chosen config.devices) ≡ true
   pub fail : PackagesFail files config.packages fault
 
 abbrev pub ChosenSetupFails : (files : List ℕ → FileOf) → (source : SourceOf) → (numbers : ℕ → ℕ) → JobFault → Type 0
-ChosenSetupFails files source numbers fault = TextFails config_of files source.path fault ⊎ ChosenPackagesFail files source numbers fault
+ChosenSetupFails files source numbers fault = ConfigFails files source.config fault ⊎ ChosenPackagesFail files source numbers fault
 
--- The configuration has the chosen devices, and its packages are correct. The store of a chosen
--- device can't be opened.
-pub record ChosenStoresFail (files : List ℕ → FileOf) (source : SourceOf) (fault : JobFault) : Type 0 where
+-- The configuration has the chosen devices and a package for each, and its packages are correct.
+-- The store of a chosen device can't be opened.
+pub record ChosenStoresFail (files : List ℕ → FileOf) (source : SourceOf) (numbers : ℕ → ℕ) (fault : JobFault) : Type 0 where
   pub config : ConfigOf
-  pub says : Says config_of (files source.path) config
+  pub says : IsConfigured files source.config config
   pub packages : List PackageText
   pub are : ArePackages files config.packages packages
   pub there : AreConfigured source.chosen config.devices
+  pub numbered : have_packages numbers (length config.packages) (chosen_in source.chosen config.devices) ≡ true
   pub unopened : IsSomeAnd source.stores (λ s. TellsUnopened s (chosen_in source.chosen config.devices) fault)
 
 -- The configuration and its packages are correct, and the store of a device can't be opened.
 pub record StoresFail (files : List ℕ → FileOf) (source : SourceOf) (fault : JobFault) : Type 0 where
   pub config : ConfigOf
-  pub says : Says config_of (files source.path) config
+  pub says : IsConfigured files source.config config
   pub packages : List PackageText
   pub are : ArePackages files config.packages packages
   pub unopened : IsSomeAnd source.stores (λ s. TellsUnopened s config.devices fault)
 
 -- The configuration in a file has no package of this number.
-pub record LacksPackage (files : List ℕ → FileOf) (path : List ℕ) (number : ℕ) : Type 0 where
+pub record LacksPackage (files : List ℕ → FileOf) (source : ConfigSourceOf) (number : ℕ) : Type 0 where
   pub config : ConfigOf
-  pub says : Says config_of (files path) config
+  pub says : IsConfigured files source config
   pub none : (number ≡ 0) ⊎ (length config.packages < number)

@@ -1,6 +1,6 @@
 //! The agent of a configuration as a process of its own.
 
-ghost use Rattle.std.specs.Prelude.{◌≡◌, ◌≤◌, ◌⊎◌, IfErr, IfOk, IfSome, IsOk, IsSome, IsSomeAnd, None, Ok, OnErr, OnOk, Some, length, map, true};
+ghost use Rattle.std.specs.Prelude.{◌∷◌, ◌≡◌, ◌≤◌, ◌⊎◌, IfErr, IfOk, IfSome, IsOk, IsSome, None, Ok, OnErr, OnOk, Some, length, map, string_bytes, true};
 ghost use Rattle.std.specs.List.{AllByRecursion};
 ghost use Rattle.fw_package.specs.Reading.{package_of};
 ghost use Rattle.fw_script.specs.Seen.{config_seen, device_of};
@@ -9,8 +9,9 @@ ghost use Rattle.fw_serve.specs.Agents.{new_served_agent};
 ghost use Rattle.fw_trace.specs.Records.{records_bytes};
 ghost use Rattle.fwupd_nodes.specs.Hosts.{agent_store_in};
 ghost use Rattle.fwupd_nodes.specs.AgentStores.{agent_setup_seen, keeps_nothing};
-ghost use Rattle.fwupd_nodes.specs.Processes.{AgentProcessEnds, AgentSetupStops, ContentsStop, EndFails, EndsServed, HasEnded, KeptStops, ObservedEndFails, RunsAgent, RunsAgentSetup, RunsKept, RunsPackages, RunsServed, ServedStops, ServesStarted, agent_report_in, agent_started};
+ghost use Rattle.fwupd_nodes.specs.Processes.{AgentProcessEnds, AgentSetupStops, ContentsStop, EndFails, EndsServed, HasEnded, KeptStops, ObservedEndFails, RunsAgent, RunsAgentSetup, RunsKept, RunsPackages, RunsServed, ServedStops, ServesStarted, agent_report_in, agent_shows, agent_started};
 ghost use Rattle.fwupd_nodes.specs.Sessions.{undone_of};
+ghost use Rattle.fwupd_watch.specs.Apart.{IsApart, IsOverRead};
 ghost use Rattle.fwupd_watch.specs.Outputs.{FailsToWriteOutput, WritesOutput};
 
 use crate::agent_stores::{AgentSetup, open_agent};
@@ -30,13 +31,17 @@ use fw_serve::{AgentProcess, CallFault, ServedAgent, serve_agent_process};
 use fw_trace::log_bytes;
 use fwupd_base::Form;
 use fwupd_traces::{ObservedLine, PacketObserver, Starts, TracedNode, WatchFault};
-use fwupd_watch::{JobFault, Output, OutputPlaces, process_fault, write_file};
+use fwupd_watch::{Files, Inputs, JobFault, Output, OutputPlaces, process_fault, write_file};
 use std::alloc::{AllocError, Global};
 use std::io::Write;
 
 /// Starts the update of each of these devices with a package, in order.
+///
+/// # Errors
+/// `NoPackage` if a start is refused, and `Memory`; the updates before it are started then.
 fn start_all(agent: &mut ServedAgent<'_>, number: usize, eids: &[u8]) -> Result<(), JobFault>
-    ensures { OnOk result (agent.new ≡ agent_started agent.old number eids.now) }
+    ensures started { OnOk result (agent.new ≡ agent_started agent.old number eids.now) }
+    ensures fault { IfErr result (λ e. (e ≡ JobFault.NoPackage) ⊎ (e ≡ JobFault.Memory)) }
 {
     for eid in eids {
         match agent.start(*eid, number) {
@@ -471,6 +476,36 @@ fn serve_packages<H: Parts>(
     serve_setup(alloc, job, &setup, packages.as_slice(), host)
 }
 
+/// Checks the outputs of an agent's process besides its report: none may overwrite the
+/// configuration, a package or another output, or be in a store.
+///
+/// # Errors
+/// As for `check_outputs`.
+fn check_agent_outputs<F: Files>(
+    alloc: Global,
+    files: &F,
+    job: &fwupd_base::AgentProcess<'_>,
+    packages: &[String],
+) -> Result<(), JobFault>
+    ensures apart { OnOk result (IsApart (F.holds files.now) (agent_shows job.now)
+        (job.now.config.now ∷ map (λ p. string_bytes p) packages.now)) }
+    ensures fault { IfErr result (λ e. (e ≡ JobFault.Memory)
+        ⊎ IsOverRead (F.holds files.now) (agent_shows job.now)
+        (job.now.config.now ∷ map (λ p. string_bytes p) packages.now) e) }
+{
+    let inputs = Inputs {
+        config: job.config,
+        images: &[],
+        packages,
+    };
+    let outputs = ProcessOutputs {
+        watching: job.watching,
+        log: job.log,
+        store: job.store,
+    };
+    check_outputs(alloc, files, inputs, outputs)
+}
+
 /// Serves the agent of the configuration in a file as a process of its own: it starts the update of
 /// each device, and handles what comes over sockets or a serial line. It ends when each session is
 /// done or failed. Then the records of its event log, if they are requested, and its report are
@@ -511,12 +546,7 @@ pub fn run_agent<H: Parts>(
         Err(fault) => return Err(fault),
     };
     let packages = config.packages.as_slice();
-    let outputs = ProcessOutputs {
-        watching: job.watching,
-        log: job.log,
-        store: job.store,
-    };
-    match check_outputs(alloc, &host.files, job.config, packages, outputs) {
+    match check_agent_outputs(alloc, &host.files, job, packages) {
         Ok(()) => {}
         Err(fault) => return Err(fault),
     }

@@ -1,7 +1,7 @@
 //! A device or the agent of a configuration by itself, line by line.
 
-ghost use Rattle.std.specs.Prelude.{[], ◌≡◌, ◌≢◌, ◌<◌, ◌==◌, ◌⊎◌, IfErr, IfOk, IfSome, IsOk, IsSome, None, OnErr, OnOk, Some, length, map, option_map, string_bytes, true, ℕ};
-ghost use Rattle.std.specs.List.{AllByRecursion, position};
+ghost use Rattle.std.specs.Prelude.{[], ◌≡◌, ◌≢◌, ◌<◌, ◌⊎◌, IfErr, IfOk, IfSome, IsOk, IsSome, None, OnErr, OnOk, Some, length, map, option_map, string_bytes, true, ℕ};
+ghost use Rattle.std.specs.List.{AllByRecursion};
 ghost use Rattle.fd_core.specs.Components.{HasComponents};
 ghost use Rattle.fw_package.specs.Reading.{package_of};
 ghost use Rattle.fw_script.specs.Seen.{config_seen, device_of};
@@ -14,6 +14,7 @@ ghost use Rattle.fwupd_nodes.specs.Alone.{AgentEnds, AreOutputsApart, DeviceEnds
 ghost use Rattle.fwupd_nodes.specs.Hosts.{FoundOf, LeftOf, agent_store_in};
 
 use crate::host::{Host, Parts};
+use crate::images::{configured, place_of};
 use crate::setups::{configuration, open_kept, package_files, packages_in};
 use fd_core::Bank;
 use fw_node::DeviceNode;
@@ -22,19 +23,11 @@ use fw_serve::{AgentFilter, DeviceFilter, FilterOptions, Front};
 use fw_setup::{MemBanks, device_node};
 use fw_trace::log_bytes;
 use fwupd_base::{AgentAlone, DeviceAlone};
-use fwupd_watch::{Files, JobFault, OutputPlaces, is_over_read, write_file};
+use fwupd_watch::{Files, Inputs, JobFault, OutputPlaces, is_over_read, write_file};
 use mctp_ctl::Endpoint;
 use mctp_wire::Unit;
 use std::alloc::Global;
 use std::io::Write;
-
-/// The place of the first device with this endpoint identifier.
-fn place_of(devices: &[DeviceConfig], eid: u8) -> Option<usize>
-    ensures place { result ≡ position (λ d. d.endpoint.eid == eid) devices.now }
-    ensures within { IfSome result (λ place. place < length devices.now) }
-{
-    devices.iter().position(|device| device.endpoint.eid == eid)
-}
 
 /// The device with this endpoint identifier, in a list of its own.
 fn only_device(
@@ -198,11 +191,11 @@ pub fn device_setup<F: Files>(
         unit,
         devices,
         packages: _,
-    } = match configuration(alloc, files, job.config) {
+    } = match configured(alloc, files, &job.config) {
         Ok(config) => config,
         Err(fault) => return Err(fault),
     };
-    if is_over_read(files, job.report, job.config, &[]) {
+    if is_over_read(files, job.report, Inputs::new(&job.config, &[])) {
         return Err(JobFault::Report);
     }
     match only_device(alloc, devices, job.eid) {
@@ -575,10 +568,15 @@ fn apart_from_read<F: Files>(
     ensures apart { OnOk result (AreOutputsApart job.entry (F.holds files.now) (map (λ p. string_bytes p) packages.now)) }
     ensures over { IfErr result (IsOutputOver job.entry (F.holds files.now) (map (λ p. string_bytes p) packages.now)) }
 {
-    if is_over_read(files, job.log, job.config, packages) {
+    let inputs = Inputs {
+        config: job.config,
+        images: &[],
+        packages,
+    };
+    if is_over_read(files, job.log, inputs) {
         return Err(JobFault::Log);
     }
-    if is_over_read(files, job.report, job.config, packages) {
+    if is_over_read(files, job.report, inputs) {
         return Err(JobFault::Report);
     }
     Ok(())

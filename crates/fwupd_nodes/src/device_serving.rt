@@ -22,7 +22,7 @@ use fw_serve::DeviceProcess;
 use fw_setup::{MemBanks, device_node};
 use fwupd_base::DeviceAlone;
 use fwupd_traces::{ObservedLine, PacketObserver, Starts, TracedNode, WatchFault};
-use fwupd_watch::{JobFault, Output, process_fault};
+use fwupd_watch::{Inputs, JobFault, Output, process_fault};
 use std::alloc::Global;
 use std::io::Write;
 
@@ -247,7 +247,8 @@ pub fn run_device<H: Parts>(
         log: None,
         store: job.store,
     };
-    match check_outputs(alloc, &host.files, job.config, &[], outputs) {
+    let inputs = Inputs::new(&job.config, &[]);
+    match check_outputs(alloc, &host.files, inputs, outputs) {
         Ok(()) => {}
         Err(fault) => return Err(fault),
     }

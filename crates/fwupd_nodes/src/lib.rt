@@ -9,6 +9,7 @@ mod answering;
 mod decoding;
 mod device_serving;
 mod host;
+mod images;
 mod outputs;
 mod sessions;
 mod setups;
@@ -22,11 +23,11 @@ pub use answering::answer_serial;
 pub use decoding::decode_file;
 pub use device_serving::run_device;
 pub use host::{Host, Parts};
+pub use images::configured;
 pub use outputs::{ProcessOutputs, check_outputs};
 pub use sessions::{Undone, undone_in};
 pub use setups::{
-    configuration, open_kept, package_files, packages_in, read_fault, read_kept, schedule,
-    text_fault,
+    open_kept, package_files, packages_in, read_fault, read_kept, schedule, text_fault,
 };
 pub use wires::Wires;
 pub use wiring::{Joined, Network, Observed, Wiring, end_of, observe};

@@ -1,11 +1,12 @@
 //! The files that are written of a process.
 
-ghost use Rattle.std.specs.Prelude.{◌∷◌, ◌≡◌, ◌⊎◌, IfErr, OnOk, map, option_map, string_bytes};
+ghost use Rattle.std.specs.Prelude.{◌≡◌, ◌⊎◌, IfErr, OnOk, option_map};
 ghost use Rattle.fwupd_nodes.specs.Processes.{process_shows};
 ghost use Rattle.fwupd_watch.specs.Apart.{IsApart, IsOverRead};
+ghost use Rattle.fwupd_watch.specs.Inputs.{inputs_seen};
 
 use fwupd_base::{Form, Show, Watching};
-use fwupd_watch::{Files, JobFault, check_apart};
+use fwupd_watch::{Files, Inputs, JobFault, check_apart};
 use std::alloc::Global;
 
 /// The outputs of a process besides its report.
@@ -27,17 +28,16 @@ pub struct ProcessOutputs<'a> {
 pub fn check_outputs<F: Files>(
     alloc: Global,
     files: &F,
-    config: &str,
-    packages: &[String],
+    inputs: Inputs<'_>,
     outputs: ProcessOutputs<'_>,
 ) -> Result<(), JobFault>
     ensures apart { OnOk result (IsApart (F.holds files.now) (process_shows outputs.entry.watching
         (option_map (λ p. p.now) outputs.entry.log) (option_map (λ p. p.now) outputs.entry.store))
-        (config.now ∷ map (λ p. string_bytes p) packages.now)) }
+        (inputs_seen inputs.entry)) }
     ensures fault { IfErr result (λ e. (e ≡ JobFault.Memory) ⊎ IsOverRead (F.holds files.now)
         (process_shows outputs.entry.watching (option_map (λ p. p.now) outputs.entry.log)
         (option_map (λ p. p.now) outputs.entry.store))
-        (config.now ∷ map (λ p. string_bytes p) packages.now) e) }
+        (inputs_seen inputs.entry) e) }
 {
     let show = Show {
         is_quiet: true,
@@ -49,5 +49,5 @@ pub fn check_outputs<F: Files>(
         history: None,
         form: Form::Text,
     };
-    check_apart(alloc, files, config, packages, show)
+    check_apart(alloc, files, inputs, show)
 }

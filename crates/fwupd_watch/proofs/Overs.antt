@@ -1,8 +1,12 @@
 -- Outputs that may overwrite one of several files, and the order in which they are looked at.
-use Rattle.std.proofs.Common.{◌≡◌, ◌<◌, ◌∙◌, ℕ, zero, suc, List, [], ◌∷◌, inl, inr, length, map, get_or, String, Global, ap, subst, arith}
+use Rattle.std.proofs.Common.{◌≡◌, ◌<◌, ◌∙◌, ◌++◌, ℕ, zero, suc, List, [], ◌∷◌, inl, inr, length, map, get_or, String, Global, ap, subst, arith}
+use Rattle.std.specs.List.{AllByRecursion}
 use Rattle.std.specs.Prelude.{string_bytes}
+use Rattle.fwupd_base.specs.ImageFiles.{image_file}
+use Rattle.fwupd_base.specs.declared.image_files.ImageFile.{ImageFile}
 use Rattle.fwupd_watch.specs.Apart.{AreFirstApart, IsApart}
-use Rattle.fwupd_watch.specs.Files.{FileOf, IsOver, IsOverOne}
+use Rattle.fwupd_watch.specs.Files.{FileOf, IsApartFrom, IsOver, IsOverOne}
+use Rattle.fwupd_watch.specs.Inputs.{image_paths}
 use Rattle.fwupd_watch.specs.Running.{ShowOf}
 use Rattle.fwupd_watch.specs.declared.faults.JobFault.{JobFault}
 use Rattle.fwupd_watch.specs.declared.faults.JobFault.TheVariants as faults
@@ -13,6 +17,29 @@ pub over_item : (files : List ℕ → FileOf) (written : List ℕ) (others : Lis
 over_item files written [] i other name lt is called h = absurd (omega arith)
 over_item files written (x ∷ others) zero other name lt is called h = inl (subst (IsOver files written) (called ∙ ap (λ p. string_bytes p) is) h)
 over_item files written (x ∷ others) (suc i) other name lt is called h = inr (over_item files written others i other name (omega arith) is called h)
+
+-- an output may overwrite the file of an image among others
+pub over_image_item : (files : List ℕ → FileOf) (written : List ℕ) (images : List ImageFile) (i : ℕ) (none : ImageFile) → i < length images → IsOver files written (get_or images i none).path.now
+    → IsOverOne files written (image_paths (map image_file images))
+over_image_item files written [] i none lt h = absurd (omega arith)
+over_image_item files written (x ∷ images) zero none lt h = inl h
+over_image_item files written (x ∷ images) (suc i) none lt h = inr (over_image_item files written images i none (omega arith) h)
+
+-- it overwrites one of two groups of files
+pub over_image : (files : List ℕ → FileOf) (written : List ℕ) (images packages : List (List ℕ)) → IsOverOne files written images → IsOverOne files written (images ++ packages)
+over_image files written [] packages h = absurd h
+over_image files written (x ∷ images) packages (inl h) = inl h
+over_image files written (x ∷ images) packages (inr h) = inr (over_image files written images packages h)
+
+pub over_package : (files : List ℕ → FileOf) (written : List ℕ) (images packages : List (List ℕ)) → IsOverOne files written packages → IsOverOne files written (images ++ packages)
+over_package files written [] packages h = h
+over_package files written (x ∷ images) packages h = inr (over_package files written images packages h)
+
+-- or none of both
+pub apart_both : (files : List ℕ → FileOf) (written : List ℕ) (images packages : List (List ℕ)) → AllByRecursion (IsApartFrom files written) images → AllByRecursion (IsApartFrom files written) packages
+    → AllByRecursion (IsApartFrom files written) (images ++ packages)
+apart_both files written [] packages all more = more
+apart_both files written (x ∷ images) packages all more = (all.0, apart_both files written images packages all.1 more)
 
 -- if all outputs are apart, those before that of a fault are
 pub first_apart : (files : List ℕ → FileOf) (show : ShowOf) (paths : List (List ℕ)) (told : JobFault) → IsApart files show paths → AreFirstApart files show paths told

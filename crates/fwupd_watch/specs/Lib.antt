@@ -2,6 +2,7 @@ pub mod Answering
 pub mod Apart
 pub mod Files
 pub mod Histories
+pub mod Inputs
 pub mod Loads
 pub mod Openings
 pub mod Outputs

@@ -1,8 +1,9 @@
 //! Checks that the outputs of a run overwrite neither its inputs nor each other, and are in no
 //! store.
 
-ghost use Rattle.std.specs.Prelude.{◌≡◌, ◌∷◌, ◌⊎◌, false, IfErr, IfOk, IfSome, IsSomeAnd, None, OnOk, map, option_map, string_bytes, true};
+ghost use Rattle.std.specs.Prelude.{◌≡◌, ◌⊎◌, false, IfErr, IfOk, IfSome, IsSomeAnd, None, OnOk, option_map, true};
 ghost use Rattle.fwupd_watch.specs.Files.{IsApartFrom, IsOver};
+ghost use Rattle.fwupd_watch.specs.Inputs.{inputs_seen};
 ghost use Rattle.fwupd_watch.specs.Histories.{HasNoLines};
 ghost use Rattle.fwupd_watch.specs.Recordings.{IsNewRecording};
 ghost use Rattle.fwupd_watch.specs.Running.{HasObserverFault, show_of, shown_of};
@@ -10,6 +11,7 @@ ghost use Rattle.fwupd_watch.specs.Apart.{AreFirstApart, IsApart, IsApartFromUse
 
 use crate::faults::JobFault;
 use crate::files::{Files, is_read, is_same_file};
+use crate::inputs::Inputs;
 use crate::running::{Observer, observer_fault};
 use fwupd_base::Show;
 use std::alloc::{AllocError, Global};
@@ -31,22 +33,21 @@ fn is_over<F: Files>(
     path: Option<&str>,
     first: Option<&str>,
     second: Option<&str>,
-    config: &str,
-    packages: &[String],
+    inputs: Inputs<'_>,
 ) -> bool
     ensures over { result ≡ true
         → IsOverUsed (F.holds files.now) (option_map (λ p. p.now) path.entry)
         (option_map (λ p. p.now) first.entry) (option_map (λ p. p.now) second.entry)
-        (config.now ∷ map (λ p. string_bytes p) packages.now) }
+        (inputs_seen inputs.entry) }
     ensures apart { result ≡ false
         → IsApartFromUsed (F.holds files.now) (option_map (λ p. p.now) path.entry)
         (option_map (λ p. p.now) first.entry) (option_map (λ p. p.now) second.entry)
-        (config.now ∷ map (λ p. string_bytes p) packages.now) }
+        (inputs_seen inputs.entry) }
 {
     let Some(path) = path else {
         return false;
     };
-    if is_read(files, path, config, packages) {
+    if is_read(files, path, inputs) {
         return true;
     }
     if is_written(files, path, first) {
@@ -83,24 +84,23 @@ fn is_barred<F: Files>(
     path: Option<&str>,
     first: Option<&str>,
     second: Option<&str>,
-    config: &str,
-    packages: &[String],
+    inputs: Inputs<'_>,
     store: Option<&str>,
 ) -> Result<bool, AllocError>
     ensures over { IfOk result (λ b. b ≡ true
         → IsOverUsed (F.holds files.now) (option_map (λ p. p.now) path.entry)
         (option_map (λ p. p.now) first.entry) (option_map (λ p. p.now) second.entry)
-        (config.now ∷ map (λ p. string_bytes p) packages.now)
+        (inputs_seen inputs.entry)
         ⊎ IsInStore (F.holds files.now) (option_map (λ p. p.now) path.entry)
         (option_map (λ p. p.now) store.entry)) }
     ensures apart { IfOk result (λ b. b ≡ false
         → IsApartFromUsed (F.holds files.now) (option_map (λ p. p.now) path.entry)
         (option_map (λ p. p.now) first.entry) (option_map (λ p. p.now) second.entry)
-        (config.now ∷ map (λ p. string_bytes p) packages.now)
+        (inputs_seen inputs.entry)
         × IsOutOfStore (F.holds files.now) (option_map (λ p. p.now) path.entry)
         (option_map (λ p. p.now) store.entry)) }
 {
-    if is_over(files, path, first, second, config, packages) {
+    if is_over(files, path, first, second, inputs) {
         return Ok(true);
     }
     is_in_store(alloc, files, path, store)
@@ -114,29 +114,24 @@ fn is_barred<F: Files>(
 pub fn check_apart<F: Files>(
     alloc: Global,
     files: &F,
-    config: &str,
-    packages: &[String],
+    inputs: Inputs<'_>,
     show: Show<'_>,
 ) -> Result<(), JobFault>
     ensures apart { OnOk result (IsApart (F.holds files.now) (show_of show.entry)
-        (config.now ∷ map (λ p. string_bytes p) packages.now)) }
+        (inputs_seen inputs.entry)) }
     ensures fault { IfErr result (λ e. (e ≡ JobFault.Memory)
         ⊎ IsOverRead (F.holds files.now) (show_of show.entry)
-        (config.now ∷ map (λ p. string_bytes p) packages.now) e) }
+        (inputs_seen inputs.entry) e) }
     ensures order { IfErr result (AreFirstApart (F.holds files.now) (show_of show.entry)
-        (config.now ∷ map (λ p. string_bytes p) packages.now)) }
+        (inputs_seen inputs.entry)) }
 {
     let store = show.store;
-    match is_barred(
-        alloc, files, show.trace, None, None, config, packages, store,
-    ) {
+    match is_barred(alloc, files, show.trace, None, None, inputs, store) {
         Ok(false) => {}
         Ok(true) => return Err(JobFault::Trace),
         Err(_) => return Err(JobFault::Memory),
     }
-    match is_barred(
-        alloc, files, show.log, show.trace, None, config, packages, store,
-    ) {
+    match is_barred(alloc, files, show.log, show.trace, None, inputs, store) {
         Ok(false) => {}
         Ok(true) => return Err(JobFault::Log),
         Err(_) => return Err(JobFault::Memory),
@@ -147,8 +142,7 @@ pub fn check_apart<F: Files>(
         show.record,
         show.trace,
         show.log,
-        config,
-        packages,
+        inputs,
         store,
     ) {
         Ok(false) => {}
@@ -164,8 +158,7 @@ pub fn check_apart<F: Files>(
 pub fn begin_apart<F: Files, V: Observer>(
     alloc: Global,
     files: &F,
-    config: &str,
-    packages: &[String],
+    inputs: Inputs<'_>,
     show: Show<'_>,
     watch: &mut V,
 ) -> Result<(), JobFault>
@@ -174,15 +167,15 @@ pub fn begin_apart<F: Files, V: Observer>(
     ensures recording { OnOk result (IfSome (V.watched watch.new).recording IsNewRecording) }
     ensures history { OnOk result (IfSome (V.watched watch.new).history HasNoLines) }
     ensures apart { OnOk result (IsApart (F.holds files.now) (show_of show.entry)
-        (config.now ∷ map (λ p. string_bytes p) packages.now)) }
+        (inputs_seen inputs.entry)) }
     ensures untouched { IfErr result (λ e. (watch.new ≡ watch.old) ⊎ HasObserverFault e (V.watched watch.new).fault) }
     ensures fault { IfErr result (λ e. (e ≡ JobFault.Memory)
         ⊎ IsBarred (F.holds files.now) (V.refuses watch.old) (show_of show.entry)
-        (config.now ∷ map (λ p. string_bytes p) packages.now) e (V.watched watch.new)) }
+        (inputs_seen inputs.entry) e (V.watched watch.new)) }
     ensures order { IfErr result (AreFirstApart (F.holds files.now) (show_of show.entry)
-        (config.now ∷ map (λ p. string_bytes p) packages.now)) }
+        (inputs_seen inputs.entry)) }
 {
-    match check_apart(alloc, files, config, packages, show) {
+    match check_apart(alloc, files, inputs, show) {
         Ok(()) => {}
         Err(fault) => return Err(fault),
     }

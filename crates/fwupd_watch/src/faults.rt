@@ -63,6 +63,13 @@ pub enum JobFault {
     /// The configuration has no device with this endpoint identifier.
     #[error("device {0}: none")]
     NoDevice(u8),
+    /// The device with this endpoint identifier has no component of this classification and
+    /// identifier, or the configuration has no such device.
+    #[error("component {0}/{1}-{2}: none")]
+    NoComponent(u8, u16, u16),
+    /// The file of this path has more than the 1,048,576 bytes of an image.
+    #[error("{0}: Size")]
+    LongImage(String),
     /// The report of a node by itself can't be written.
     #[error("report")]
     Report,

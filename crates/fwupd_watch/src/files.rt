@@ -1,14 +1,17 @@
 //! The files that a job reads.
 
 ghost use Rattle.std.specs.Io.KnownBytes.{IsAtEnd};
-ghost use Rattle.std.specs.Prelude.{◌≡◌, ◌≢◌, ◌<◌, ◌≤◌, ◌⊎◌, ◌↔◌, ◌∷◌, IfErr, IfOk, IfSome, IsSomeAnd, List, OnOk, Some, codes, option_map, false, length, map, string_bytes, take, true, ℕ};
+ghost use Rattle.std.specs.Prelude.{◌≡◌, ◌≢◌, ◌<◌, ◌≤◌, ◌⊎◌, ◌↔◌, IfErr, IfOk, IfSome, IsSomeAnd, List, OnOk, Some, codes, option_map, false, length, map, string_bytes, take, true, ℕ};
 ghost use Rattle.std.specs.List.{AllByRecursion};
 ghost use Rattle.fw_package.specs.Outlines.{IsBeginning};
 ghost use Rattle.fwupd_watch.specs.Files.{AreTwoPlaces, FileOf, IsApartFrom, IsInFolder, IsOneEntry, IsOnePlace, IsOutsideFolder, IsOver, IsOverOne, MayBe, MayBegin, MayHold, MayLink, any_file};
+ghost use Rattle.fwupd_base.specs.ImageFiles.{image_file};
+ghost use Rattle.fwupd_watch.specs.Inputs.{image_paths, inputs_seen};
 ghost use Rattle.fwupd_watch.specs.Paths.{IsFolderAndName, path_in, system_path};
 
 use crate::beginnings::{BEGINNING, Beginning, read_first};
-use fwupd_base::read_some;
+use crate::inputs::Inputs;
+use fwupd_base::{ImageFile, read_some};
 use std::alloc::{AllocError, Global};
 use std::fs::{self, File};
 use std::io::{self, ErrorKind, Read};
@@ -361,32 +364,44 @@ pub fn is_one_of<F: Files>(files: &F, path: &str, others: &[String]) -> bool
     false
 }
 
-/// Returns whether a path may name an input of a run: its configuration, or one of its packages.
-pub fn is_read<F: Files>(files: &F, path: &str, config: &str, packages: &[String]) -> bool
-    ensures over { result ≡ true → IsOverOne (F.holds files.now) path.now (config.now ∷ map (λ p. string_bytes p) packages.now) }
+/// Whether a path may name the file of one of these images.
+fn is_image<F: Files>(files: &F, path: &str, images: &[ImageFile<'_>]) -> bool
+    ensures over { result ≡ true → IsOverOne (F.holds files.now) path.now (image_paths (map image_file images.now)) }
     ensures apart { result ≡ false
         → AllByRecursion (IsApartFrom (F.holds files.now) path.now)
-        (config.now ∷ map (λ p. string_bytes p) packages.now) }
+        (image_paths (map image_file images.now)) }
 {
-    is_same_file(files, config, path) || is_one_of(files, path, packages)
+    for image in images {
+        if is_same_file(files, image.path, path) {
+            return true;
+        }
+    }
+    false
 }
 
-/// Returns whether an output, if there is one, may overwrite an input of a run.
-pub fn is_over_read<F: Files>(
-    files: &F,
-    path: Option<&str>,
-    config: &str,
-    packages: &[String],
-) -> bool
+/// Returns whether a path may name an input.
+#[tactic(auto, using(crate::proofs::Overs::over_image, crate::proofs::Overs::over_package, crate::proofs::Overs::apart_both))]
+pub fn is_read<F: Files>(files: &F, path: &str, inputs: Inputs<'_>) -> bool
+    ensures over { result ≡ true → IsOverOne (F.holds files.now) path.now (inputs_seen inputs.entry) }
+    ensures apart { result ≡ false
+        → AllByRecursion (IsApartFrom (F.holds files.now) path.now) (inputs_seen inputs.entry) }
+{
+    is_same_file(files, inputs.config, path)
+        || is_image(files, path, inputs.images)
+        || is_one_of(files, path, inputs.packages)
+}
+
+/// Returns whether an output, if there is one, may overwrite an input.
+pub fn is_over_read<F: Files>(files: &F, path: Option<&str>, inputs: Inputs<'_>) -> bool
     ensures over { result ≡ true
         → IsSomeAnd (option_map (λ p. p.now) path.entry) (λ p. IsOverOne (F.holds files.now) p
-        (config.now ∷ map (λ p. string_bytes p) packages.now)) }
+        (inputs_seen inputs.entry)) }
     ensures apart { result ≡ false
         → IfSome (option_map (λ p. p.now) path.entry) (λ p. AllByRecursion
-        (IsApartFrom (F.holds files.now) p) (config.now ∷ map (λ p. string_bytes p) packages.now)) }
+        (IsApartFrom (F.holds files.now) p) (inputs_seen inputs.entry)) }
 {
     match path {
-        Some(path) => is_read(files, path, config, packages),
+        Some(path) => is_read(files, path, inputs),
         None => false,
     }
 }

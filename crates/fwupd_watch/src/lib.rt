@@ -10,6 +10,7 @@ mod files;
 mod history;
 mod history_calls;
 mod history_opening;
+mod inputs;
 mod loads;
 mod logging;
 mod output;
@@ -36,6 +37,7 @@ pub use files::{
 pub use history::HistoryFile;
 pub use history_calls::HistoryCalls;
 pub use history_opening::{history_path, open_history};
+pub use inputs::Inputs;
 pub use output::Output;
 pub use packet_progress::PacketProgress;
 pub use places::{FileCalls, OutputPlaces, WholeFiles, write_file};

@@ -61,7 +61,8 @@ pub record IsAllowed (value : Option ℕ × ℕ) : Type 0 where
   pub least : IfSome value.0 (λ eid. 8 ≤ eid)
   pub most : IfSome value.0 (λ eid. eid ≤ 254)
 
-within_bounds : (low high : ℕ) (text : Text) → IfSome (number_within low high text) (λ n. (low ≤ n) × (n ≤ high))
+-- the bounds of a number
+pub within_bounds : (low high : ℕ) (text : Text) → IfSome (number_within low high text) (λ n. (low ≤ n) × (n ≤ high))
 within_bounds low high text = go (is_within low high (without_leading_plus text)) refl
   where
     go : (b : Bool) → is_within low high (without_leading_plus text) ≡ b → IfSome (number_within low high text) (λ n. (low ≤ n) × (n ≤ high))

@@ -5,8 +5,9 @@ use Rattle.clap.specs.Walk.{Row, Text}
 use Rattle.clap.specs.Words.{all_of, fault_of, first_of, subcommand_of}
 use Rattle.clap.specs.declared.error.kind.ErrorKind.{ErrorKind}
 use Rattle.clap.specs.declared.error.kind.ErrorKind.TheVariants.{ArgumentConflict, MissingRequiredArgument, InvalidValue, ValueValidation}
-use Rattle.fwupd_words.specs.Clashes.{run_clash}
+use Rattle.fwupd_words.specs.Clashes.{common_clash, run_clash}
 use Rattle.fwupd_words.specs.CommandLine.{Forms, command_line}
+use Rattle.fwupd_words.specs.Images.{value_of_image}
 use Rattle.fwupd_words.specs.Packages.{package_of, value_of}
 use Rattle.fwupd_words.specs.Processes.{agent_clash, device_clash}
 use Rattle.fwupd_words.specs.Words.{given_by}
@@ -175,3 +176,49 @@ package_twice forms = refl
 package_each : (forms : Forms) → run_clashes forms (codes "fwupd" ∷ codes "run" ∷ codes "--package=9=1" ∷ codes "--package=10=2" ∷ codes "--package=1" ∷ codes "a" ∷ codes "b" ∷ []) ≡ Some None
 unfolding clap_on_literals
 package_each forms = refl
+
+-- a value of an image is EID/CLASS-IDENT=PATH, and no other text; the path may have each separator
+image_of_10_1 : value_of_image (codes "16/10-1=run.image") ≡ Some (record { eid = 16; key = record { classification = 10; identifier = 1 }; path = codes "run.image" })
+image_of_10_1 = refl
+
+image_of_input : value_of_image (codes "254/65535-0=-") ≡ Some (record { eid = 254; key = record { classification = 65535; identifier = 0 }; path = codes "-" })
+image_of_input = refl
+
+image_of_separators : value_of_image (codes "8/0-0=a/b-c=d") ≡ Some (record { eid = 8; key = record { classification = 0; identifier = 0 }; path = codes "a/b-c=d" })
+image_of_separators = refl
+
+image_of_7 : value_of_image (codes "7/10-1=a") ≡ None
+image_of_7 = refl
+
+image_of_65536 : value_of_image (codes "9/65536-1=a") ≡ None
+image_of_65536 = refl
+
+image_of_no_path : value_of_image (codes "9/10-1=") ≡ None
+image_of_no_path = refl
+
+image_of_no_component : value_of_image (codes "9=a/10-1") ≡ None
+image_of_no_component = refl
+
+image_of_nothing : value_of_image [] ≡ None
+image_of_nothing = refl
+
+-- each use of the option adds a value, in the order of the uses, and values that don't fit are
+-- refused before all else
+two_images : (forms : Forms) → given_all (codes "image") (subcommand_of (command_line forms) (codes "fwupd" ∷ codes "plan" ∷ codes "--image=9/10-1=b" ∷ codes "a" ∷ codes "--image" ∷ codes "9/10-2=c" ∷ [])) ≡ Some (Some (codes "9/10-1=b" ∷ codes "9/10-2=c" ∷ []))
+unfolding clap_on_literals
+two_images forms = refl
+
+abbrev common_clashes : Forms → List Text → Option (Option ErrorKind)
+common_clashes forms words = option_map (λ named. common_clash (given_by named.1)) (subcommand_of (command_line forms) words)
+
+images_fit : (forms : Forms) → common_clashes forms (codes "fwupd" ∷ codes "status" ∷ codes "--image=9/10-1=b" ∷ codes "--image=10/10-1=b" ∷ codes "a" ∷ []) ≡ Some None
+unfolding clap_on_literals
+images_fit forms = refl
+
+malformed_image : (forms : Forms) → common_clashes forms (codes "fwupd" ∷ codes "status" ∷ codes "--image=9/10=b" ∷ codes "a" ∷ []) ≡ Some (Some ValueValidation)
+unfolding clap_on_literals
+malformed_image forms = refl
+
+image_twice : (forms : Forms) → common_clashes forms (codes "fwupd" ∷ codes "status" ∷ codes "--image=9/10-1=b" ∷ codes "--image=09/010-1=c" ∷ codes "a" ∷ []) ≡ Some (Some ArgumentConflict)
+unfolding clap_on_literals
+image_twice forms = refl

@@ -11,3 +11,4 @@ mod Given
 mod Devices
 mod Chosen
 mod Eids
+mod ImageFiles

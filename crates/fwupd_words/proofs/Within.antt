@@ -1,5 +1,5 @@
 -- The numbers of each job are within the bounds of the command line.
-use Rattle.std.proofs.Common.{◌≡◌, ◌∙◌, ◌≤◌, ◌<◌, ◌^◌, ◌∷◌, [], Bool, ℕ, List, Some, arith, codes, false, true, inl, inr, refl, subst, sym}
+use Rattle.std.proofs.Common.{◌≡◌, ◌∙◌, ◌≤◌, ◌<◌, ◌^◌, ◌∷◌, [], Bool, ℕ, List, None, Some, arith, codes, false, true, inl, inr, refl, subst, sym}
 use Rattle.clap.specs.Faults.{check_fault}
 use Rattle.clap.specs.Takes.{is_given}
 use Rattle.std.specs.Str.{bytes_eq}
@@ -8,6 +8,7 @@ use Rattle.clap.specs.Walk.{Row, Rule, Text, arg_by_id, has_row}
 use Rattle.clap.specs.Words.{App, fault_of, subcommand_of}
 use Rattle.fwupd_words.specs.CommandLine.{Forms, agent, answer, device, devices_rule, number_between, command_line, own_package_rule, package_rule, parsed_option, plan, run, soak, text_option, word_rule}
 use Rattle.fwupd_words.specs.Reading.{IsNoByte, HasAllowedDevices, HasAllowedPackages, HasAllowedRoughness, HasAllowedTicks, IsWithinBounds}
+use Rattle.fwupd_words.specs.Clashes.{common_clash}
 use Rattle.fwupd_words.specs.Jobs.{AsksForJob}
 use Rattle.fwupd_words.specs.Processes.{AsksServing, usual_tick}
 use Rattle.fwupd_words.specs.Words.{AsksChance, AsksEndpoint, AsksNumber, AsksOrder, AsksRoughness, AsksSmall, AsksSoak, given_by, texts_under}
@@ -23,6 +24,7 @@ use Rattle.fwupd_base.specs.declared.processes.Wire.TheVariants as wires
 use Rattle.fwupd_words.proofs.Bounds.{number_at, number_or, number_under, some_number, texts_at}
 use Rattle.fwupd_words.proofs.Chosen.{package_least}
 use Rattle.fwupd_words.proofs.Closed.{some_forms}
+use Rattle.fwupd_words.proofs.ImageFiles.{images_allowed}
 use Rattle.fwupd_words.proofs.Eids.{AllAccepted, all_bytes, chosen_eid}
 use Rattle.fwupd_words.proofs.Entered.{OnlyNamed, rows_read}
 use Rattle.fwupd_words.proofs.Rows.{AllUsual, ◌also◌, AreRead, AreRows, append_usual, flag_usual, help_usual, no_fault_is_one, set_usual}
@@ -48,6 +50,7 @@ device_usual forms =
     flag_usual _ _ _ refl refl refl refl (inr (_, refl))
     also flag_usual _ _ _ refl refl refl refl (inr (_, refl))
     also set_usual _ _ refl refl refl (inl refl)
+    also append_usual _ _ refl refl refl refl
     also set_usual _ _ refl refl refl (inl refl)
     also set_usual _ _ refl refl refl (inl refl)
     also flag_usual _ _ _ refl refl refl refl (inr (_, refl))
@@ -87,6 +90,7 @@ planning_usual : AllUsual (building plan).rules (building plan).rules
 planning_usual =
     set_usual _ _ refl refl refl (inr (_, refl))
     also set_usual _ _ refl refl refl (inl refl)
+    also append_usual _ _ refl refl refl refl
     also flag_usual _ _ _ refl refl refl refl (inr (_, refl))
     also set_usual _ _ refl refl refl (inl refl)
     also help_usual _ _ refl refl refl refl
@@ -103,6 +107,7 @@ running_usual forms =
     also set_usual _ _ refl refl refl (inl refl)
     also set_usual _ _ refl refl refl (inl refl)
     also set_usual _ _ refl refl refl (inl refl)
+    also append_usual _ _ refl refl refl refl
     also flag_usual _ _ _ refl refl refl refl (inr (_, refl))
     also set_usual _ _ refl refl refl (inl refl)
     also set_usual _ _ refl refl refl (inl refl)
@@ -117,6 +122,7 @@ soaking_usual : AllUsual (building soak).rules (building soak).rules
 soaking_usual =
     set_usual _ _ refl refl refl (inl refl)
     also set_usual _ _ refl refl refl (inl refl)
+    also append_usual _ _ refl refl refl refl
     also flag_usual _ _ _ refl refl refl refl (inr (_, refl))
     also set_usual _ _ refl refl refl (inl refl)
     also set_usual _ _ refl refl refl (inl refl)
@@ -290,40 +296,43 @@ ticks_within s rows serving read tick ticks asks =
 
 -- the numbers of a job of arguments without a fault
 pub is_within : (forms : Forms) (words : List Text) (name : Text) (rows : List Row) (job : Job) → fault_of (command_line forms) words ≡ []
-    → subcommand_of (command_line forms) words ≡ Some (name, rows) → AsksForJob name (given_by rows) job → IsWithinBounds job
-is_within forms words name rows (jobs.Answer endpoint) passed is asks = endpoint_within forms words name rows endpoint passed is asks.0 asks.1
-is_within forms words name rows (jobs.AnswerSerial endpoint) passed is asks = endpoint_within forms words name rows endpoint passed is asks.0 asks.1
-is_within forms words name rows (jobs.Plan p) passed is asks =
+    → subcommand_of (command_line forms) words ≡ Some (name, rows) → common_clash (given_by rows) ≡ None → AsksForJob name (given_by rows) job → IsWithinBounds job
+is_within forms words name rows (jobs.Answer endpoint) passed is fits asks = endpoint_within forms words name rows endpoint passed is asks.0 asks.1
+is_within forms words name rows (jobs.AnswerSerial endpoint) passed is fits asks = endpoint_within forms words name rows endpoint passed is asks.0 asks.1
+is_within forms words name rows (jobs.Plan p) passed is fits asks =
     let here = subst (λ n. subcommand_of (command_line forms) words ≡ Some (n, rows)) asks.0 is in
     let only : OnlyNamed (codes "plan") (building plan) (built (command_line forms)).subs =
     inr refl also inr refl also inr refl also inl refl also inr refl also inr refl also inr refl also inr refl also inr refl also inr refl also inr refl also inr refl also inr refl also tt in
-    plan_within rows p.number (rows_read forms words (codes "plan") rows (building plan) passed here only refl planning_usual) asks.1.number
-is_within forms words name rows (jobs.Run u) passed is asks =
+    (plan_within rows p.number (rows_read forms words (codes "plan") rows (building plan) passed here only refl planning_usual) asks.1.number, images_allowed (given_by rows) p.config fits asks.1.config)
+is_within forms words name rows (jobs.Run u) passed is fits asks =
     let here = subst (λ n. subcommand_of (command_line forms) words ≡ Some (n, rows)) asks.0 is in
     let only : OnlyNamed (codes "run") (building (run forms)) (built (command_line forms)).subs =
     inr refl also inr refl also inr refl also inr refl also inl refl also inr refl also inr refl also inr refl also inr refl also inr refl also inr refl also inr refl also inr refl also tt in
-    run_within forms rows u.order (rows_read forms words (codes "run") rows (building (run forms)) passed here only refl (running_usual forms)) asks.4
-is_within forms words name rows (jobs.Soak s) passed is asks =
+    let within = run_within forms rows u.order (rows_read forms words (codes "run") rows (building (run forms)) passed here only refl (running_usual forms)) asks.4 in
+    (within.0, within.1, within.2, images_allowed (given_by rows) u.config fits asks.2)
+is_within forms words name rows (jobs.Soak s) passed is fits asks =
     let here = subst (λ n. subcommand_of (command_line forms) words ≡ Some (n, rows)) asks.0 is in
     let only : OnlyNamed (codes "soak") (building soak) (built (command_line forms)).subs =
     inr refl also inr refl also inr refl also inr refl also inr refl also inl refl also inr refl also inr refl also inr refl also inr refl also inr refl also inr refl also inr refl also tt in
-    soak_within rows s.order (rows_read forms words (codes "soak") rows (building soak) passed here only refl soaking_usual) asks.2
-is_within forms words name rows (jobs.Device d) passed is asks =
-    device_within forms rows d.eid (device_read forms words name rows passed is asks.0) asks.3.eid
-is_within forms words name rows (jobs.DeviceProcess d) passed is asks =
+    let within = soak_within rows s.order (rows_read forms words (codes "soak") rows (building soak) passed here only refl soaking_usual) asks.2 in
+    (within.0, within.1, within.2, images_allowed (given_by rows) s.config fits asks.1)
+is_within forms words name rows (jobs.Device d) passed is fits asks =
+    let eid = device_within forms rows d.eid (device_read forms words name rows passed is asks.0) asks.3.eid in
+    (eid.0, eid.1, images_allowed (given_by rows) d.config fits asks.3.config)
+is_within forms words name rows (jobs.DeviceProcess d) passed is fits asks =
     let read = device_read forms words name rows passed is asks.0 in
     let eid = device_within forms rows d.eid read asks.2.eid in
-    (eid.0, eid.1, ticks_within (building (device forms)) rows d.serving read refl refl asks.2.serving)
-is_within forms words name rows (jobs.AgentProcess a) passed is asks =
+    (eid.0, eid.1, ticks_within (building (device forms)) rows d.serving read refl refl asks.2.serving, images_allowed (given_by rows) d.config fits asks.2.config)
+is_within forms words name rows (jobs.AgentProcess a) passed is fits asks =
     let read = agent_read forms words name rows passed is asks.0 in (
       (number_or (building (agent forms)).rules rows (codes "package") own_package 32 4294967295 1 4294967295 1 a.number read.each refl refl refl (omega arith) refl (omega arith)
           (omega arith) (omega arith) asks.2.number.none asks.2.number.given).0,
       ticks_within (building (agent forms)) rows a.serving read refl refl asks.2.serving,
     )
-is_within forms words name rows (jobs.Agent a) passed is asks = tt
-is_within forms words name rows (jobs.Inspect path form digested) passed is asks = tt
-is_within forms words name rows (jobs.Replay r) passed is asks = tt
-is_within forms words name rows (jobs.Sel file form) passed is asks = tt
-is_within forms words name rows (jobs.Build spec output) passed is asks = tt
-is_within forms words name rows (jobs.Status s) passed is asks = tt
-is_within forms words name rows (jobs.Decode file unit form) passed is asks = tt
+is_within forms words name rows (jobs.Agent a) passed is fits asks = tt
+is_within forms words name rows (jobs.Inspect path form digested) passed is fits asks = tt
+is_within forms words name rows (jobs.Replay r) passed is fits asks = images_allowed (given_by rows) r.config fits asks.2
+is_within forms words name rows (jobs.Sel file form) passed is fits asks = tt
+is_within forms words name rows (jobs.Build spec output) passed is fits asks = tt
+is_within forms words name rows (jobs.Status s) passed is fits asks = images_allowed (given_by rows) s.config fits asks.1.config
+is_within forms words name rows (jobs.Decode file unit form) passed is fits asks = tt

@@ -1,8 +1,9 @@
--- Options that do nothing without others, and values of `--package` that don't fit.
+-- Options that do nothing without others, and values of `--package` and `--image` that don't fit.
 use Rattle.std.specs.Prelude.{◌&&◌, ◌||◌, Bool, if◌then◌else◌, is_some, not, List, Option, None, Some, codes}
 use Rattle.clap.specs.declared.error.kind.ErrorKind.{ErrorKind}
 use Rattle.clap.specs.declared.error.kind.ErrorKind.TheVariants as kinds
 use Rattle.clap.specs.Words.{Text}
+use Rattle.fwupd_words.specs.Images.{image_clash}
 use Rattle.fwupd_words.specs.Packages.{first_malformed, has_twice}
 use Rattle.fwupd_words.specs.Words.{Given, has_value, is_dash, is_set, text_under, texts_under}
 
@@ -20,6 +21,11 @@ abbrev pub has_dashed_output : Given → Bool
 has_dashed_output words =
     is_dash (text_under words (codes "trace")) || (is_dash (text_under words (codes "sel"))
     || (is_dash (text_under words (codes "record")) || is_dash (text_under words (codes "report"))))
+
+-- Why the options that subcommands share are refused, if they are: a file that is to be written is
+-- called `-`, or the values of `--image` don't fit. Nothing else is tested before it.
+abbrev pub common_clash : Given → Option ErrorKind
+common_clash words = if has_dashed_output words then Some kinds.ValueValidation else image_clash (texts_under words (codes "image"))
 
 -- Why the arguments of `build` don't go together, if they don't: JSON and the package would both
 -- be on standard output.

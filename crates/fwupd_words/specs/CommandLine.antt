@@ -79,6 +79,10 @@ devices_rule = record (parsed_option (codes "device") (number_between 8 254)) { 
 abbrev pub packages_rule : Rule
 packages_rule = record (text_option (codes "package")) { action = Some Append }
 
+-- The option of the files of images, each a text: EID/CLASS-IDENT=PATH. Each use adds one.
+abbrev pub images_rule : Rule
+images_rule = record (text_option (codes "image")) { action = Some Append }
+
 -- The options of rough links. They have no default, since a run without chances may have no seed.
 abbrev pub roughness_rules : List Rule
 roughness_rules =
@@ -100,22 +104,23 @@ answer_rules =
 abbrev pub inspect_rules : List Rule
 inspect_rules = flag_rule (codes "digest") ∷ flag_rule (codes "json") ∷ word_rule (codes "FILE") ∷ []
 
--- `fwupd replay [--trace FILE] [--trace-format FORM] [--sel FILE] [--store STORE] [--json] CONFIG
--- SCHEDULE`
+-- `fwupd replay [--trace FILE] [--trace-format FORM] [--sel FILE] [--store STORE]
+-- [--image EID/CLASS-IDENT=PATH]... [--json] CONFIG SCHEDULE`
 abbrev pub replay_rules : Forms → List Rule
 replay_rules forms =
     text_option (codes "trace")
     ∷ trace_form_rule forms
     ∷ text_option (codes "sel")
     ∷ given_option (codes "store")
+    ∷ images_rule
     ∷ flag_rule (codes "json")
     ∷ word_rule (codes "CONFIG")
     ∷ word_rule (codes "SCHEDULE")
     ∷ []
 
--- `fwupd plan [--package N] [--store STORE] [--json] CONFIG`
+-- `fwupd plan [--package N] [--store STORE] [--image EID/CLASS-IDENT=PATH]... [--json] CONFIG`
 abbrev pub plan_rules : List Rule
-plan_rules = package_rule ∷ given_option (codes "store") ∷ flag_rule (codes "json") ∷ word_rule (codes "CONFIG") ∷ []
+plan_rules = package_rule ∷ given_option (codes "store") ∷ images_rule ∷ flag_rule (codes "json") ∷ word_rule (codes "CONFIG") ∷ []
 
 -- `fwupd run [OPTIONS] CONFIG FOLDER`, with the options of rough links last
 abbrev pub run_options : Forms → List Rule
@@ -129,6 +134,7 @@ run_options forms =
     ∷ text_option (codes "sel")
     ∷ text_option (codes "record")
     ∷ given_option (codes "store")
+    ∷ images_rule
     ∷ flag_rule (codes "json")
     ∷ word_rule (codes "CONFIG")
     ∷ given_word (codes "FOLDER")
@@ -138,13 +144,17 @@ abbrev pub run_rules : Forms → List Rule
 run_rules forms = run_options forms ++ roughness_rules
 
 -- `fwupd soak [OPTIONS] --runs N CONFIG`, with the options of rough links last
-abbrev pub soak_rules : List Rule
-soak_rules =
+abbrev pub soak_options : List Rule
+soak_options =
     record (text_option (codes "runs")) { required = true; parser = Some (number_between 1 1000000) }
     ∷ text_option (codes "record")
+    ∷ images_rule
     ∷ flag_rule (codes "json")
     ∷ word_rule (codes "CONFIG")
-    ∷ roughness_rules
+    ∷ []
+
+abbrev pub soak_rules : List Rule
+soak_rules = soak_options ++ roughness_rules
 
 -- `fwupd sel [--json] FILE`
 abbrev pub sel_rules : List Rule
@@ -170,13 +180,14 @@ process_rules forms =
 abbrev pub own_package_rule : Rule
 own_package_rule = record (text_option (codes "package")) { parser = Some (number_between 1 4294967295) }
 
--- `fwupd device [--auto] [--open] [--store STORE] [--report FILE] [--listen FOLDER] [--take-over]
--- CONFIG EID`, with the options of a process last
+-- `fwupd device [--auto] [--open] [--store STORE] [--image EID/CLASS-IDENT=PATH]...
+-- [--report FILE] [--listen FOLDER] [--take-over] CONFIG EID`, with the options of a process last
 abbrev pub device_options : List Rule
 device_options =
     flag_rule (codes "auto")
     ∷ flag_rule (codes "open")
     ∷ given_option (codes "store")
+    ∷ images_rule
     ∷ text_option (codes "report")
     ∷ given_option (codes "listen")
     ∷ flag_rule (codes "take-over")
@@ -210,9 +221,9 @@ agent_rules forms = agent_options ++ process_rules forms
 abbrev pub decode_rules : Forms → List Rule
 decode_rules forms = unit_rule forms ∷ flag_rule (codes "json") ∷ optional_word (codes "FILE") ∷ []
 
--- `fwupd status [--store STORE] [--json] CONFIG`
+-- `fwupd status [--store STORE] [--image EID/CLASS-IDENT=PATH]... [--json] CONFIG`
 abbrev pub status_rules : List Rule
-status_rules = given_option (codes "store") ∷ flag_rule (codes "json") ∷ word_rule (codes "CONFIG") ∷ []
+status_rules = given_option (codes "store") ∷ images_rule ∷ flag_rule (codes "json") ∷ word_rule (codes "CONFIG") ∷ []
 
 -- A command with these arguments, and without subcommands.
 abbrev pub taking : Text → List Rule → App

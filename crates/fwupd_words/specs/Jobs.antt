@@ -2,7 +2,7 @@
 use Rattle.std.specs.Prelude.{ℕ, ◌≡◌, true, false, List, None, codes, option_map}
 use Rattle.fwupd_words.specs.Clashes.{build_clash, replay_clash, run_clash}
 use Rattle.fwupd_words.specs.Processes.{AsksAgentProcess, AsksDeviceProcess, AsksWire, agent_clash, device_clash}
-use Rattle.fwupd_words.specs.Words.{AsksAgent, AsksBuild, AsksDevice, AsksEndpoint, AsksFlag, AsksForm, AsksKept, AsksOrder, AsksPlan, AsksShow, AsksSoak, AsksStatus, AsksUnit, Given, text_under}
+use Rattle.fwupd_words.specs.Words.{AsksAgent, AsksBuild, AsksConfig, AsksDevice, AsksEndpoint, AsksFlag, AsksForm, AsksKept, AsksOrder, AsksPlan, AsksShow, AsksSoak, AsksStatus, AsksUnit, Given, text_under}
 use Rattle.fwupd_words.specs.declared.asked.Job.{Job}
 use Rattle.fwupd_words.specs.declared.asked.Job.TheVariants as jobs
 
@@ -13,16 +13,16 @@ AsksForJob name words (jobs.AnswerSerial endpoint) = (name ≡ codes "answer") �
 AsksForJob name words (jobs.Inspect path form digested) =
     (name ≡ codes "inspect") × (path.now ≡ text_under words (codes "FILE")) × AsksForm words form × AsksFlag words (codes "digest") digested
 AsksForJob name words (jobs.Replay r) =
-    (name ≡ codes "replay") × (replay_clash words ≡ None) × (r.config.now ≡ text_under words (codes "CONFIG")) × (r.schedule.now ≡ text_under words (codes "SCHEDULE")) × (r.show.is_quiet ≡ true) × (r.show.history ≡ None) × AsksKept words r.show
+    (name ≡ codes "replay") × (replay_clash words ≡ None) × AsksConfig words r.config × (r.schedule.now ≡ text_under words (codes "SCHEDULE")) × (r.show.is_quiet ≡ true) × (r.show.record ≡ None) × (r.show.history ≡ None) × AsksKept words r.show
 AsksForJob name words (jobs.Run u) =
-    (name ≡ codes "run") × (run_clash words ≡ None) × (u.config.now ≡ text_under words (codes "CONFIG")) × (u.folder.now ≡ text_under words (codes "FOLDER")) × AsksOrder words u.order × AsksShow words u.show
+    (name ≡ codes "run") × (run_clash words ≡ None) × AsksConfig words u.config × (u.folder.now ≡ text_under words (codes "FOLDER")) × AsksOrder words u.order × AsksShow words u.show
 AsksForJob name words (jobs.Sel file form) = (name ≡ codes "sel") × (file.now ≡ text_under words (codes "FILE")) × AsksForm words form
 AsksForJob name words (jobs.Build spec output) =
     (name ≡ codes "build") × (build_clash words ≡ None) × (spec.now ≡ text_under words (codes "SPEC")) × AsksBuild words output
 AsksForJob name words (jobs.Plan p) = (name ≡ codes "plan") × AsksPlan words p
 AsksForJob name words (jobs.Status s) = (name ≡ codes "status") × AsksStatus words s
 AsksForJob name words (jobs.Soak s) =
-    (name ≡ codes "soak") × (s.config.now ≡ text_under words (codes "CONFIG")) × AsksSoak words s.order
+    (name ≡ codes "soak") × AsksConfig words s.config × AsksSoak words s.order
     × (option_map (λ p. p.now) s.record ≡ words.first (codes "record")) × AsksForm words s.form
 AsksForJob name words (jobs.Device d) =
     (name ≡ codes "device") × (device_clash words ≡ None) × AsksWire words (codes "listen") None × AsksDevice words d

@@ -5,3 +5,4 @@ pub mod Processes
 pub mod Reading
 pub mod Words
 pub mod Packages
+pub mod Images

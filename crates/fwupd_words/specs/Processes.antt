@@ -4,7 +4,7 @@ use Rattle.std.specs.Str.Parse.{IsNumeral, without_leading_plus}
 use Rattle.clap.specs.Words.{Text}
 use Rattle.clap.specs.declared.error.kind.ErrorKind.{ErrorKind}
 use Rattle.clap.specs.declared.error.kind.ErrorKind.TheVariants as kinds
-use Rattle.fwupd_words.specs.Words.{AsksFlag, AsksForm, AsksSmall, AsksTraceForm, Given, has_value, is_set, number_of, text_under}
+use Rattle.fwupd_words.specs.Words.{AsksConfig, AsksFlag, AsksForm, AsksSmall, AsksTraceForm, Given, has_value, is_set, number_of, text_under}
 use Rattle.fwupd_base.specs.declared.processes.AgentProcess.{AgentProcess}
 use Rattle.fwupd_base.specs.declared.processes.DeviceProcess.{DeviceProcess}
 use Rattle.fwupd_base.specs.declared.processes.Serving.{Serving}
@@ -86,7 +86,7 @@ pub record AsksWatching (words : Given) (watching : Watching) : Type 0 where
 
 -- A device as a process.
 pub record AsksDeviceProcess (words : Given) (device : DeviceProcess) : Type 0 where
-  pub config : device.config.now ≡ text_under words (codes "CONFIG")
+  pub config : AsksConfig words device.config
   pub eid : AsksSmall words (codes "EID") device.eid
   pub store : option_map (λ path. path.now) device.store ≡ words.first (codes "store")
   pub wire : AsksWire words (codes "listen") (Some device.serving.wire)

@@ -1,5 +1,6 @@
 -- The result of parsing arguments: a job, or an error with their fault.
-use Rattle.std.specs.Prelude.{ℕ, ◌≡◌, ◌≢◌, ◌<◌, ◌≤◌, ◌^◌, ◌⊎◌, true, false, IfSome, IsSomeAnd, List, [], Option, None, Some, MatchResult, Result, Ok, Err, codes}
+use Rattle.std.specs.Prelude.{ℕ, ◌≡◌, ◌≢◌, ◌<◌, ◌≤◌, ◌^◌, ◌⊎◌, true, IfSome, IsSomeAnd, List, [], Option, None, Some, MatchResult, Result, Ok, Err, codes}
+use Rattle.std.specs.List.{AllByRecursion}
 use Rattle.std.specs.Str.Parse.{IsNumeral, without_leading_plus}
 use Rattle.clap.specs.Words.{App, HasKind, Text, fault_of, has_subcommand, kind_of, subcommand_of, subcommand_rows_of}
 use Rattle.clap.specs.declared.error.Error.{Error}
@@ -7,10 +8,13 @@ use Rattle.clap.specs.declared.error.kind.ErrorKind.TheVariants as kinds
 use Rattle.clap.specs.declared.parser.matches.ArgMatches.{ArgMatches}
 use Rattle.uuid.specs.Text.{parsed}
 use Rattle.fwupd_words.specs.Jobs.{AsksForJob}
-use Rattle.fwupd_words.specs.Clashes.{build_clash, has_dashed_output, replay_clash, run_clash}
+use Rattle.fwupd_words.specs.Clashes.{build_clash, common_clash, replay_clash, run_clash}
+use Rattle.fwupd_words.specs.Images.{image_clash}
 use Rattle.fwupd_words.specs.Processes.{agent_clash, device_clash}
 use Rattle.fwupd_words.specs.Words.{Given, given_by, is_named, number_of, text_under}
+use Rattle.fwupd_base.specs.ImageFiles.{files_in}
 use Rattle.fwupd_base.specs.PackageChoices.{number_for}
+use Rattle.fwupd_base.specs.declared.image_files.ConfigSource.{ConfigSource}
 use Rattle.fwupd_base.specs.declared.device_set.DeviceSet.{DeviceSet}
 use Rattle.fwupd_base.specs.declared.package_choice.PackageChoice.{PackageChoice}
 use Rattle.fwupd_base.specs.declared.roughness.Roughness.{Roughness}
@@ -25,14 +29,21 @@ pub record IsNoUuid (name : Text) (words : Given) (error : Error) : Type 0 where
   pub uuid : parsed (text_under words (codes "uuid")) ≡ None
 
 -- A subcommand is refused for options that don't go together, with the kind of error of their
--- clash, or for an output that is called `-`.
-abbrev pub HasClash : (name : Text) → Given → Error → Type 0
-HasClash name words error =
+-- clash.
+abbrev pub HasOwnClash : (name : Text) → Given → Error → Type 0
+HasOwnClash name words error =
     ((name ≡ codes "device") × (device_clash words ≡ Some (kind_of error)))
     ⊎ (((name ≡ codes "agent") × (agent_clash words ≡ Some (kind_of error)))
     ⊎ (((name ≡ codes "replay") × (replay_clash words ≡ Some (kind_of error)))
     ⊎ (((name ≡ codes "run") × (run_clash words ≡ Some (kind_of error)))
-    ⊎ (((name ≡ codes "build") × (build_clash words ≡ Some (kind_of error))) ⊎ ((has_dashed_output words ≡ true) × (kind_of error ≡ kinds.ValueValidation))))))
+    ⊎ ((name ≡ codes "build") × (build_clash words ≡ Some (kind_of error))))))
+
+-- Options that subcommands share are refused, with the kind of error of their clash. Only if they
+-- fit is a subcommand refused for others.
+abbrev pub HasClash : (name : Text) → Given → Error → Type 0
+HasClash name words error =
+    (common_clash words ≡ Some (kind_of error))
+    ⊎ ((common_clash words ≡ None) × (IsNoUuid name words error ⊎ HasOwnClash name words error))
 
 -- The roughness is within the bounds of the command line.
 pub record HasAllowedRoughness (roughness : Roughness) : Type 0 where
@@ -54,28 +65,34 @@ HasAllowedPackages packages = (eid : ℕ) → eid < 256 → 1 ≤ number_for pac
 abbrev pub HasAllowedDevices : Option DeviceSet → Type 0
 HasAllowedDevices devices = (eid : ℕ) → is_named devices eid ≡ true → (8 ≤ eid) × (eid ≤ 254)
 
+-- The endpoint identifiers of the devices whose images are in files are 8 to 254.
+abbrev pub HasAllowedImages : ConfigSource → Type 0
+HasAllowedImages config = AllByRecursion (λ file. (8 ≤ file.eid) × (file.eid ≤ 254)) (files_in config.images)
+
 -- The numbers of a job are within the bounds of the command line.
 abbrev pub IsWithinBounds : Job → Type 0
 IsWithinBounds (jobs.Answer endpoint) = (8 ≤ endpoint.eid) × (endpoint.eid ≤ 254)
 IsWithinBounds (jobs.AnswerSerial endpoint) = (8 ≤ endpoint.eid) × (endpoint.eid ≤ 254)
-IsWithinBounds (jobs.Device d) = (8 ≤ d.eid) × (d.eid ≤ 254)
-IsWithinBounds (jobs.DeviceProcess d) = (8 ≤ d.eid) × (d.eid ≤ 254) × HasAllowedTicks d.serving
+IsWithinBounds (jobs.Device d) = (8 ≤ d.eid) × (d.eid ≤ 254) × HasAllowedImages d.config
+IsWithinBounds (jobs.DeviceProcess d) = (8 ≤ d.eid) × (d.eid ≤ 254) × HasAllowedTicks d.serving × HasAllowedImages d.config
 IsWithinBounds (jobs.AgentProcess a) = (1 ≤ a.number) × HasAllowedTicks a.serving
-IsWithinBounds (jobs.Plan p) = 1 ≤ p.number
-IsWithinBounds (jobs.Run u) = HasAllowedPackages u.order.packages × HasAllowedDevices u.order.devices × HasAllowedRoughness u.order.roughness
-IsWithinBounds (jobs.Soak s) = (1 ≤ s.order.runs) × (s.order.runs ≤ 1000000) × HasAllowedRoughness s.order.roughness
+IsWithinBounds (jobs.Replay r) = HasAllowedImages r.config
+IsWithinBounds (jobs.Plan p) = (1 ≤ p.number) × HasAllowedImages p.config
+IsWithinBounds (jobs.Status s) = HasAllowedImages s.config
+IsWithinBounds (jobs.Run u) =
+    HasAllowedPackages u.order.packages × HasAllowedDevices u.order.devices × HasAllowedRoughness u.order.roughness × HasAllowedImages u.config
+IsWithinBounds (jobs.Soak s) = (1 ≤ s.order.runs) × (s.order.runs ≤ 1000000) × HasAllowedRoughness s.order.roughness × HasAllowedImages s.config
 IsWithinBounds _ = Unit {0}
 
--- Arguments without a fault give the job that their subcommand requests, or are refused for a
--- malformed UUID or for options that don't go together. The kind of any other error is one of the
+-- Arguments without a fault give the job that their subcommand requests, or are refused for options
+-- that don't fit or go together, or for a malformed UUID. The kind of any other error is one of the
 -- faults of the arguments, or memory ran out.
 abbrev pub ReadsWords : App → List Text → Result Job Error → Type 0
 ReadsWords line words (Ok job) =
-    (fault_of line words ≡ []) × IsSomeAnd (subcommand_of line words) (λ named. AsksForJob named.0 (given_by named.1) job × (has_dashed_output (given_by named.1) ≡ false)) × IsWithinBounds job
+    (fault_of line words ≡ []) × IsSomeAnd (subcommand_of line words) (λ named. AsksForJob named.0 (given_by named.1) job × (common_clash (given_by named.1) ≡ None)) × IsWithinBounds job
 ReadsWords line words (Err error) =
     HasKind (fault_of line words) error
-    ⊎ ((fault_of line words ≡ [])
-    × IsSomeAnd (subcommand_of line words) (λ named. IsNoUuid named.0 (given_by named.1) error ⊎ HasClash named.0 (given_by named.1) error))
+    ⊎ ((fault_of line words ≡ []) × IsSomeAnd (subcommand_of line words) (λ named. HasClash named.0 (given_by named.1) error))
 
 -- ---- the steps
 
@@ -106,12 +123,24 @@ IsNoJob name =
     (name ≢ codes "answer") × (name ≢ codes "inspect") × (name ≢ codes "replay") × (name ≢ codes "plan") × (name ≢ codes "run")
     × (name ≢ codes "soak") × (name ≢ codes "sel") × (name ≢ codes "build") × (name ≢ codes "device") × (name ≢ codes "agent") × (name ≢ codes "decode") × (name ≢ codes "status")
 
--- Why the subcommand with these arguments requests no job: memory ran out, it is `answer` without
--- an endpoint, or options that don't go together.
+-- Why the subcommand with these arguments requests no job, if the options that subcommands share
+-- fit: memory ran out, it is `answer` without an endpoint, or options that don't go together.
 abbrev pub IsRefusedWord : (name : Text) → Given → Error → Type 0
 IsRefusedWord name words error =
-    (kind_of error ≡ kinds.OutOfMemory) ⊎ (((name ≡ codes "answer") × RefusesEndpoint words error) ⊎ HasClash name words error)
+    (kind_of error ≡ kinds.OutOfMemory) ⊎ (((name ≡ codes "answer") × RefusesEndpoint words error) ⊎ HasOwnClash name words error)
 
 -- or there is no such subcommand
+abbrev pub RefusesJob : (name : Text) → Given → Error → Type 0
+RefusesJob name words error = IsRefusedWord name words error ⊎ IsNoJob name
+
+-- Why the values of `--image` are refused: memory ran out, or they don't fit.
+abbrev pub RefusesImages : List Text → Error → Type 0
+RefusesImages texts error = (kind_of error ≡ kinds.OutOfMemory) ⊎ (image_clash texts ≡ Some (kind_of error))
+
+-- Why arguments are refused: memory ran out, or the options that subcommands share don't fit, or
+-- else for the subcommand.
+abbrev pub RefusesCommon : Given → Error → Type 0
+RefusesCommon words error = (kind_of error ≡ kinds.OutOfMemory) ⊎ (common_clash words ≡ Some (kind_of error))
+
 abbrev pub RefusesWords : (name : Text) → Given → Error → Type 0
-RefusesWords name words error = IsRefusedWord name words error ⊎ IsNoJob name
+RefusesWords name words error = RefusesCommon words error ⊎ ((common_clash words ≡ None) × RefusesJob name words error)

@@ -9,6 +9,9 @@ use Rattle.clap.specs.declared.parser.matches.ArgMatches.{ArgMatches}
 use Rattle.fwupd_base.specs.DeviceSets.{has_eid}
 use Rattle.fwupd_base.specs.PackageChoices.{number_for}
 use Rattle.fwupd_base.specs.declared.package_choice.PackageChoice.{PackageChoice}
+use Rattle.fwupd_base.specs.ImageFiles.{files_in}
+use Rattle.fwupd_base.specs.declared.image_files.ConfigSource.{ConfigSource}
+use Rattle.fwupd_words.specs.Images.{image_clash, images_of}
 use Rattle.fwupd_words.specs.Packages.{has_any_own, has_own, package_of}
 use Rattle.fwupd_base.specs.declared.device_set.DeviceSet.{DeviceSet}
 use Rattle.fwupd_base.specs.declared.roughness.Roughness.{Roughness}
@@ -89,16 +92,21 @@ pub record AsksForm (words : Given) (form : Form) : Type 0 where
 pub record AsksNumber (words : Given) (number : ℕ) : Type 0 where
   pub is : (text : List ℕ) → words.one (codes "package") ≡ Some text → IsNumeral 10 (without_leading_plus text) → number_of text < 2 ^ 32 → number ≡ number_of text
 
+-- A configuration: its path, and the files of images, if the values of `--image` fit.
+pub record AsksConfig (words : Given) (config : ConfigSource) : Type 0 where
+  pub path : config.path.now ≡ text_under words (codes "CONFIG")
+  pub images : image_clash (texts_under words (codes "image")) ≡ None → files_in config.images ≡ images_of (texts_under words (codes "image"))
+
 -- The plan of an update.
 pub record AsksPlan (words : Given) (plan : Plan) : Type 0 where
-  pub config : plan.config.now ≡ text_under words (codes "CONFIG")
+  pub config : AsksConfig words plan.config
   pub store : option_map (λ path. path.now) plan.store ≡ words.first (codes "store")
   pub number : AsksNumber words plan.number
   pub form : AsksForm words plan.form
 
 -- What runs on devices.
 pub record AsksStatus (words : Given) (status : Status) : Type 0 where
-  pub config : status.config.now ≡ text_under words (codes "CONFIG")
+  pub config : AsksConfig words status.config
   pub store : option_map (λ path. path.now) status.store ≡ words.first (codes "store")
   pub form : AsksForm words status.form
 
@@ -205,7 +213,7 @@ pub record AsksSoak (words : Given) (order : SoakOrder) : Type 0 where
 
 -- A device by itself.
 pub record AsksDevice (words : Given) (device : DeviceAlone) : Type 0 where
-  pub config : device.config.now ≡ text_under words (codes "CONFIG")
+  pub config : AsksConfig words device.config
   pub eid : AsksSmall words (codes "EID") device.eid
   pub automatic : AsksFlag words (codes "auto") device.is_automatic
   pub opened : AsksFlag words (codes "open") device.is_open

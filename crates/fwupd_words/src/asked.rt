@@ -1,8 +1,8 @@
 //! The jobs that arguments request.
 
 use fwupd_base::{
-    AgentAlone, AgentProcess, DeviceAlone, DeviceProcess, DeviceSet, Form, PackageChoice,
-    Roughness, Show,
+    AgentAlone, AgentProcess, ConfigSource, DeviceAlone, DeviceProcess, DeviceSet, Form,
+    PackageChoice, Roughness, Show,
 };
 use mctp_ctl::Endpoint;
 use mctp_wire::Unit;
@@ -80,8 +80,8 @@ pub enum BuildOutput<'a> {
 /// A replay of a schedule on the nodes of a configuration.
 #[derive(Clone, Copy)]
 pub struct Replay<'a> {
-    /// The path of the configuration.
-    pub config: &'a str,
+    /// The configuration.
+    pub config: ConfigSource<'a>,
     /// The path of the schedule.
     pub schedule: &'a str,
     /// The outputs of the replay.
@@ -91,8 +91,8 @@ pub struct Replay<'a> {
 /// The plan of an update of the devices of a configuration.
 #[derive(Clone, Copy)]
 pub struct Plan<'a> {
-    /// The path of the configuration.
-    pub config: &'a str,
+    /// The configuration.
+    pub config: ConfigSource<'a>,
     /// The folder of the devices' stores, if their images persist. It is only read.
     pub store: Option<&'a str>,
     /// The number of the package, from 1.
@@ -104,8 +104,8 @@ pub struct Plan<'a> {
 /// What runs on the devices of a configuration.
 #[derive(Clone, Copy)]
 pub struct Status<'a> {
-    /// The path of the configuration.
-    pub config: &'a str,
+    /// The configuration.
+    pub config: ConfigSource<'a>,
     /// The folder of the devices' stores, if their images persist. It is only read.
     pub store: Option<&'a str>,
     /// The format of the text.
@@ -115,8 +115,8 @@ pub struct Status<'a> {
 /// An update of the devices of a configuration over sockets.
 #[derive(Clone, Copy)]
 pub struct Update<'a> {
-    /// The path of the configuration.
-    pub config: &'a str,
+    /// The configuration.
+    pub config: ConfigSource<'a>,
     /// The path of the folder of the sockets.
     pub folder: &'a str,
     /// The options of the run.
@@ -128,8 +128,8 @@ pub struct Update<'a> {
 /// Many runs of a configuration over rough links.
 #[derive(Clone, Copy)]
 pub struct Soak<'a> {
-    /// The path of the configuration.
-    pub config: &'a str,
+    /// The configuration.
+    pub config: ConfigSource<'a>,
     /// The options of the soak.
     pub order: SoakOrder,
     /// The path of the file for the steps of the first violation, if there is one.

@@ -2,15 +2,15 @@
 
 ghost use Rattle.std.specs.Prelude.{◌≡◌, IfOk, codes, map, true};
 ghost use Rattle.clap.specs.Words.{app_of, kind_of, rule_of};
-ghost use Rattle.fwupd_words.specs.CommandLine.{IsCommandLine, agent, agent_options, answer, are_simple, build, command_line, decode, device, device_options, flag_rule, inspect, is_plain, plan, program, replay, run, run_options, sel, soak, status, text_option, with_one, with_rules};
+ghost use Rattle.fwupd_words.specs.CommandLine.{IsCommandLine, agent, agent_options, answer, are_simple, build, command_line, decode, device, device_options, flag_rule, inspect, is_plain, plan, program, replay, run, run_options, sel, soak, soak_options, status, text_option, with_one, with_rules};
 
 use crate::helps::{
     AGENT_HELP, ANSWER_HELP, BUILD_HELP, DECODE_HELP, DEVICE_HELP, INSPECT_HELP, PLAN_HELP,
     REPLAY_HELP, RUN_HELP, SEL_HELP, SOAK_HELP, STATUS_HELP,
 };
 use crate::options::{
-    OptionNames, config_word, devices_option, flag, folder_word, json_option, log_option,
-    own_package_option, package_option, packages_option, packets_word, process_options,
+    OptionNames, config_word, devices_option, flag, folder_word, images_option, json_option,
+    log_option, own_package_option, package_option, packages_option, packets_word, process_options,
     record_option, roughness_options, sockets_option, store_option, text_option, trace_form_option,
     trace_option, unit_option, word,
 };
@@ -99,6 +99,7 @@ fn replay_command<'a>(alloc: Global, names: OptionNames<'a>) -> Result<Command<'
         trace_form_option(alloc, names),
         log_option(alloc),
         store,
+        images_option(alloc),
         json_option(alloc),
         config_word(alloc),
         schedule,
@@ -132,6 +133,7 @@ fn run_options<'a>(alloc: Global, names: OptionNames<'a>) -> Result<Vec<Arg<'a>>
             "Writes each step to a file as it is taken, as a schedule to replay",
         ),
         store_option(alloc, "Keeps what runs in a folder, and begins with it"),
+        images_option(alloc),
         json_option(alloc),
         config_word(alloc),
         folder_word(alloc),
@@ -155,9 +157,9 @@ fn run_command<'a>(alloc: Global, names: OptionNames<'a>) -> Result<Command<'a>,
     with_args(command, roughness_options(alloc)?)
 }
 
-/// The subcommand `soak`.
-fn soak_command<'a>(alloc: Global) -> Result<Command<'a>, AllocError>
-    ensures { IfOk result (λ c. app_of c ≡ soak) }
+/// The options and arguments of `soak`, without those of rough links.
+fn soak_options<'a>(alloc: Global) -> Result<Vec<Arg<'a>>, AllocError>
+    ensures { IfOk result (λ options. map rule_of options.items ≡ soak_options) }
 {
     let runs = text_option(alloc, "runs", "N", "How many runs, 1 to 1000000")
         .required(true)
@@ -166,7 +168,19 @@ fn soak_command<'a>(alloc: Global) -> Result<Command<'a>, AllocError>
         alloc,
         "Writes the steps of the first run that goes wrong, as a schedule",
     );
-    let args = vec![in alloc; runs, record, json_option(alloc), config_word(alloc)]?;
+    Ok(vec![in alloc;
+        runs,
+        record,
+        images_option(alloc),
+        json_option(alloc),
+        config_word(alloc),
+    ]?)
+}
+
+/// The subcommand `soak`.
+fn soak_command<'a>(alloc: Global) -> Result<Command<'a>, AllocError>
+    ensures { IfOk result (λ c. app_of c ≡ soak) }
+{
     let command = Command::new(alloc, "soak")
         .about("Makes many rough runs of updates, and checks each")
         .long_about(
@@ -175,7 +189,7 @@ fn soak_command<'a>(alloc: Global) -> Result<Command<'a>, AllocError>
             after each what devices activated and what runs.",
         )
         .after_long_help(SOAK_HELP);
-    let command = with_args(command, args)?;
+    let command = with_args(command, soak_options(alloc)?)?;
     with_args(command, roughness_options(alloc)?)
 }
 
@@ -231,6 +245,7 @@ fn plan_command<'a>(alloc: Global) -> Result<Command<'a>, AllocError>
             alloc,
             "Reads what runs from a folder, in which nothing is written"
         ),
+        images_option(alloc),
         json_option(alloc),
         config_word(alloc),
     ]?;
@@ -283,6 +298,7 @@ fn device_options<'a>(alloc: Global) -> Result<Vec<Arg<'a>>, AllocError>
         auto,
         open_option(alloc),
         store_option(alloc, "Keeps activated images in a folder"),
+        images_option(alloc),
         report_option(alloc),
         listen,
         flag(
@@ -390,6 +406,7 @@ fn status_command<'a>(alloc: Global) -> Result<Command<'a>, AllocError>
             alloc,
             "Reads what runs from a folder, in which nothing is written"
         ),
+        images_option(alloc),
         json_option(alloc),
         config_word(alloc),
     ]?;
@@ -465,9 +482,13 @@ fn named_command<'a>(alloc: Global, name: &str) -> Result<Command<'a>, AllocErro
     match name {
         "answer" => answer_command(alloc)?.bin_name("fwupd answer"),
         "replay" => replay_command(alloc, NAMES)?.bin_name("fwupd replay"),
+        "plan" => plan_command(alloc)?.bin_name("fwupd plan"),
         "run" => run_command(alloc, NAMES)?.bin_name("fwupd run"),
+        "soak" => soak_command(alloc)?.bin_name("fwupd soak"),
+        "build" => build_command(alloc)?.bin_name("fwupd build"),
         "device" => device_command(alloc, NAMES)?.bin_name("fwupd device"),
         "agent" => agent_command(alloc, NAMES)?.bin_name("fwupd agent"),
+        "status" => status_command(alloc)?.bin_name("fwupd status"),
         _ => command(alloc),
     }
 }

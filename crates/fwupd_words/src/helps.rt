@@ -122,7 +122,7 @@ without.
 
 --store begins with the images that 'fwupd run --store' has left there. The
 folder is only read: what the schedule activates isn't kept. Its faults are
-those of 'fwupd run --help'.
+those of 'fwupd run --help', and so is --image.
 
 Status: 0; 1 if standard error says 'fwupd: PATH: line N: FAULT',
 'fwupd: package: FAULT', 'fwupd: step N: FAULT', 'fwupd: FILE: unreadable',
@@ -138,6 +138,7 @@ Examples:
   fwupd run --loss 20 --delay 3 --seed 7 --record out/kept examples/one.config .
   fwupd run --store out/store examples/one.config .
   fwupd run --package 9=1 examples/one.config .
+  fwupd run --image 16/10-1=run.image board.config sockets
 
 CONFIG and the report are those of 'fwupd replay --help'.
 
@@ -156,6 +157,13 @@ is made, and the text STORE/EID/active says which of them run. A run begins with
 what the runs before it have left, where they left any, in the place of CONFIG's
 images. STORE/history has the report's lines of what was applied, recorded and
 activated in all runs: those of a turn are on the disk before the next.
+
+--image EID/CLASS-IDENT=PATH puts the bytes of the file PATH in the place of
+CONFIG's image of the component CLASS IDENT of the device EID, whose stamp and
+version stay. All three are decimal numbers. If PATH is -, standard input is
+read. It may be given 48 times, once for each component. Its faults are
+'component EID/CLASS-IDENT: none' if CONFIG has no such component, and
+'PATH: Size' if the file has more than 1048576 bytes.
 
 --loss, --duplicate and --delay make the links bad on purpose. A packet that is
 lost never comes; one that comes twice is late each time by chance; and one that
@@ -193,13 +201,13 @@ Example:
   fwupd soak --runs 100 --seed 7 --loss 20 --duplicate 10 --delay 3 \\
       examples/one.config
 
-CONFIG is that of 'fwupd replay --help', and --loss, --duplicate and --delay are
-those of 'fwupd run --help'. A run begins with all devices as CONFIG says. The
-operator starts their updates, each with some package, and has them activate. By
-chance the agent or a device restarts, an update is cancelled, a packet comes
-again, a verdict is bad, and a call of a device's bank fails. It ends when each
-session is Done or Failed and the operator lets it be, after 80000 turns of one
-tick at most.
+CONFIG is that of 'fwupd replay --help', and --image, --loss, --duplicate and
+--delay are those of 'fwupd run --help'. A run begins with all devices as CONFIG
+and --image say. The operator starts their updates, each with some package, and
+has them activate. By chance the agent or a device restarts, an update is
+cancelled, a packet comes again, a verdict is bad, and a call of a device's bank
+fails. It ends when each session is Done or Failed and the operator lets it be,
+after 80000 turns of one tick at most.
 
 After each run a checker, which knows only the packages and CONFIG, looks at
 what happened and at the banks: each image that a device activated is, byte for
@@ -343,7 +351,7 @@ A stamp FFFFFFFF is compared with none: the component's option bit 1 is clear,
 or it is its stamp.
 
 --store begins with the images that 'fwupd run --store' has left there, as
-'fwupd replay --help' says.
+'fwupd replay --help' says. --image is that of 'fwupd run --help'.
 
 Status: 0, also where an update would fail; 1 if standard error says
 'fwupd: package: none', as CONFIG names fewer packages, or a fault of 'replay';
@@ -377,9 +385,10 @@ MCTP Version Support of types 0 and 1, GetPLDMVersion, and GetPLDMCommands of
 type 0. On a serial line it is always so.
 
 With --auto the verdict that the device waits for is given right before a tick,
-as 'fwupd run' gives it. --store is that of 'fwupd run --help', for this device
-alone. --report writes at the end of the input the device's lines of a report:
-its state, the images that run, and what was applied and activated.
+as 'fwupd run' gives it. --store and --image are those of 'fwupd run --help',
+and the store is that of this device alone. --report writes at the end of the
+input the device's lines of a report: its state, the images that run, and what
+was applied and activated.
 
 With --listen or --tty it is a process, whose peer is an agent. It reads no
 input and prints no packets:
@@ -513,7 +522,7 @@ Status: 0; 1 if standard error says 'fwupd: input', 'fwupd: FILE: unreadable',
 /// The text below the help of `status`.
 pub(crate) const STATUS_HELP: &str = "\
 Examples:
-  fwupd status --store out/store examples/board.config
+  fwupd status --store out/store examples/board/board.config
   fwupd status --json examples/one.config
 
 CONFIG is that of 'fwupd replay --help'. Its packages aren't read. A device has
@@ -525,7 +534,8 @@ these lines:
       package's image
 
 --store begins with the images that 'fwupd run --store' has left there, as
-'fwupd replay --help' says. Without it CONFIG's images run.
+'fwupd replay --help' says. Without it CONFIG's images run. --image is that of
+'fwupd run --help'.
 
 Status: 0; 1 if standard error says a fault of CONFIG or of a store, as in
 'fwupd replay --help', 'fwupd: output' or 'fwupd: memory'; 2 for wrong usage.";

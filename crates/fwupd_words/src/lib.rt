@@ -6,6 +6,7 @@ mod asked;
 mod choosing;
 mod commands;
 mod helps;
+mod images;
 mod nodes;
 mod options;
 mod packages;

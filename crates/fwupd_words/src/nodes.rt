@@ -9,6 +9,7 @@ ghost use Rattle.fwupd_words.specs.Processes.{AsksNumberOr, AsksServing, AsksWat
 
 use crate::asked::Job;
 use crate::commands::refusal;
+use crate::images::config_in;
 use crate::values::{
     form_in, has_value, is_set, number_under, small_under, text_under, trace_form_in,
 };
@@ -129,7 +130,7 @@ fn device_alone<'a>(matches: &ArgMatches<'a>) -> DeviceAlone<'a>
 {
     let (store, report) = (matches.get_str("store"), matches.get_str("report"));
     DeviceAlone {
-        config: text_under(matches, "CONFIG"),
+        config: config_in(matches),
         eid: small_under(matches, "EID"),
         is_automatic: matches.get_flag("auto"),
         is_open: matches.get_flag("open"),
@@ -160,7 +161,7 @@ pub(crate) fn device_in<'a>(alloc: Global, matches: &ArgMatches<'a>) -> Result<J
     };
     let eid = small_under(matches, "EID");
     Ok(Job::DeviceProcess(DeviceProcess {
-        config: text_under(matches, "CONFIG"),
+        config: config_in(matches),
         eid,
         store: matches.get_str("store"),
         serving: serving_in(matches, wire),

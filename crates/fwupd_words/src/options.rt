@@ -2,7 +2,7 @@
 
 ghost use Rattle.std.specs.Prelude.{◌≡◌, ◌∷◌, [], IfOk, Some, codes, map};
 ghost use Rattle.clap.specs.Words.{rule_of};
-ghost use Rattle.fwupd_words.specs.CommandLine.{devices_rule, flag_rule, given_option, given_word, optional_word, own_package_rule, package_rule, packages_rule, process_rules, roughness_rules, text_option, trace_form_rule, unit_rule, word_rule};
+ghost use Rattle.fwupd_words.specs.CommandLine.{devices_rule, flag_rule, given_option, given_word, images_rule, optional_word, own_package_rule, package_rule, packages_rule, process_rules, roughness_rules, text_option, trace_form_rule, unit_rule, word_rule};
 
 use clap::builder::ValueParser;
 use clap::{Arg, ArgAction, value_parser};
@@ -219,6 +219,19 @@ pub(crate) fn packages_option<'a>(alloc: Global) -> Arg<'a>
         "Updates with package N, or only EID with package N",
     );
     package.action(ArgAction::Append)
+}
+
+/// The option for the files of images, which may be given more than once.
+pub(crate) fn images_option<'a>(alloc: Global) -> Arg<'a>
+    ensures { rule_of result ≡ images_rule }
+{
+    let image = text_option(
+        alloc,
+        "image",
+        "EID/CLASS-IDENT=PATH",
+        "Takes a component's image from a file; may be given again",
+    );
+    image.action(ArgAction::Append)
 }
 
 /// The option for the endpoint identifiers of devices, which may be given more than once.

@@ -7,7 +7,7 @@ ghost use Rattle.fwupd_words.specs.Packages.{eid_of, first_malformed, has_twice,
 use fwupd_base::PackageChoice;
 
 /// The endpoint identifier of a device, 8 to 254, that a text encodes.
-fn eid_in(text: &str) -> Option<u8>
+pub(crate) fn eid_in(text: &str) -> Option<u8>
     ensures { result ≡ eid_of text.now }
 {
     let Ok(eid) = text.parse::<u8>() else {

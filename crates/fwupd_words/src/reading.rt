@@ -1,18 +1,19 @@
 //! Reads the arguments of the command line.
 
-ghost use Rattle.std.specs.Prelude.{◌≡◌, ◌⊎◌, IfErr, IfOk, OnOk, None, Some, codes, false, map, option_map};
+ghost use Rattle.std.specs.Prelude.{◌≡◌, ◌⊎◌, IfErr, IfOk, OnOk, None, Some, codes, map};
 ghost use Rattle.std.specs.String.{string_bytes};
 ghost use Rattle.clap.specs.Words.{App, kind_of};
 ghost use Rattle.fwupd_words.specs.CommandLine.{IsCommandLine};
-ghost use Rattle.fwupd_words.specs.Reading.{FindsSubcommand, ReadsWords, RefusesWords, RefusesEndpoint};
+ghost use Rattle.fwupd_words.specs.Reading.{FindsSubcommand, ReadsWords, RefusesCommon, RefusesEndpoint, RefusesJob, RefusesWords};
 ghost use Rattle.clap.specs.declared.error.kind.ErrorKind.TheVariants.{OutOfMemory};
-ghost use Rattle.fwupd_words.specs.Clashes.{build_clash, has_dashed_output, has_form_alone, has_seed_alone, package_clash, replay_clash, run_clash};
+ghost use Rattle.fwupd_words.specs.Clashes.{build_clash, common_clash, has_dashed_output, has_form_alone, has_seed_alone, package_clash, replay_clash, run_clash};
 ghost use Rattle.fwupd_words.specs.Jobs.{AsksForJob};
 ghost use Rattle.fwupd_words.specs.Words.{AsksBuild, AsksEndpoint, AsksKept, AsksNumber, AsksOrder, AsksRoughness, AsksRuns, AsksSeed, AsksSoak, AsksUnit, given_in, texts_under};
 
 use crate::asked::{BuildOutput, Job, Order, Plan, Replay, Soak, SoakOrder, Status, Update};
 use crate::choosing::{devices_in, packages_in};
 use crate::commands::{command, refusal};
+use crate::images::{config_in, test_images};
 use crate::nodes::{agent_in, device_in};
 use crate::packages::{has_twice, malformed_among};
 use crate::values::{chance_under, form_in, has_value, is_dash, is_set, text_under, trace_form_in};
@@ -75,12 +76,17 @@ fn package_number(matches: &ArgMatches<'_>) -> usize
     }
 }
 
-/// The outputs that the arguments of `run` or `replay` request, with or without progress, and with
-/// the history file in a folder.
-fn show_in<'a>(matches: &ArgMatches<'a>, is_quiet: bool, history: Option<&'a str>) -> Show<'a>
+/// The outputs that the arguments of `run` or `replay` request, with or without progress, with the
+/// file `record` for the steps, and with the history file in the folder `history`.
+fn show_in<'a>(
+    matches: &ArgMatches<'a>,
+    is_quiet: bool,
+    record: Option<&'a str>,
+    history: Option<&'a str>,
+) -> Show<'a>
     ensures quiet { result.is_quiet ≡ is_quiet }
+    ensures record { result.record ≡ record.entry }
     ensures history { result.history ≡ history.entry }
-    ensures record { option_map (λ path. path.now) result.record ≡ (given_in matches.now).first (codes "record") }
     ensures kept { AsksKept (given_in matches.now) result }
 {
     Show {
@@ -88,7 +94,7 @@ fn show_in<'a>(matches: &ArgMatches<'a>, is_quiet: bool, history: Option<&'a str
         trace: matches.get_str("trace"),
         trace_form: trace_form_in(matches),
         log: matches.get_str("sel"),
-        record: matches.get_str("record"),
+        record,
         store: matches.get_str("store"),
         history,
         form: form_in(matches),
@@ -206,9 +212,9 @@ fn replay_in<'a>(alloc: Global, matches: &ArgMatches<'a>) -> Result<Job<'a>, cla
         return Err(lack(alloc, "replay", FORM_ALONE)?);
     }
     Ok(Job::Replay(Replay {
-        config: text_under(matches, "CONFIG"),
+        config: config_in(matches),
         schedule: text_under(matches, "SCHEDULE"),
-        show: show_in(matches, true, None),
+        show: show_in(matches, true, None, None),
     }))
 }
 
@@ -255,11 +261,12 @@ fn run_in<'a>(alloc: Global, matches: &ArgMatches<'a>) -> Result<Job<'a>, clap::
     if let Err(error) = test_packages(alloc, matches) {
         return Err(error);
     }
+    let (record, store) = (matches.get_str("record"), matches.get_str("store"));
     Ok(Job::Run(Update {
-        config: text_under(matches, "CONFIG"),
+        config: config_in(matches),
         folder: text_under(matches, "FOLDER"),
         order: order_in(matches),
-        show: show_in(matches, matches.get_flag("quiet"), matches.get_str("store")),
+        show: show_in(matches, matches.get_flag("quiet"), record, store),
     }))
 }
 
@@ -295,7 +302,7 @@ fn build_in<'a>(alloc: Global, matches: &ArgMatches<'a>) -> Result<Job<'a>, clap
 /// The job that the subcommand `name` with these arguments requests.
 fn job_of<'a>(alloc: Global, name: &str, matches: &ArgMatches<'a>) -> Result<Job<'a>, clap::Error>
     ensures job { IfOk result (AsksForJob name.now (given_in matches.now)) }
-    ensures refused { IfErr result (RefusesWords name.now (given_in matches.now)) }
+    ensures refused { IfErr result (RefusesJob name.now (given_in matches.now)) }
 {
     match name {
         "answer" => answer_in(alloc, matches),
@@ -306,14 +313,14 @@ fn job_of<'a>(alloc: Global, name: &str, matches: &ArgMatches<'a>) -> Result<Job
         }),
         "replay" => replay_in(alloc, matches),
         "plan" => Ok(Job::Plan(Plan {
-            config: text_under(matches, "CONFIG"),
+            config: config_in(matches),
             store: matches.get_str("store"),
             number: package_number(matches),
             form: form_in(matches),
         })),
         "run" => run_in(alloc, matches),
         "soak" => Ok(Job::Soak(Soak {
-            config: text_under(matches, "CONFIG"),
+            config: config_in(matches),
             order: soak_order_in(matches),
             record: matches.get_str("record"),
             form: form_in(matches),
@@ -331,7 +338,7 @@ fn job_of<'a>(alloc: Global, name: &str, matches: &ArgMatches<'a>) -> Result<Job
             form: form_in(matches),
         }),
         "status" => Ok(Job::Status(Status {
-            config: text_under(matches, "CONFIG"),
+            config: config_in(matches),
             store: matches.get_str("store"),
             form: form_in(matches),
         })),
@@ -354,19 +361,35 @@ fn has_dashed_output(matches: &ArgMatches<'_>) -> bool
         || is_dash(text_under(matches, "report"))
 }
 
-/// The job that the subcommand `name` with these arguments requests, unless a file that is to be
-/// written is called `-`.
+/// Tests the options that subcommands share.
+///
+/// # Errors
+/// A file that is to be written is called `-`, or the values of `--image` don't fit.
+fn test_common(alloc: Global, name: &str, matches: &ArgMatches<'_>) -> Result<(), clap::Error>
+    ensures fits { OnOk result (common_clash (given_in matches.now) ≡ None) }
+    ensures refused { IfErr result (RefusesCommon (given_in matches.now)) }
+{
+    if has_dashed_output(matches) {
+        return Err(refusal(alloc, name, ErrorKind::ValueValidation, DASHED)?);
+    }
+    test_images(alloc, name, matches)
+}
+
+/// The job that the subcommand `name` with these arguments requests.
+///
+/// # Errors
+/// Options that subcommands share don't fit, or else those of the subcommand.
 fn asked_job<'a>(
     alloc: Global,
     name: &str,
     matches: &ArgMatches<'a>,
 ) -> Result<Job<'a>, clap::Error>
     ensures job { IfOk result (AsksForJob name.now (given_in matches.now)) }
-    ensures undashed { OnOk result (has_dashed_output (given_in matches.now) ≡ false) }
+    ensures fits { OnOk result (common_clash (given_in matches.now) ≡ None) }
     ensures refused { IfErr result (RefusesWords name.now (given_in matches.now)) }
 {
-    if has_dashed_output(matches) {
-        return Err(refusal(alloc, name, ErrorKind::ValueValidation, DASHED)?);
+    if let Err(error) = test_common(alloc, name, matches) {
+        return Err(error);
     }
     job_of(alloc, name, matches)
 }

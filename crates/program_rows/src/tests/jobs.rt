@@ -10,7 +10,8 @@ use fw_setup::SystemStores;
 use fw_soak::{SoakObserver, Summary};
 use fw_store::SystemFolder;
 use fw_world::{Step, World};
-use fwupd_base::{Form, PackageChoice, Roughness};
+use fwup_wire::Key;
+use fwupd_base::{ConfigSource, Form, ImageFile, ImageFiles, PackageChoice, Roughness};
 use fwupd_jobs::{
     Beginning, DeviceProcess, FileFault, FileIdentity, Files, Host, JobFault, Joined, Network,
     Observer, ObserverFault, Order, Output, PacketTrace, Parts, Plan, Serving, Show, Status,
@@ -25,6 +26,24 @@ use std::fs::File;
 use std::marker::PhantomData;
 use std::os::unix::net::UnixStream;
 use std::test::Fail;
+
+/// The configuration in the file `c`. If a device is given, the bytes of the file `i` take the
+/// place of the image of its component 10 1.
+pub fn source(device: Option<u8>) -> ConfigSource<'static> {
+    let mut images = ImageFiles::new();
+    if let Some(eid) = device {
+        let key = Key {
+            classification: 10,
+            identifier: 1,
+        };
+        images.push(ImageFile {
+            eid,
+            key,
+            path: "i",
+        });
+    }
+    ConfigSource { path: "c", images }
+}
 
 /// Files in memory: a path, the file's number, and its bytes. Paths with the same number name the
 /// same file.
@@ -467,7 +486,7 @@ fn updated<'a, L: Link + Drop, S: Wires<L> + Drop>(
         ("linked to p", 2, package),
     ];
     let update = Update {
-        config: "c",
+        config: source(None),
         folder: "f",
         order: Order {
             packages: PackageChoice::new(1),
@@ -544,7 +563,7 @@ fn planned(
         &MemFiles { files: &files },
         &SystemStores::new(rt),
         Plan {
-            config: "c",
+            config: source(None),
             store: None,
             number,
             form: Form::Text,
@@ -575,9 +594,15 @@ fn an_update_is_foretold(rt: HostRuntime) -> Result<(), Fail> {
     Ok(())
 }
 
-/// What runs on the devices of a configuration, and the text of the fault, if any.
-fn status(rt: &HostRuntime, config: &[u8], form: Form) -> Result<Vec<u8>, Fail> {
-    let files = [("c", 1, config)];
+/// What runs on the devices of a configuration, and the text of the fault, if any. The file of an
+/// image is for the component of a device, if one is given.
+fn status(
+    rt: &HostRuntime,
+    config: &[u8],
+    device: Option<u8>,
+    form: Form,
+) -> Result<Vec<u8>, Fail> {
+    let files = [("c", 1, config), ("i", 2, b"abc".as_slice())];
     let mut output = match Output::new(rt.alloc(), Vec::new(rt.alloc())) {
         Ok(output) => output,
         Err(fault) => return outcome(rt, Err(fault), Vec::new(rt.alloc())),
@@ -587,7 +612,7 @@ fn status(rt: &HostRuntime, config: &[u8], form: Form) -> Result<Vec<u8>, Fail> 
         &MemFiles { files: &files },
         &SystemStores::new(rt),
         Status {
-            config: "c",
+            config: source(device),
             store: None,
             form,
         },
@@ -605,13 +630,18 @@ fn what_runs_is_told(rt: HostRuntime) -> Result<(), Fail> {
         {\"classification\":10,\"identifier\":1,\"index\":0,\"size\":1,\"stamp\":1,\"version\":\"1.0\",\
         \"sha256\":\"bceef655b5a034911f1c3718ce056531b45ef03b4c7b1f15629e867294011a7d\"}]}]}\n"
         .as_slice();
-    let table: [(&[u8], Form, &[u8]); 3] = [
-        (WHOLE, Form::Text, text),
-        (WHOLE, Form::Json, json),
-        (b"agent", Form::Text, b"c: line 1: Fields"),
+    let imaged = b"device 9\ncomponent 10 ident 1 size 3 stamp 00000001 version \"1.0\" \
+        sha256 ba7816bf8f01cfea414140de5dae2223b00361a396177a9cb410ff61f20015ad\n"
+        .as_slice();
+    let table: [(&[u8], Option<u8>, Form, &[u8]); 5] = [
+        (WHOLE, None, Form::Text, text),
+        (WHOLE, None, Form::Json, json),
+        (b"agent", None, Form::Text, b"c: line 1: Fields"),
+        (WHOLE, Some(9), Form::Text, imaged),
+        (WHOLE, Some(10), Form::Text, b"component 10/10-1: none"),
     ];
-    for (config, form, wanted) in table {
-        let told = status(&rt, config, form)?;
+    for (config, device, form, wanted) in table {
+        let told = status(&rt, config, device, form)?;
         assert!(rt; told.as_slice() == wanted, "{}", told.escape_ascii());
     }
     Ok(())

@@ -2,7 +2,7 @@
 
 ghost use Rattle.std.specs.Prelude.{true};
 
-use crate::tests::jobs::{MemFiles, WHOLE, host, outcome, package};
+use crate::tests::jobs::{MemFiles, WHOLE, host, outcome, package, source};
 use fw_edge::MemLink;
 use fw_trace::{RecordsFault, capture_header, push_capture, records_text};
 use fwupd_base::Form;
@@ -236,7 +236,7 @@ fn replayed<'a, 'b>(
         form: Form::Text,
     };
     let replay = Replay {
-        config: "c",
+        config: source(None),
         schedule: "s",
         show,
     };

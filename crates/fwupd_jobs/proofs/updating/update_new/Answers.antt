@@ -1,6 +1,9 @@
-use Rattle.std.proofs.Common.{ap, map, ◌∷◌, ◌∙◌}
+use Rattle.std.proofs.Common.{ap, map, subst, sym, ◌∙◌}
 use Rattle.std.specs.Prelude.{string_bytes}
+use Rattle.fwupd_base.specs.ImageFiles.{config_source}
 use Rattle.fwupd_base.specs.PackageChoices.{number_for}
+use Rattle.fwupd_watch.specs.Apart.{IsApart}
+use Rattle.fwupd_watch.specs.Inputs.{inputs_of}
 use Rattle.fwupd_watch.proofs.Happened.{kept_fresh}
 use Rattle.fwupd_jobs.proofs.Numbered.{barred_by, watched_by}
 use Rattle.fwupd_jobs.proofs.Told.{barred_of_none, driven_of_none, safe_reached, unbegun, update_ends}
@@ -12,18 +15,19 @@ returns-in-Err-clause-fault g c source named path same =
     unbegun (g.H.Files.Files.holds c.args.host.now.files) source (number_for c.args.job.order.packages) (show_of c.args.job.show) (g.H.Watch.Observer.refuses c.args.host.now.watch) (g.H.Wires.Wires.lacks c.args.host.now.wires c.args.job.folder.now) c.in-Err.fault
     (g.H.Watch.Observer.watched c.begin_apart.new.watch) c.args.host.now.output
     (barred_by (g.H.Files.Files.holds c.args.host.now.files) source (number_for c.args.job.order.packages) (show_of c.args.job.show) (g.H.Watch.Observer.refuses c.args.host.now.watch) c.in-Err.fault (g.H.Watch.Observer.watched c.begin_apart.new.watch) c.args.world.now
-    named c.args.job.config.now (map (λ p. string_bytes p) c.args.packages.now) path same c.in-Err.ensures.fault)
+    named (config_source c.args.job.config) (map (λ p. string_bytes p) c.args.packages.now) path same (rw (sym c.new-inputs.ensures) c.in-Err.ensures.fault))
 
 pub returns-in-Err-clause-stores : goal.returns-in-Err-clause-stores
 returns-in-Err-clause-stores g c =
-    barred_of_none (g.H.Files.Files.holds c.args.host.now.files) (g.H.Watch.Observer.refuses c.args.host.now.watch) (show_of c.args.job.show) (c.args.job.config.now ∷ map (λ p. string_bytes p) c.args.packages.now) c.in-Err.fault (g.H.Watch.Observer.watched c.begin_apart.new.watch) c.in-Err.ensures.fault
+    barred_of_none (g.H.Files.Files.holds c.args.host.now.files) (g.H.Watch.Observer.refuses c.args.host.now.watch) (show_of c.args.job.show) (inputs_of (config_source c.args.job.config) (map (λ p. string_bytes p) c.args.packages.now)) c.in-Err.fault (g.H.Watch.Observer.watched c.begin_apart.new.watch)
+    (rw (sym c.new-inputs.ensures) c.in-Err.ensures.fault)
 
 pub returns-in-Ok-update_over-clause-ok : goal.returns-in-Ok-update_over-clause-ok
 returns-in-Ok-update_over-clause-ok g c source named path same = record {
   world = c.args.world.now;
   begins =
-      watched_by (g.H.Files.Files.holds c.args.host.now.files) source (number_for c.args.job.order.packages) (show_of c.args.job.show) c.args.world.now named c.args.job.config.now (map (λ p. string_bytes p) c.args.packages.now) path same
-      c.in-Ok.ensures.apart;
+      watched_by (g.H.Files.Files.holds c.args.host.now.files) source (number_for c.args.job.order.packages) (show_of c.args.job.show) c.args.world.now named (config_source c.args.job.config) (map (λ p. string_bytes p) c.args.packages.now) path same
+      (subst (IsApart (g.H.Files.Files.holds c.args.host.now.files) (show_of c.args.job.show)) c.new-inputs.ensures c.in-Ok.ensures.apart);
   shown = c.update_over.ensures.same ∙ c.in-Ok.ensures.shows;
   left = c.update_over.new.world;
   updated = c.in-Ok-update_over.ensures.updated;
@@ -44,8 +48,8 @@ pub returns-in-Err-update_over-clause-fault : goal.returns-in-Err-update_over-cl
 returns-in-Err-update_over-clause-fault g c source named path same =
     update_ends (g.H.Files.Files.holds c.args.host.now.files) source (number_for c.args.job.order.packages) (show_of c.args.job.show) (g.H.Watch.Observer.refuses c.args.host.now.watch) (g.H.Wires.Wires.lacks c.args.host.now.wires c.args.job.folder.now) c.args.world.now
     c.update_over.new.world c.in-Err-update_over.fault (g.H.Watch.Observer.watched c.update_over.new.host.watch) c.args.host.now.output c.update_over.new.host.output
-    (watched_by (g.H.Files.Files.holds c.args.host.now.files) source (number_for c.args.job.order.packages) (show_of c.args.job.show) c.args.world.now named c.args.job.config.now (map (λ p. string_bytes p) c.args.packages.now) path same
-    c.in-Ok.ensures.apart)
+    (watched_by (g.H.Files.Files.holds c.args.host.now.files) source (number_for c.args.job.order.packages) (show_of c.args.job.show) c.args.world.now named (config_source c.args.job.config) (map (λ p. string_bytes p) c.args.packages.now) path same
+    (subst (IsApart (g.H.Files.Files.holds c.args.host.now.files) (show_of c.args.job.show)) c.new-inputs.ensures c.in-Ok.ensures.apart))
     (c.update_over.ensures.same ∙ c.in-Ok.ensures.shows)
     (safe_reached (number_for c.args.job.order.packages) c.args.world.now c.update_over.new.world c.runs_are_promised.ensures.law c.requires c.update_over.ensures.reached)
     (c.update_over.ensures.sees c.in-Ok.ensures.anew.0)

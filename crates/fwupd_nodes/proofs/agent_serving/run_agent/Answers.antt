@@ -19,23 +19,23 @@ returns-clause-runs g c =
     rw (c.as_slice.ensures.value, sym c.as_slice-packages.ensures.value) c.in-Ok-package_files.ensures.packed in
     let apart : IsApart (g.H.Files.Files.holds c.args.host.now.files) (agent_shows c.args.job.now)
     (c.args.job.now.config.now ∷ map (λ p. string_bytes p) c.in-Ok.config.packages.items) =
-    rw (sym c.as_slice-packages.ensures.value) c.in-Ok-check_outputs.ensures.apart in
+    rw (sym c.as_slice-packages.ensures.value) c.in-Ok-check_agent_outputs.ensures.apart in
     runs_agent c.serve_packages.result c.args.job.now (config_seen c.in-Ok.config) (g.H.Files.Files.holds c.args.host.now.files) _ (map (λ f. f.items) c.as_slice.result.now) _ _ c.in-Ok.ensures.says
     apart packed c.serve_packages.ensures.runs
 
-pub returns-in-Err-check_outputs-clause-fault : goal.returns-in-Err-check_outputs-clause-fault
-returns-in-Err-check_outputs-clause-fault g c =
-    agent_overwrites c.args.job.now c.in-Err-check_outputs.fault (config_seen c.in-Ok.config) (g.H.Files.Files.holds c.args.host.now.files) _ c.args.host.now.output _ c.in-Ok.ensures.says
-    (rw (sym c.as_slice-packages.ensures.value) c.in-Err-check_outputs.ensures.fault) refl
+pub returns-in-Err-check_agent_outputs-clause-fault : goal.returns-in-Err-check_agent_outputs-clause-fault
+returns-in-Err-check_agent_outputs-clause-fault g c =
+    agent_overwrites c.args.job.now c.in-Err-check_agent_outputs.fault (config_seen c.in-Ok.config) (g.H.Files.Files.holds c.args.host.now.files) _ c.args.host.now.output _ c.in-Ok.ensures.says
+    (rw (sym c.as_slice-packages.ensures.value) c.in-Err-check_agent_outputs.ensures.fault) refl
 
 pub returns-in-Err-package_files-clause-fault : goal.returns-in-Err-package_files-clause-fault
 returns-in-Err-package_files-clause-fault g c =
     agent_lacks c.args.job.now c.in-Err-package_files.fault (config_seen c.in-Ok.config) (g.H.Files.Files.holds c.args.host.now.files) _ c.args.host.now.output _ c.in-Ok.ensures.says
-    (rw (sym c.as_slice-packages.ensures.value) c.in-Ok-check_outputs.ensures.apart) (rw (sym c.as_slice-packages.ensures.value) c.in-Err-package_files.ensures.fault) refl
+    (rw (sym c.as_slice-packages.ensures.value) c.in-Ok-check_agent_outputs.ensures.apart) (rw (sym c.as_slice-packages.ensures.value) c.in-Err-package_files.ensures.fault) refl
 
 pub returns-clause-fault : goal.returns-clause-fault
 returns-clause-fault g c =
     agent_stops c.serve_packages.result c.args.job.now (config_seen c.in-Ok.config) (g.H.Files.Files.holds c.args.host.now.files) _ (map (λ f. f.items) c.as_slice.result.now) _ _ c.in-Ok.ensures.says
-    (rw (sym c.as_slice-packages.ensures.value) c.in-Ok-check_outputs.ensures.apart)
+    (rw (sym c.as_slice-packages.ensures.value) c.in-Ok-check_agent_outputs.ensures.apart)
     (rw (c.as_slice.ensures.value, sym c.as_slice-packages.ensures.value) c.in-Ok-package_files.ensures.packed)
     c.serve_packages.ensures.fault

@@ -13,5 +13,5 @@ returns c =
     let given = c.in-Some.ensures in (
       found.0,
       found.1,
-      reads found.0 _ c.in-Ok.matches c.in-Some.matches.now c.in-Some.name.now c.asked_job.result found.1 found.2 given.name given.rows c.asked_job.ensures.job c.asked_job.ensures.undashed c.asked_job.ensures.refused,
+      reads found.0 _ c.in-Ok.matches c.in-Some.matches.now c.in-Some.name.now c.asked_job.result found.1 found.2 given.name given.rows c.asked_job.ensures.job c.asked_job.ensures.fits c.asked_job.ensures.refused,
     )
