@@ -49,6 +49,13 @@ static int is_below(const char *path) {
     return below && strncmp(path, below, strlen(below)) == 0 && strlen(path) < PATH;
 }
 
+// Whether a path is that of the folder BELOW itself, whose slash it lacks, or below it.
+static int is_of_below(const char *path) {
+    const char *below = getenv("BELOW");
+    size_t size = below ? strlen(below) - 1 : 0;
+    return size && (is_below(path) || (strncmp(path, below, size) == 0 && path[size] == 0));
+}
+
 static void fail(const char *why) {
     dprintf(2, "lose: %s\n", why);
     syscall(SYS_exit_group, 99);
@@ -153,7 +160,7 @@ static int opened(const char *path, int flags, mode_t mode) {
         node_by_file[file] = last_of(name) + 1;
         if (flags & O_TRUNC) set(&nodes[last_of(name)].now, "", 0);
         if (is_new || flags & O_TRUNC) changed();
-    } else if (is_below(path)) {
+    } else if (is_of_below(path)) {
         strcpy(folder_by_file[file], path);
     }
     return file;

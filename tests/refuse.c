@@ -1,12 +1,14 @@
 // Loaded before the program, refuses its allocation of the number REFUSE, or the call of the number STOP with which it writes a
 // file, or the call of the number FAIL with which it opens, writes, syncs, renames or removes one, and then makes the file REFUSED.
 // With SHORT, a call writes at most so many bytes. With FULL, the disk is full from the write of that number on. With UNSYNCED, the
-// call of that number fails which has a file's bytes on the disk (fdatasync).
+// call of that number fails which has a file's bytes on the disk (fdatasync). With CUT, the call of that number fails with which a
+// socket sends.
 #define _GNU_SOURCE
 #include <errno.h>
 #include <fcntl.h>
 #include <stdarg.h>
 #include <stdlib.h>
+#include <sys/socket.h>
 #include <sys/stat.h>
 #include <sys/syscall.h>
 #include <unistd.h>
@@ -107,6 +109,16 @@ static int is_unsynced(void) {
 
 int fdatasync(int file) {
     return is_stopped() || is_failed() || is_unsynced() ? -1 : syscall(SYS_fdatasync, file);
+}
+
+static int is_cut(void) {
+    static long left = -1;
+    if (left < 0) left = number_in("CUT");
+    return is_last(&left, EPIPE);
+}
+
+ssize_t send(int file, const void *bytes, size_t size, int flags) {
+    return is_cut() ? -1 : syscall(SYS_sendto, file, bytes, size, flags, NULL, 0);
 }
 
 int rename(const char *from, const char *to) {

@@ -122,7 +122,7 @@ fn label_of(stamp: u32, text: &[u8]) -> Label
 }
 
 /// Whether a component has this key.
-fn has_key(components: &[ComponentConfig], key: Key) -> bool
+pub fn has_key(components: &[ComponentConfig], key: Key) -> bool
     ensures { result ≡ has_component (map component_of components.now) key }
 {
     for other in components {

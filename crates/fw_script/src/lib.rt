@@ -20,7 +20,7 @@ mod spec_lines;
 mod step_text;
 mod values;
 
-pub use config::{ComponentConfig, Config, DeviceConfig};
+pub use config::{ComponentConfig, Config, DeviceConfig, has_key};
 pub use draft::read_config;
 pub use faults::{ScriptCause, ScriptFault};
 pub use lines::{MAX_FIELDS, fields_after, first_word, is_skipped};

@@ -1,10 +1,8 @@
-mod Barred
 mod Builds
 mod Checks
 mod Chosen
 mod Examined
 mod Foretold
-mod Lines
 mod Linked
 mod Named
 mod Names

@@ -115,4 +115,4 @@ lost_told failures w olds news lost devices failed told = elim (told devices) [
 -- that device doesn't change the cause of the run's fault
 pub caused_still : (numbers : ℕ → ℕ) (w v : WorldOf) (fault : JobFault) (before now : ObserverOf) → now.fault ≡ before.fault → now.has_ended ≡ before.has_ended → IsCaused numbers w v fault before → IsCaused numbers w v fault now
 caused_still numbers w v fault before now same ended h =
-    record { broken = h.broken; stopped = h.stopped; unwritten = subst (HasObserverFault fault) (sym same) h.unwritten; let_end = ended ∙ h.let_end }
+    record { broken = h.broken; stopped = h.stopped; unwritten = subst (HasObserverFault fault) (sym same) h.unwritten; begun = h.begun; let_end = ended ∙ h.let_end }

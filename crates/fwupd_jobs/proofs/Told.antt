@@ -10,7 +10,7 @@ use Rattle.fw_script.specs.Seen.{config_seen, device_of}
 use Rattle.fw_script.specs.declared.config.Config.{Config}
 use Rattle.fw_edge.proofs.Going.{run_append}
 use Rattle.fw_steps.specs.Clocks.{RunsKeepTime}
-use Rattle.fw_steps.specs.Opening.{IsOpeningWorld}
+use Rattle.fw_steps.specs.Opening.{IsOpeningWorld, new_world}
 use Rattle.fw_steps.specs.Promises.{RunsArePromised, RunsStayTied}
 use Rattle.fw_steps.specs.Steps.{Run}
 use Rattle.fw_steps.specs.Worlds.{WorldOf}
@@ -26,7 +26,9 @@ use Rattle.fwupd_watch.specs.Apart.{IsApart, IsBarred}
 use Rattle.fwupd_watch.specs.Running.{IsBrokenRun, ShowOf, RunsSteps, RunsStepsSeen, ObserverOf, shown_of, starts_of, job_fault_of_observer}
 use Rattle.fwupd_watch.specs.Files.{FileOf}
 use Rattle.fwupd_watch.specs.Inputs.{inputs_of}
-use Rattle.fwupd_nodes.specs.Setups.{AreChosen, ChoiceFails, ChosenSetupFails, ChosenStoresFail, IsConfigured, IsSetup, LacksChosen, LacksChosenPackage, PackagesFail, Says, SourceOf, StoresFail, TellsStore, TextFails, chosen_in, have_packages}
+use Rattle.fwupd_nodes.specs.Setups.{AreChosen, AreConfigured, AreDevices, ArePackages, ChoiceFails, ChosenSetupFails, ChosenStoresFail, IsConfigured, IsSetup, LacksChosen, LacksChosenPackage, PackagesFail, Says, SourceOf, StoresFail, TellsStore, TextFails, chosen_in, have_packages}
+use Rattle.fw_package.specs.Package.{PackageText}
+use Rattle.fw_setup.specs.Nodes.{nodes_made}
 use Rattle.fwupd_jobs.proofs.Numbered.{numbered_in}
 use Rattle.fw_edge.specs.declared.driving.EdgeFault.TheVariants as edges
 use Rattle.fwupd_watch.specs.declared.faults.JobFault.{JobFault}
@@ -158,7 +160,7 @@ pub barred_of_none : (files : List ℕ → FileOf) (refuses : List ℕ → Bool)
     → (told ≡ faults.Memory) ⊎ IsBarred files refuses show paths told watched → TellsStore told → ⊥
 barred_of_none files refuses show paths (faults.Store device why) watched (inl e) tells = subst TellsStore e tells
 barred_of_none files refuses show paths (faults.Store device why) watched (inr (inl h)) tells = h
-barred_of_none files refuses show paths (faults.Store device why) watched (inr (inr h)) tells = h.1
+barred_of_none files refuses show paths (faults.Store device why) watched (inr (inr h)) tells = h.1.1
 barred_of_none files refuses show paths told watched h tells = tells
 
 broken_of_none : (told : JobFault) → IsBrokenRun told → TellsStore told → ⊥
@@ -183,11 +185,21 @@ schedule_ends files config schedule show refuses w told watched before setup (in
     inr (inr (inl (inr (inr (inr (record { world = w; setup = setup; fails = f }))), refl)))
 
 -- a replay whose observer doesn't begin
-pub unkept_ends : (files : List ℕ → FileOf) (config : SourceOf) (schedule : List ℕ) (show : ShowOf) (refuses : List ℕ → Bool) (told : JobFault) (watched : ObserverOf) (before : OutputOf) (c : ConfigOf) (paths : List (List ℕ))
-    → IsConfigured files config.config c → paths ≡ c.packages → (told ≡ faults.Memory) ⊎ IsBarred files refuses show (schedule ∷ inputs_of config.config paths) told watched → ReplayEnds files config schedule show refuses told watched before before
-unkept_ends files config schedule show refuses told watched before c paths says same (inl e) = inr (inr (inl (inl e, refl)))
-unkept_ends files config schedule show refuses told watched before c paths says same (inr b) =
-    inr (inr (inr (inr (record { says = c; is = says; barred = subst (λ ps. IsBarred files refuses show (schedule ∷ inputs_of config.config ps) told watched) same b }, refl))))
+pub unkept_ends : (files : List ℕ → FileOf) (config : SourceOf) (schedule : List ℕ) (show : ShowOf) (refuses : List ℕ → Bool) (c : ConfigOf) (packages : List PackageText) (devices : List DeviceConfigOf) (steps : List Step)
+    (told : JobFault) (watched : ObserverOf) (before : OutputOf) (paths : List (List ℕ)) → IsConfigured files config.config c → ArePackages files c.packages packages → AreConfigured config.chosen c.devices
+    → AreDevices config.stores (chosen_in config.chosen c.devices) devices → Says script_of (files schedule) steps → paths ≡ c.packages
+    → (told ≡ faults.Memory) ⊎ IsBarred files refuses show (schedule ∷ inputs_of config.config paths) told watched → ReplayEnds files config schedule show refuses told watched before before
+unkept_ends files config schedule show refuses c packages devices steps told watched before paths says are there stocked script same (inl e) = inr (inr (inl (inl e, refl)))
+unkept_ends files config schedule show refuses c packages devices steps told watched before paths says are there stocked script same (inr b) = inr (inr (inr (inr (
+  record {
+    world = new_world c.agent (nodes_made c.unit c.agent.eid devices) packages;
+    setup = record { config = c; packages = packages; devices = devices; says = says; are = are; there = there; stocked = stocked; world = refl };
+    steps = steps;
+    says = script;
+    barred = subst (λ ps. IsBarred files refuses show (schedule ∷ inputs_of config.config ps) told watched) same b;
+  },
+  refl,
+))))
 
 -- a replay whose report is written, and whose observer had a fault
 pub unseen_ends : (files : List ℕ → FileOf) (config : SourceOf) (schedule : List ℕ) (show : ShowOf) (refuses : List ℕ → Bool) (fault : ObserverFault) (told : JobFault) (watched : ObserverOf) (before now : OutputOf)

@@ -108,12 +108,14 @@ pub record ReportsUnseen (files : List ℕ → FileOf) (config : SourceOf) (sche
   pub had : watched.fault ≡ Some fault
   pub let_end : watched.has_ended ≡ true
 
--- Nothing is replayed: an output may overwrite an input or another output, is in a store, or is
--- refused.
+-- Nothing is replayed: the world and the steps exist, and an output may overwrite an input or
+-- another output, is in a store, or is refused.
 pub record LacksKept (files : List ℕ → FileOf) (config : SourceOf) (schedule : List ℕ) (show : ShowOf) (refuses : List ℕ → Bool) (told : JobFault) (watched : ObserverOf) : Type 0 where
-  pub says : ConfigOf
-  pub is : IsConfigured files config.config says
-  pub barred : IsBarred files refuses show (schedule ∷ inputs_of config.config says.packages) told watched
+  pub world : WorldOf
+  pub setup : IsSetup files config world
+  pub steps : List Step
+  pub says : Says script_of (files schedule) steps
+  pub barred : IsBarred files refuses show (schedule ∷ inputs_of config.config setup.config.packages) told watched
 
 -- Nothing is replayed: memory was refused, or one of the inputs, the first in their order, is
 -- faulty, or a device's store is.

@@ -111,7 +111,8 @@ pub(crate) fn ordered_devices(
         → AreWhole agent (map device_of devices.items)
         → AreWhole agent (map device_of ds.items)) }
     ensures numbered { IfOk result (λ ds. have_packages (number_for order.now.packages) count (map device_of ds.items) ≡ true) }
-    ensures fault { IfErr result (λ e. ChoiceFails order.now.devices (number_for order.now.packages) count (map device_of devices.items) e) }
+    ensures fault { IfErr result (λ e. ChoiceFails order.now.devices
+        (number_for order.now.packages) count (map device_of devices.items) e) }
 {
     let devices = match chosen_devices(devices, order.devices) {
         Ok(devices) => devices,

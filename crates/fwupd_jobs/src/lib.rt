@@ -5,10 +5,6 @@
 mod building;
 mod checking;
 mod choosing;
-mod clue_lines;
-mod clues;
-mod explaining;
-mod identifiers;
 mod inspecting;
 mod jobs;
 mod numbering;
@@ -16,7 +12,6 @@ mod planning;
 mod process_files;
 mod program;
 mod read_ahead;
-mod reasons;
 mod recording_laws;
 mod replaying;
 mod soak_progress;
@@ -26,9 +21,7 @@ mod sockets;
 mod statuses;
 mod system_wiring;
 mod telling;
-mod unwritten;
 mod updating;
-mod warnings;
 mod words;
 mod write_behind;
 

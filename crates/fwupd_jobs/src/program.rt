@@ -11,7 +11,6 @@ ghost use Rattle.fwupd_jobs.specs.Failures.{status_of};
 ghost use Rattle.fwupd_jobs.specs.Jobs.{Performs, StatusSays, SystemSays};
 ghost use Rattle.fwupd_jobs.specs.Progress.{runs_of_job};
 
-use crate::explaining::{explain, warn};
 use crate::jobs::perform_job;
 use crate::soak_progress::SoakProgress;
 use crate::sockets::{SocketLink, Sockets};
@@ -19,6 +18,7 @@ use crate::system_wiring::SystemWiring;
 use crate::words::words;
 use fw_setup::SystemStores;
 use fw_store::SystemFolder;
+use fwupd_clues::{explain, warn};
 use fwupd_nodes::{Host, Parts};
 use fwupd_watch::{
     JobFault, Observers, Output, SystemCalls, SystemFiles, WholeFiles, system_places,

@@ -28,9 +28,7 @@ use fw_world::{
 };
 use fwupd_base::{Form, Show};
 use fwupd_nodes::{Host, Parts, configured, package_files, packages_in, read_kept, schedule};
-use fwupd_watch::{
-    Files, Inputs, JobFault, Observer, ObserverFault, begin_apart, is_one_path, observer_fault,
-};
+use fwupd_watch::{Files, Inputs, JobFault, Observer, ObserverFault, begin_apart, observer_fault};
 use fwupd_words::Replay;
 use mctp_ctl::Endpoint;
 use mctp_wire::Unit;
@@ -187,20 +185,8 @@ fn begin_replay<F: Files, V: Observer>(
         (job.entry.schedule.now ∷ inputs_of (config_source job.entry.config) (map (λ p. string_bytes p) packages.now)) e
         (V.watched watch.new)) }
 {
-    if is_one_path(files, job.show.trace, job.schedule) {
-        return Err(JobFault::Trace);
-    }
-    if is_one_path(files, job.show.log, job.schedule) {
-        return Err(JobFault::Log);
-    }
-    if is_one_path(files, job.show.record, job.schedule) {
-        return Err(JobFault::Record);
-    }
-    let inputs = Inputs::new(&job.config, packages);
-    match begin_apart(alloc, files, inputs, job.show, watch) {
-        Ok(()) => Ok(()),
-        Err(fault) => Err(fault),
-    }
+    let inputs = Inputs::with_schedule(job.schedule, &job.config, packages);
+    begin_apart(alloc, files, inputs, job.show, watch)
 }
 
 /// Replays the schedule in a file on the nodes of the configuration in another, and writes in a

@@ -91,7 +91,8 @@ impl<'a> SoakProgress<'a> {
 
     /// Erases the progress line on a writer, if one is shown.
     fn end_on<W: Write>(&mut self, writer: &mut W) -> io::Result<()>
-        ensures erased { OnOk result (Appends (W.contents writer.old) (W.contents writer.new) (erasure_of (is_some self.old.shown))) }
+        ensures erased { OnOk result (Appends (W.contents writer.old) (W.contents writer.new)
+            (erasure_of (is_some self.old.shown))) }
         ensures none { self.new.shown ≡ None }
     {
         let was_shown = self.shown.take().is_some();

@@ -16,7 +16,9 @@ use std::io;
 
 /// The front of a node over sockets, if it is requested.
 fn front(network: &Network, serving: Serving<'_>) -> Option<Front>
-    ensures { result ≡ (if serving.entry.is_open then Some (record { network = network.now.unit; endpoint = network.now.endpoint }) else None) }
+    ensures { result ≡ (if serving.entry.is_open
+        then Some (record { network = network.now.unit; endpoint = network.now.endpoint })
+        else None) }
 {
     if !serving.is_open {
         return None;

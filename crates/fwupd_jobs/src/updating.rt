@@ -170,11 +170,13 @@ fn update_reporting<B: Bank + Drop, L: Link + Drop, V: Observer>(
     ensures lost { IfErr result (λ e. e ≡ JobFault.Edge EdgeFault.Frame
         → TellsLost world.new (map (λ l. l.tally.failures) links.new) (V.watched watch.new).lost) }
     ensures none_lost { OnOk result ((V.watched watch.new).lost ≡ (V.watched watch.old).lost) }
-    ensures fault { IfErr result (λ e. (e ≡ JobFault.Memory) ⊎ IsCaused (number_for order.packages) world.old world.new e (V.watched watch.new)) }
+    ensures fault { IfErr result (λ e. (e ≡ JobFault.Memory)
+        ⊎ IsCaused (number_for order.packages) world.old world.new e (V.watched watch.new)) }
     ensures kept { OnOk result (map (λ l. l.tally.failures) links.new ≡ map (λ l. l.tally.failures) links.old) }
     ensures failed { IfErr result (λ e. ReportsLinkFailures e
         (map (λ l. l.tally.failures) links.old) (map (λ l. l.tally.failures) links.new)) }
-    ensures sees { (V.watched watch.old).seen ≡ 0 → RunsStepsSeen (number_for order.packages) world.old world.new (V.watched watch.new).seen }
+    ensures sees { (V.watched watch.old).seen ≡ 0
+        → RunsStepsSeen (number_for order.packages) world.old world.new (V.watched watch.new).seen }
 {
     match update_observed(alloc, world, &order.packages, links, watch) {
         Ok(()) => Ok(()),

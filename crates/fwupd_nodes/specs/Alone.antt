@@ -120,16 +120,19 @@ pub record IsDeviceSetup (job : DeviceAlone) (files : List ℕ → FileOf) (s : 
   pub agent : s.agent ≡ config.agent.eid
   pub apart : IfSome (option_map (λ p. p.now) job.report) (λ p. AllByRecursion (IsApartFrom files p) (inputs_of (config_source job.config) []))
 
--- The report would overwrite the configuration.
+-- The report would overwrite the configuration, which is read first.
 pub record OverwritesConfig (job : DeviceAlone) (told : JobFault) (files : List ℕ → FileOf) : Type 0 where
   pub is : told ≡ faults.Report
+  pub config : ConfigOf
+  pub says : IsConfigured files (config_source job.config) config
   pub over : IsSomeAnd (option_map (λ p. p.now) job.report) (λ p. IsOverOne files p (inputs_of (config_source job.config) []))
 
--- The configuration has no such device.
+-- The configuration has no such device, and the report doesn't overwrite it.
 pub record MissesDevice (job : DeviceAlone) (told : JobFault) (files : List ℕ → FileOf) : Type 0 where
   pub is : told ≡ faults.NoDevice job.eid
   pub config : ConfigOf
   pub says : IsConfigured files (config_source job.config) config
+  pub apart : IfSome (option_map (λ p. p.now) job.report) (λ p. AllByRecursion (IsApartFrom files p) (inputs_of (config_source job.config) []))
   pub none : LacksDevice config.devices job.eid
 
 abbrev pub DeviceSetupFails : DeviceAlone → (files : List ℕ → FileOf) → JobFault → Type 0

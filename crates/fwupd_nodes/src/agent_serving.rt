@@ -17,7 +17,7 @@ ghost use Rattle.fwupd_watch.specs.Outputs.{FailsToWriteOutput, WritesOutput};
 use crate::agent_stores::{AgentSetup, open_agent};
 use crate::alone::eids_of;
 use crate::host::{Host, Parts};
-use crate::outputs::{ProcessOutputs, check_outputs};
+use crate::outputs::{ProcessOutputs, agent_inputs, check_outputs};
 use crate::sessions::Undone;
 use crate::setups::{configuration, package_files, packages_in};
 use crate::wiring::{Joined, Network, Observed, Wiring, begin, end_of, observe};
@@ -31,7 +31,7 @@ use fw_serve::{AgentProcess, CallFault, ServedAgent, serve_agent_process};
 use fw_trace::log_bytes;
 use fwupd_base::Form;
 use fwupd_traces::{ObservedLine, PacketObserver, Starts, TracedNode, WatchFault};
-use fwupd_watch::{Files, Inputs, JobFault, Output, OutputPlaces, process_fault, write_file};
+use fwupd_watch::{Files, JobFault, Output, OutputPlaces, process_fault, write_file};
 use std::alloc::{AllocError, Global};
 use std::io::Write;
 
@@ -493,11 +493,7 @@ fn check_agent_outputs<F: Files>(
         ⊎ IsOverRead (F.holds files.now) (agent_shows job.now)
         (job.now.config.now ∷ map (λ p. string_bytes p) packages.now) e) }
 {
-    let inputs = Inputs {
-        config: job.config,
-        images: &[],
-        packages,
-    };
+    let inputs = agent_inputs(job.config, packages);
     let outputs = ProcessOutputs {
         watching: job.watching,
         log: job.log,

@@ -15,6 +15,7 @@ ghost use Rattle.fwupd_nodes.specs.Hosts.{FoundOf, LeftOf, agent_store_in};
 
 use crate::host::{Host, Parts};
 use crate::images::{configured, place_of};
+use crate::outputs::agent_inputs;
 use crate::setups::{configuration, open_kept, package_files, packages_in};
 use fd_core::Bank;
 use fw_node::DeviceNode;
@@ -568,11 +569,7 @@ fn apart_from_read<F: Files>(
     ensures apart { OnOk result (AreOutputsApart job.entry (F.holds files.now) (map (λ p. string_bytes p) packages.now)) }
     ensures over { IfErr result (IsOutputOver job.entry (F.holds files.now) (map (λ p. string_bytes p) packages.now)) }
 {
-    let inputs = Inputs {
-        config: job.config,
-        images: &[],
-        packages,
-    };
+    let inputs = agent_inputs(job.config, packages);
     if is_over_read(files, job.log, inputs) {
         return Err(JobFault::Log);
     }

@@ -4,7 +4,6 @@ ghost use Rattle.std.specs.Prelude.{◌≡◌, ◌<◌, ◌≤◌, ◌==◌, ◌
 ghost use Rattle.std.specs.List.{position};
 ghost use Rattle.fd_core.specs.Codes.{longest_image};
 ghost use Rattle.fd_core.specs.Images.{same_key};
-ghost use Rattle.fw_script.specs.Configs.{has_key};
 ghost use Rattle.fw_script.specs.Seen.{component_of, config_seen, device_of};
 ghost use Rattle.fw_script.specs.Whole.{AreWhole};
 ghost use Rattle.fwupd_base.specs.ImageFiles.{config_source, image_file};
@@ -14,7 +13,7 @@ ghost use Rattle.fwupd_watch.specs.Files.{MayHold};
 
 use crate::setups::{configuration, read_fault};
 use fd_core::MAX_IMAGE;
-use fw_script::{ComponentConfig, Config, DeviceConfig};
+use fw_script::{ComponentConfig, Config, DeviceConfig, has_key};
 use fwup_wire::Key;
 use fwupd_base::{ConfigSource, ImageFile};
 use fwupd_watch::{Files, JobFault};
@@ -36,18 +35,6 @@ fn component_place(components: &[ComponentConfig], key: Key) -> Option<usize>
     components
         .iter()
         .position(|config| config.component.key == key)
-}
-
-/// Whether a component has this key.
-fn has_key(components: &[ComponentConfig], key: Key) -> bool
-    ensures { result ≡ has_key (map component_of components.now) key }
-{
-    for config in components {
-        if config.component.key == key {
-            return true;
-        }
-    }
-    false
 }
 
 /// Whether the component that an image names is there.

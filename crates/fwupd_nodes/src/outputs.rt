@@ -1,6 +1,6 @@
 //! The files that are written of a process.
 
-ghost use Rattle.std.specs.Prelude.{◌≡◌, ◌⊎◌, IfErr, OnOk, option_map};
+ghost use Rattle.std.specs.Prelude.{◌≡◌, ◌⊎◌, ◌∷◌, IfErr, OnOk, map, option_map, string_bytes};
 ghost use Rattle.fwupd_nodes.specs.Processes.{process_shows};
 ghost use Rattle.fwupd_watch.specs.Apart.{IsApart, IsOverRead};
 ghost use Rattle.fwupd_watch.specs.Inputs.{inputs_seen};
@@ -18,6 +18,18 @@ pub struct ProcessOutputs<'a> {
     pub log: Option<&'a str>,
     /// The folder of stores, if it has one.
     pub store: Option<&'a str>,
+}
+
+/// The files that an agent reads: its configuration, of which it needs no image, and its packages.
+pub(crate) fn agent_inputs<'a>(config: &'a str, packages: &'a [String]) -> Inputs<'a>
+    ensures { inputs_seen result ≡ config.now ∷ map (λ p. string_bytes p) packages.now }
+{
+    Inputs {
+        schedule: None,
+        config,
+        images: &[],
+        packages,
+    }
 }
 
 /// Checks the outputs of a process: none may overwrite an input or another output, or be in a

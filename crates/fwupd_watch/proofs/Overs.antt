@@ -1,15 +1,11 @@
--- Outputs that may overwrite one of several files, and the order in which they are looked at.
+-- Outputs that may overwrite one of several files.
 use Rattle.std.proofs.Common.{◌≡◌, ◌<◌, ◌∙◌, ◌++◌, ℕ, zero, suc, List, [], ◌∷◌, inl, inr, length, map, get_or, String, Global, ap, subst, arith}
 use Rattle.std.specs.List.{AllByRecursion}
-use Rattle.std.specs.Prelude.{string_bytes}
+use Rattle.std.specs.Prelude.{IfSome, IsSomeAnd, None, Option, Some, string_bytes}
 use Rattle.fwupd_base.specs.ImageFiles.{image_file}
 use Rattle.fwupd_base.specs.declared.image_files.ImageFile.{ImageFile}
-use Rattle.fwupd_watch.specs.Apart.{AreFirstApart, IsApart}
 use Rattle.fwupd_watch.specs.Files.{FileOf, IsApartFrom, IsOver, IsOverOne}
-use Rattle.fwupd_watch.specs.Inputs.{image_paths}
-use Rattle.fwupd_watch.specs.Running.{ShowOf}
-use Rattle.fwupd_watch.specs.declared.faults.JobFault.{JobFault}
-use Rattle.fwupd_watch.specs.declared.faults.JobFault.TheVariants as faults
+use Rattle.fwupd_watch.specs.Inputs.{image_paths, with_first}
 
 -- an output may overwrite the file of a path among strings
 pub over_item : (files : List ℕ → FileOf) (written : List ℕ) (others : List (String Global)) (i : ℕ) (other : String Global) (name : List ℕ) → i < length others → other ≡ get_or others i other
@@ -41,8 +37,17 @@ pub apart_both : (files : List ℕ → FileOf) (written : List ℕ) (images pack
 apart_both files written [] packages all more = more
 apart_both files written (x ∷ images) packages all more = (all.0, apart_both files written images packages all.1 more)
 
--- if all outputs are apart, those before that of a fault are
-pub first_apart : (files : List ℕ → FileOf) (show : ShowOf) (paths : List (List ℕ)) (told : JobFault) → IsApart files show paths → AreFirstApart files show paths told
-first_apart files show paths faults.Log apart = apart.0
-first_apart files show paths faults.Record apart = (apart.0, apart.1.0)
-first_apart files show paths told apart = tt
+-- it overwrites a file before others, if there is one, or one of the others
+pub over_first : (files : List ℕ → FileOf) (written : List ℕ) (path : Option (List ℕ)) (paths : List (List ℕ)) → IsSomeAnd path (IsOver files written) → IsOverOne files written (with_first path paths)
+over_first files written None paths h = absurd h
+over_first files written (Some path) paths h = inl h
+
+pub over_rest : (files : List ℕ → FileOf) (written : List ℕ) (path : Option (List ℕ)) (paths : List (List ℕ)) → IsOverOne files written paths → IsOverOne files written (with_first path paths)
+over_rest files written None paths h = h
+over_rest files written (Some path) paths h = inr h
+
+-- or none of all
+pub apart_all : (files : List ℕ → FileOf) (written : List ℕ) (path : Option (List ℕ)) (paths : List (List ℕ)) → IfSome path (IsApartFrom files written) → AllByRecursion (IsApartFrom files written) paths
+    → AllByRecursion (IsApartFrom files written) (with_first path paths)
+apart_all files written None paths first all = all
+apart_all files written (Some path) paths first all = (first, all)

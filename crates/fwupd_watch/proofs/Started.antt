@@ -1,6 +1,6 @@
 -- Updates that are started one by one, and the steps after them.
-use Rattle.std.proofs.Common.{◌≡◌, ◌≢◌, ◌≤◌, ◌⊎◌, ◌+◌, ◌-◌, ◌^◌, ◌++◌, ◌∙◌, ℕ, zero, suc, List, [], ◌∷◌, Some, None, true, Result, Err, inl, inr, append_assoc, append-nil, arith, length, map, refl, sym, ap, subst, take}
-use Rattle.std.specs.Prelude.{IfErr, IfSome, Option, option_map, slice_get}
+use Rattle.std.proofs.Common.{◌≡◌, ◌≢◌, ◌≤◌, ◌⊎◌, ◌+◌, ◌-◌, ◌^◌, ◌++◌, ◌∙◌, ℕ, zero, suc, List, [], ◌∷◌, Some, None, false, true, Result, Err, inl, inr, append_assoc, append-nil, arith, length, map, refl, sym, ap, subst, take}
+use Rattle.std.specs.Prelude.{IfErr, IfSome, Option, is_some, option_map, slice_get}
 use Rattle.std.proofs.Math.Seq.{take-length}
 use Rattle.std.proofs.lemmas.List.{map-append}
 use Rattle.std.proofs.lemmas.List.Sums.{sum_by-append}
@@ -19,7 +19,7 @@ use Rattle.fw_steps.specs.declared.step.Step.{Step}
 use Rattle.fw_steps.specs.declared.step.Step.TheVariants as steps
 use Rattle.fw_edge.specs.declared.driving.EdgeFault.{EdgeFault}
 use Rattle.fw_edge.specs.declared.driving.EdgeFault.TheVariants as edges
-use Rattle.fwupd_watch.specs.Running.{ReportsLinkFailures, IsCaused, IsRefusedStart, HasObserverFault, MayEnd, MayStart, RunsSteps, RunsStepsSeen, UpdatesDevices, ObserverOf, starts_of, job_fault_of_observer, job_fault_of, observer_fault_of}
+use Rattle.fwupd_watch.specs.Running.{ReportsLinkFailures, IsCaused, IsRefusedStart, HasObserverFault, HasStarted, MayEnd, MayStart, RunsSteps, RunsStepsSeen, UpdatesDevices, ObserverOf, starts_of, job_fault_of_observer, job_fault_of, observer_fault_of}
 use Rattle.fwupd_watch.specs.declared.faults.JobFault.{JobFault}
 use Rattle.fwupd_watch.specs.declared.faults.JobFault.TheVariants as told
 use Rattle.fwupd_watch.specs.declared.running.ObserverFault.{ObserverFault}
@@ -233,6 +233,14 @@ told_links edges.Memory fault os ms ns e same h = (λ is. absurd (let no = sym e
 pub none_unwritten : (fault : JobFault) (seen : Option ObserverFault) → observer_fault_of fault ≡ None → HasObserverFault fault seen
 none_unwritten fault seen e = rw e tt
 
+pub none_begun : (numbers : ℕ → ℕ) (w v : WorldOf) (fault : JobFault) → observer_fault_of fault ≡ None → is_some (observer_fault_of fault) ≡ true → HasStarted numbers w v
+none_begun numbers w v fault none some = absurd (let no : false ≡ true = subst (λ o. is_some o ≡ true) none some in cc)
+
+pub turned_unseen : (e : EdgeFault) (fault : JobFault) → fault ≡ job_fault_of e → observer_fault_of fault ≡ None
+turned_unseen edges.Frame fault e = rw e refl
+turned_unseen edges.Step fault e = rw e refl
+turned_unseen edges.Memory fault e = rw e refl
+
 -- an output of the observer can't be written
 pub unwritten_by : (f : ObserverFault) (seen : Option ObserverFault) (fault : JobFault) → fault ≡ job_fault_of_observer f → seen ≡ Some f → HasObserverFault fault seen
 unwritten_by watches.Unwritten seen fault e is = rw e is
@@ -256,9 +264,10 @@ unwritten_still r old new fault h first after = go (observer_fault_of fault) h
 
 -- the cause of an update's end
 pub update_caused : (numbers : ℕ → ℕ) (w v : WorldOf) (fault : JobFault) (watched : ObserverOf) → MayEnd fault → (fault ≡ told.Edge edges.Step → IsRefusedStart numbers w v ⊎ (v.now ≡ 2 ^ 32 - 1))
-    → HasObserverFault fault watched.fault → watched.has_ended ≡ true → (fault ≡ told.Memory) ⊎ IsCaused numbers w v fault watched
-update_caused numbers w v fault watched (inl e) step unwritten ended = inl e
-update_caused numbers w v fault watched (inr b) step unwritten ended = inr (record { broken = b; stopped = step; unwritten = unwritten; let_end = ended })
+    → HasObserverFault fault watched.fault → (is_some (observer_fault_of fault) ≡ true → HasStarted numbers w v) → watched.has_ended ≡ true → (fault ≡ told.Memory) ⊎ IsCaused numbers w v fault watched
+update_caused numbers w v fault watched (inl e) step unwritten begun ended = inl e
+update_caused numbers w v fault watched (inr b) step unwritten begun ended =
+    inr (record { broken = b; stopped = step; unwritten = unwritten; begun = begun; let_end = ended })
 
 pub caused_unwritten : (numbers : ℕ → ℕ) (w v : WorldOf) (fault : JobFault) (watched : ObserverOf) → (fault ≡ told.Memory) ⊎ IsCaused numbers w v fault watched → HasObserverFault fault watched.fault
 caused_unwritten numbers w v fault watched (inl e) = rw e tt

@@ -24,30 +24,33 @@ IsInStore files path store = IsSomeAnd path (λ p. IsSomeAnd store (λ s. IsInFo
 abbrev pub IsOutOfStore : (files : List ℕ → FileOf) (path store : Option (List ℕ)) → Type 0
 IsOutOfStore files path store = IfSome path (λ p. IfSome store (λ s. IsOutsideFolder (files p) (files s)))
 
--- No output overwrites the files of these paths, the log's records don't overwrite the packets, and
--- the steps overwrite neither. No output is in a store.
-abbrev pub IsApart : (files : List ℕ → FileOf) → ShowOf → List (List ℕ) → Type 0
-IsApart files show paths =
-    (IsApartFromUsed files show.trace None None paths × IsOutOfStore files show.trace show.store)
-    × ((IsApartFromUsed files show.log show.trace None paths × IsOutOfStore files show.log show.store)
-    × (IsApartFromUsed files show.record_path show.trace show.log paths × IsOutOfStore files show.record_path show.store))
+-- The trace overwrites none of the files of these paths, the log neither them nor the trace, and
+-- the recording none of all these. None is in a store.
+abbrev pub IsTraceApart : (files : List ℕ → FileOf) → ShowOf → List (List ℕ) → Type 0
+IsTraceApart files show paths = IsApartFromUsed files show.trace None None paths × IsOutOfStore files show.trace show.store
 
--- The output of this fault may overwrite one of the paths or another output, or is in a store.
+abbrev pub IsLogApart : (files : List ℕ → FileOf) → ShowOf → List (List ℕ) → Type 0
+IsLogApart files show paths = IsApartFromUsed files show.log show.trace None paths × IsOutOfStore files show.log show.store
+
+abbrev pub IsRecordingApart : (files : List ℕ → FileOf) → ShowOf → List (List ℕ) → Type 0
+IsRecordingApart files show paths = IsApartFromUsed files show.record_path show.trace show.log paths × IsOutOfStore files show.record_path show.store
+
+abbrev pub IsApart : (files : List ℕ → FileOf) → ShowOf → List (List ℕ) → Type 0
+IsApart files show paths = IsTraceApart files show paths × (IsLogApart files show paths × IsRecordingApart files show paths)
+
+-- The output of this fault is the first that may overwrite one of the paths or another output, or
+-- is in a store.
 abbrev pub IsOverRead : (files : List ℕ → FileOf) → ShowOf → List (List ℕ) → JobFault → Type 0
 IsOverRead files show paths faults.Trace = IsOverUsed files show.trace None None paths ⊎ IsInStore files show.trace show.store
-IsOverRead files show paths faults.Log = IsOverUsed files show.log show.trace None paths ⊎ IsInStore files show.log show.store
-IsOverRead files show paths faults.Record = IsOverUsed files show.record_path show.trace show.log paths ⊎ IsInStore files show.record_path show.store
+IsOverRead files show paths faults.Log =
+    IsTraceApart files show paths × (IsOverUsed files show.log show.trace None paths ⊎ IsInStore files show.log show.store)
+IsOverRead files show paths faults.Record =
+    IsTraceApart files show paths
+    × (IsLogApart files show paths × (IsOverUsed files show.record_path show.trace show.log paths ⊎ IsInStore files show.record_path show.store))
 IsOverRead files show paths told = ⊥
 
--- The outputs that are looked at before that of this fault overwrite nothing, and are in no store:
--- the trace before the log, and both before the recording.
-abbrev pub AreFirstApart : (files : List ℕ → FileOf) → ShowOf → List (List ℕ) → JobFault → Type 0
-AreFirstApart files show paths faults.Log = IsApartFromUsed files show.trace None None paths × IsOutOfStore files show.trace show.store
-AreFirstApart files show paths faults.Record =
-    (IsApartFromUsed files show.trace None None paths × IsOutOfStore files show.trace show.store)
-    × (IsApartFromUsed files show.log show.trace None paths × IsOutOfStore files show.log show.store)
-AreFirstApart files show paths told = Prim.Unit {0}
-
--- The observer doesn't begin, for this fault.
+-- The observer doesn't begin, for this fault: an output may overwrite a file, or none does and the
+-- output of the fault is refused.
 abbrev pub IsBarred : (files : List ℕ → FileOf) (refuses : List ℕ → Bool) (show : ShowOf) (paths : List (List ℕ)) (told : JobFault) (watched : ObserverOf) → Type 0
-IsBarred files refuses show paths told watched = IsOverRead files show paths told ⊎ (HasObserverFault told watched.fault × MayRefuse refuses show told)
+IsBarred files refuses show paths told watched =
+    IsOverRead files show paths told ⊎ (IsApart files show paths × (HasObserverFault told watched.fault × MayRefuse refuses show told))

@@ -35,6 +35,10 @@ pub record UpdatesDevices (numbers : ℕ → ℕ) (w v : WorldOf) (ticks : ℕ) 
   pub driven : AreDriven steps
   pub ticks_are : ticks_in steps ≡ ticks
 
+-- so, with some number of ticks
+abbrev pub HasStarted : (numbers : ℕ → ℕ) (w v : WorldOf) → Type 0
+HasStarted numbers w v = (ticks : ℕ) × UpdatesDevices numbers w v ticks
+
 -- Each session is Done or Failed, or exactly 80,000 ticks have passed.
 pub record UpdateOk (numbers : ℕ → ℕ) (w v : WorldOf) : Type 0 where
   pub ticks : ℕ
@@ -197,9 +201,11 @@ MayRefuse refuses show faults.History = IsSomeAnd show.history (λ path. refuses
 MayRefuse refuses show told = ⊥
 
 -- The cause of a fault that stops a run: if it is `Step`, a start is refused or the clock is at its
--- last tick; if it is that of an output, the observer has that fault. The observer has ended.
+-- last tick; if it is that of an output, the observer has that fault, and all updates are started.
+-- The observer has ended.
 pub record IsCaused (numbers : ℕ → ℕ) (w v : WorldOf) (told : JobFault) (watched : ObserverOf) : Type 0 where
   pub broken : IsBrokenRun told
   pub stopped : told ≡ faults.Edge edges.Step → IsRefusedStart numbers w v ⊎ (v.now ≡ 2 ^ 32 - 1)
   pub unwritten : HasObserverFault told watched.fault
+  pub begun : is_some (observer_fault_of told) ≡ true → HasStarted numbers w v
   pub let_end : watched.has_ended ≡ true

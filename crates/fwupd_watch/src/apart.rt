@@ -1,31 +1,19 @@
 //! Checks that the outputs of a run overwrite neither its inputs nor each other, and are in no
 //! store.
 
-ghost use Rattle.std.specs.Prelude.{◌≡◌, ◌⊎◌, false, IfErr, IfOk, IfSome, IsSomeAnd, None, OnOk, option_map, true};
-ghost use Rattle.fwupd_watch.specs.Files.{IsApartFrom, IsOver};
+ghost use Rattle.std.specs.Prelude.{◌≡◌, ◌⊎◌, false, IfErr, IfOk, IfSome, None, OnOk, option_map, true};
 ghost use Rattle.fwupd_watch.specs.Inputs.{inputs_seen};
 ghost use Rattle.fwupd_watch.specs.Histories.{HasNoLines};
 ghost use Rattle.fwupd_watch.specs.Recordings.{IsNewRecording};
 ghost use Rattle.fwupd_watch.specs.Running.{HasObserverFault, show_of, shown_of};
-ghost use Rattle.fwupd_watch.specs.Apart.{AreFirstApart, IsApart, IsApartFromUsed, IsBarred, IsInStore, IsOutOfStore, IsOverRead, IsOverUsed};
+ghost use Rattle.fwupd_watch.specs.Apart.{IsApart, IsApartFromUsed, IsBarred, IsInStore, IsOutOfStore, IsOverRead, IsOverUsed};
 
 use crate::faults::JobFault;
-use crate::files::{Files, is_read, is_same_file};
+use crate::files::{Files, is_read, is_written};
 use crate::inputs::Inputs;
 use crate::running::{Observer, observer_fault};
 use fwupd_base::Show;
 use std::alloc::{AllocError, Global};
-
-/// Whether a path may name the same file as another output, if there is one.
-fn is_written<F: Files>(files: &F, path: &str, other: Option<&str>) -> bool
-    ensures over { result ≡ true → IsSomeAnd (option_map (λ p. p.now) other.entry) (IsOver (F.holds files.now) path.now) }
-    ensures apart { result ≡ false → IfSome (option_map (λ p. p.now) other.entry) (IsApartFrom (F.holds files.now) path.now) }
-{
-    match other {
-        Some(other) => is_same_file(files, other, path),
-        None => false,
-    }
-}
 
 /// Whether an output, if there is one, may overwrite an input or one of two other outputs.
 fn is_over<F: Files>(
@@ -122,8 +110,6 @@ pub fn check_apart<F: Files>(
     ensures fault { IfErr result (λ e. (e ≡ JobFault.Memory)
         ⊎ IsOverRead (F.holds files.now) (show_of show.entry)
         (inputs_seen inputs.entry) e) }
-    ensures order { IfErr result (AreFirstApart (F.holds files.now) (show_of show.entry)
-        (inputs_seen inputs.entry)) }
 {
     let store = show.store;
     match is_barred(alloc, files, show.trace, None, None, inputs, store) {
@@ -154,7 +140,9 @@ pub fn check_apart<F: Files>(
 
 /// Begins an observer after checking its outputs: none may overwrite an input or another output, or
 /// be in a store.
-#[tactic(auto, using(crate::proofs::Overs::first_apart))]
+///
+/// # Errors
+/// As for `check_apart`, and then those of `begin`.
 pub fn begin_apart<F: Files, V: Observer>(
     alloc: Global,
     files: &F,
@@ -172,8 +160,6 @@ pub fn begin_apart<F: Files, V: Observer>(
     ensures fault { IfErr result (λ e. (e ≡ JobFault.Memory)
         ⊎ IsBarred (F.holds files.now) (V.refuses watch.old) (show_of show.entry)
         (inputs_seen inputs.entry) e (V.watched watch.new)) }
-    ensures order { IfErr result (AreFirstApart (F.holds files.now) (show_of show.entry)
-        (inputs_seen inputs.entry)) }
 {
     match check_apart(alloc, files, inputs, show) {
         Ok(()) => {}

@@ -6,7 +6,7 @@ ghost use Rattle.std.specs.List.{AllByRecursion};
 ghost use Rattle.fw_package.specs.Outlines.{IsBeginning};
 ghost use Rattle.fwupd_watch.specs.Files.{AreTwoPlaces, FileOf, IsApartFrom, IsInFolder, IsOneEntry, IsOnePlace, IsOutsideFolder, IsOver, IsOverOne, MayBe, MayBegin, MayHold, MayLink, any_file};
 ghost use Rattle.fwupd_base.specs.ImageFiles.{image_file};
-ghost use Rattle.fwupd_watch.specs.Inputs.{image_paths, inputs_seen};
+ghost use Rattle.fwupd_watch.specs.Inputs.{configured_inputs, image_paths, inputs_seen};
 ghost use Rattle.fwupd_watch.specs.Paths.{IsFolderAndName, path_in, system_path};
 
 use crate::beginnings::{BEGINNING, Beginning, read_first};
@@ -379,16 +379,37 @@ fn is_image<F: Files>(files: &F, path: &str, images: &[ImageFile<'_>]) -> bool
     false
 }
 
-/// Returns whether a path may name an input.
+/// Returns whether a path may name the same file as another, if there is one.
+pub fn is_written<F: Files>(files: &F, path: &str, other: Option<&str>) -> bool
+    ensures over { result ≡ true → IsSomeAnd (option_map (λ p. p.now) other.entry) (IsOver (F.holds files.now) path.now) }
+    ensures apart { result ≡ false → IfSome (option_map (λ p. p.now) other.entry) (IsApartFrom (F.holds files.now) path.now) }
+{
+    match other {
+        Some(other) => is_same_file(files, other, path),
+        None => false,
+    }
+}
+
+/// Whether a path may name the configuration, an image's file or a package.
 #[tactic(auto, using(crate::proofs::Overs::over_image, crate::proofs::Overs::over_package, crate::proofs::Overs::apart_both))]
+fn is_configured<F: Files>(files: &F, path: &str, inputs: Inputs<'_>) -> bool
+    ensures over { result ≡ true → IsOverOne (F.holds files.now) path.now (configured_inputs inputs.entry) }
+    ensures apart { result ≡ false
+        → AllByRecursion (IsApartFrom (F.holds files.now) path.now) (configured_inputs inputs.entry) }
+{
+    is_same_file(files, inputs.config, path)
+        || is_image(files, path, inputs.images)
+        || is_one_of(files, path, inputs.packages)
+}
+
+/// Returns whether a path may name an input.
+#[tactic(auto, using(crate::proofs::Overs::over_first, crate::proofs::Overs::over_rest, crate::proofs::Overs::apart_all))]
 pub fn is_read<F: Files>(files: &F, path: &str, inputs: Inputs<'_>) -> bool
     ensures over { result ≡ true → IsOverOne (F.holds files.now) path.now (inputs_seen inputs.entry) }
     ensures apart { result ≡ false
         → AllByRecursion (IsApartFrom (F.holds files.now) path.now) (inputs_seen inputs.entry) }
 {
-    is_same_file(files, inputs.config, path)
-        || is_image(files, path, inputs.images)
-        || is_one_of(files, path, inputs.packages)
+    is_written(files, path, inputs.schedule) || is_configured(files, path, inputs)
 }
 
 /// Returns whether an output, if there is one, may overwrite an input.

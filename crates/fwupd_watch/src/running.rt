@@ -1,13 +1,13 @@
 //! Updates devices over links.
 
-ghost use Rattle.std.specs.Prelude.{[], ◌≡◌, ◌≢◌, ◌-◌, ◌^◌, ◌⊎◌, Bool, Err, IfErr, IfSome, List, None, OnOk, Some, length, map, true, ℕ};
+ghost use Rattle.std.specs.Prelude.{[], ◌≡◌, ◌≢◌, ◌-◌, ◌^◌, ◌⊎◌, Bool, Err, IfErr, IfSome, List, None, OnOk, Some, is_some, length, map, true, ℕ};
 ghost use Rattle.fw_edge.specs.Ledgers.{AllSent, packet_counts};
 ghost use Rattle.fw_edge.specs.Links.{CountsOne};
 ghost use Rattle.fw_steps.specs.Steps.{Run};
 ghost use Rattle.fwupd_base.specs.PackageChoices.{number_for};
 ghost use Rattle.fwupd_watch.specs.Histories.{HasHistoryLinesIfAny, MayHaveHistoryLines, HasNoLines, AppendsToHistory, MayAppendToHistory};
 ghost use Rattle.fwupd_watch.specs.Recordings.{WritesHeldTicksIfAny, IsNewRecording, HasRecordedSteps, RecordsStepsIfAny, RecordsRun};
-ghost use Rattle.fwupd_watch.specs.Running.{ReportsLinkFailures, IsCaused, IsRefusedStart, HasObserverFault, UpdateOk, MayEnd, MayRefuse, MayStart, StartsUpdates, RunsSteps, RunsStepsSeen, UpdatesDevices, show_of, shown_of, starts_of, job_fault_of_observer, job_fault_of, observer_fault_of};
+ghost use Rattle.fwupd_watch.specs.Running.{ReportsLinkFailures, IsCaused, IsRefusedStart, HasObserverFault, HasStarted, UpdateOk, MayEnd, MayRefuse, MayStart, StartsUpdates, RunsSteps, RunsStepsSeen, UpdatesDevices, show_of, shown_of, starts_of, job_fault_of_observer, job_fault_of, observer_fault_of};
 
 use crate::faults::{JobFault, edge_fault};
 use fd_core::Bank;
@@ -150,8 +150,10 @@ fn start_all<B: Bank + Drop>(
     ensures reached { RunsSteps (number_for packages.now) world.old world.new }
     ensures unseen_steps { RunsStepsSeen (number_for packages.now) world.old world.new 0 }
     ensures fault { IfErr result MayEnd }
-    ensures refused { IfErr result (λ e. e ≡ JobFault.Edge EdgeFault.Step → IsRefusedStart (number_for packages.now) world.old world.new) }
-    ensures memory { IfErr result (λ e. e ≡ JobFault.Memory → (world.new ≡ world.old) ⊎ MayStart (number_for packages.now) world.old world.new) }
+    ensures refused { IfErr result (λ e. e ≡ JobFault.Edge EdgeFault.Step
+        → IsRefusedStart (number_for packages.now) world.old world.new) }
+    ensures memory { IfErr result (λ e. e ≡ JobFault.Memory
+        → (world.new ≡ world.old) ⊎ MayStart (number_for packages.now) world.old world.new) }
     ensures run { Run world.old steps.new.items world.new }
     ensures none { IfErr result (λ e. e ≡ JobFault.Edge EdgeFault.Frame → ⊥) }
     ensures unseen { IfErr result (λ e. observer_fault_of e ≡ None) }
@@ -243,6 +245,8 @@ pub fn update_all<B: Bank + Drop, L: Link, V: Observer>(
         (map (λ l. (L.tally l).sent) links.new)) }
     ensures devices { length links.new ≡ length world.new.sites }
     ensures unwritten { IfErr result (λ e. HasObserverFault e (V.watched watch.new).fault) }
+    ensures begun { IfErr result (λ e. is_some (observer_fault_of e) ≡ true
+        → HasStarted (number_for packages.now) world.old world.new) }
     ensures noted { OnOk result (RecordsRun world.old world.new (V.watched watch.old).recording (V.watched watch.new).recording) }
     ensures noted_still { IfErr result (λ e. (V.watched watch.new).fault ≡ None
         → RecordsRun world.old world.new (V.watched watch.old).recording
@@ -255,7 +259,8 @@ pub fn update_all<B: Bank + Drop, L: Link, V: Observer>(
     ensures same { (V.watched watch.new).shows ≡ (V.watched watch.old).shows }
     ensures turns { OnOk result ((V.watched watch.old).seen ≡ 0
         → UpdatesDevices (number_for packages.now) world.old world.new (V.watched watch.new).seen) }
-    ensures sees { (V.watched watch.old).seen ≡ 0 → RunsStepsSeen (number_for packages.now) world.old world.new (V.watched watch.new).seen }
+    ensures sees { (V.watched watch.old).seen ≡ 0
+        → RunsStepsSeen (number_for packages.now) world.old world.new (V.watched watch.new).seen }
     ensures lost { (V.watched watch.new).lost ≡ (V.watched watch.old).lost }
 {
     let mut steps = Vec::new(alloc);
@@ -319,9 +324,11 @@ pub fn update_observed<B: Bank + Drop, L: Link, V: Observer>(
     ensures same { (V.watched watch.new).shows ≡ (V.watched watch.old).shows }
     ensures turns { OnOk result ((V.watched watch.old).seen ≡ 0
         → UpdatesDevices (number_for packages.now) world.old world.new (V.watched watch.new).seen) }
-    ensures sees { (V.watched watch.old).seen ≡ 0 → RunsStepsSeen (number_for packages.now) world.old world.new (V.watched watch.new).seen }
+    ensures sees { (V.watched watch.old).seen ≡ 0
+        → RunsStepsSeen (number_for packages.now) world.old world.new (V.watched watch.new).seen }
     ensures lost { (V.watched watch.new).lost ≡ (V.watched watch.old).lost }
-    ensures fault { IfErr result (λ e. (e ≡ JobFault.Memory) ⊎ IsCaused (number_for packages.now) world.old world.new e (V.watched watch.new)) }
+    ensures fault { IfErr result (λ e. (e ≡ JobFault.Memory)
+        ⊎ IsCaused (number_for packages.now) world.old world.new e (V.watched watch.new)) }
     ensures kept { OnOk result (map (λ l. (L.tally l).failures) links.new ≡ map (λ l. (L.tally l).failures) links.old) }
     ensures failed { IfErr result (λ e. ReportsLinkFailures e
         (map (λ l. (L.tally l).failures) links.old) (map (λ l. (L.tally l).failures) links.new)) }

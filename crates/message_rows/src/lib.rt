@@ -1,5 +1,11 @@
-//! Tests of the world over whole messages.
+//! Tests of the nodes, and of the world over whole messages.
 #![tactic(auto)]
 
 #[cfg(test)]
-mod tests;
+mod messages;
+#[cfg(test)]
+mod nodes;
+#[cfg(test)]
+mod packages;
+#[cfg(test)]
+mod worked;

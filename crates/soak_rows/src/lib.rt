@@ -1,5 +1,9 @@
-//! Tests of soaks and of their checker.
+//! Tests of nodes by themselves, and of soaks.
 #![tactic(auto)]
 
 #[cfg(test)]
-mod tests;
+mod servers;
+#[cfg(test)]
+mod soaks;
+#[cfg(test)]
+mod worked;

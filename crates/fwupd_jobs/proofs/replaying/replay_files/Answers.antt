@@ -39,8 +39,11 @@ returns-in-Err-schedule-clause-fault g c =
 
 pub returns-in-Err-begin_replay-clause-fault : goal.returns-in-Err-begin_replay-clause-fault
 returns-in-Err-begin_replay-clause-fault g c =
-    unkept_ends (g.H.Files.Files.holds c.args.host.now.files) (source_of (stores_in (g.H.Stores.Stores.is_known c.args.host.now.stores) (g.H.Stores.Stores.files c.args.host.now.stores)) (option_map (λ p. p.now) c.args.job.show.store) (config_source c.args.job.config)) c.args.job.schedule.now (show_of c.args.job.show) (g.H.Watch.Observer.refuses c.args.host.now.watch) c.in-Err-begin_replay.fault (g.H.Watch.Observer.watched c.begin_replay.new.watch) c.args.host.now.output (config_seen c.in-Ok.config) (map (λ p. string_bytes p) c.as_slice-3.result.now)
-    c.in-Ok.ensures.says (ap (λ (xs : List (String Global)). map (λ p. string_bytes p) xs) c.as_slice-3.ensures.value) c.in-Err-begin_replay.ensures.fault
+    unkept_ends (g.H.Files.Files.holds c.args.host.now.files) (source_of (stores_in (g.H.Stores.Stores.is_known c.args.host.now.stores) (g.H.Stores.Stores.files c.args.host.now.stores)) (option_map (λ p. p.now) c.args.job.show.store) (config_source c.args.job.config)) c.args.job.schedule.now (show_of c.args.job.show) (g.H.Watch.Observer.refuses c.args.host.now.watch) (config_seen c.in-Ok.config) c.in-Ok-packages_in.packages.items (map device_of c.read_kept.new.devices.items) (all_steps c.in-Ok-schedule.script.items)
+    c.in-Err-begin_replay.fault (g.H.Watch.Observer.watched c.begin_replay.new.watch) c.args.host.now.output (map (λ p. string_bytes p) c.as_slice-3.result.now) c.in-Ok.ensures.says
+    (named_there (g.H.Files.Files.holds c.args.host.now.files) c.in-Ok.config c.as_slice.result.now c.in-Ok-package_files.contents.items c.as_slice-2.result.now c.in-Ok-packages_in.packages.items c.as_slice.ensures.value
+    c.in-Ok-package_files.ensures.packed c.as_slice-2.ensures.value c.in-Ok-packages_in.ensures.is) tt c.in-Ok-read_kept.ensures.devices c.in-Ok-schedule.ensures.says
+    (ap (λ (xs : List (String Global)). map (λ p. string_bytes p) xs) c.as_slice-3.ensures.value) c.in-Err-begin_replay.ensures.fault
 
 pub returns-in-Err-write-clause-fault : goal.returns-in-Err-write-clause-fault
 returns-in-Err-write-clause-fault g c =

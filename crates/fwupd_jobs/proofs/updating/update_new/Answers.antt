@@ -1,13 +1,14 @@
-use Rattle.std.proofs.Common.{ap, map, subst, sym, ◌∙◌}
+use Rattle.std.proofs.Common.{◌≡◌, ◌⊎◌, ◌∙◌, ap, map, subst}
 use Rattle.std.specs.Prelude.{string_bytes}
 use Rattle.fwupd_base.specs.ImageFiles.{config_source}
 use Rattle.fwupd_base.specs.PackageChoices.{number_for}
-use Rattle.fwupd_watch.specs.Apart.{IsApart}
+use Rattle.fwupd_watch.specs.Apart.{IsApart, IsBarred}
 use Rattle.fwupd_watch.specs.Inputs.{inputs_of}
 use Rattle.fwupd_watch.proofs.Happened.{kept_fresh}
 use Rattle.fwupd_jobs.proofs.Numbered.{barred_by, watched_by}
 use Rattle.fwupd_jobs.proofs.Told.{barred_of_none, driven_of_none, safe_reached, unbegun, update_ends}
 use Rattle.fwupd_watch.specs.Running.{show_of}
+use Rattle.fwupd_watch.specs.declared.faults.JobFault.TheVariants as faults
 use Rattle.fwupd_jobs.proofs.updating.update_new.Goals as goal
 
 pub returns-in-Err-clause-fault : goal.returns-in-Err-clause-fault
@@ -15,12 +16,14 @@ returns-in-Err-clause-fault g c source named path same =
     unbegun (g.H.Files.Files.holds c.args.host.now.files) source (number_for c.args.job.order.packages) (show_of c.args.job.show) (g.H.Watch.Observer.refuses c.args.host.now.watch) (g.H.Wires.Wires.lacks c.args.host.now.wires c.args.job.folder.now) c.in-Err.fault
     (g.H.Watch.Observer.watched c.begin_apart.new.watch) c.args.host.now.output
     (barred_by (g.H.Files.Files.holds c.args.host.now.files) source (number_for c.args.job.order.packages) (show_of c.args.job.show) (g.H.Watch.Observer.refuses c.args.host.now.watch) c.in-Err.fault (g.H.Watch.Observer.watched c.begin_apart.new.watch) c.args.world.now
-    named (config_source c.args.job.config) (map (λ p. string_bytes p) c.args.packages.now) path same (rw (sym c.new-inputs.ensures) c.in-Err.ensures.fault))
+    named (config_source c.args.job.config) (map (λ p. string_bytes p) c.args.packages.now) path same (subst (λ paths. (c.in-Err.fault ≡ faults.Memory) ⊎ IsBarred (g.H.Files.Files.holds c.args.host.now.files) (g.H.Watch.Observer.refuses c.args.host.now.watch) (show_of c.args.job.show) paths c.in-Err.fault (g.H.Watch.Observer.watched c.begin_apart.new.watch)) c.new-inputs.ensures
+    c.in-Err.ensures.fault))
 
 pub returns-in-Err-clause-stores : goal.returns-in-Err-clause-stores
 returns-in-Err-clause-stores g c =
     barred_of_none (g.H.Files.Files.holds c.args.host.now.files) (g.H.Watch.Observer.refuses c.args.host.now.watch) (show_of c.args.job.show) (inputs_of (config_source c.args.job.config) (map (λ p. string_bytes p) c.args.packages.now)) c.in-Err.fault (g.H.Watch.Observer.watched c.begin_apart.new.watch)
-    (rw (sym c.new-inputs.ensures) c.in-Err.ensures.fault)
+    (subst (λ paths. (c.in-Err.fault ≡ faults.Memory) ⊎ IsBarred (g.H.Files.Files.holds c.args.host.now.files) (g.H.Watch.Observer.refuses c.args.host.now.watch) (show_of c.args.job.show) paths c.in-Err.fault (g.H.Watch.Observer.watched c.begin_apart.new.watch)) c.new-inputs.ensures
+    c.in-Err.ensures.fault)
 
 pub returns-in-Ok-update_over-clause-ok : goal.returns-in-Ok-update_over-clause-ok
 returns-in-Ok-update_over-clause-ok g c source named path same = record {

@@ -6,7 +6,7 @@ use Rattle.fw_steps.specs.Moments.{entries_between}
 use Rattle.fw_edge.proofs.Sending.{sent_none, sent_on}
 use Rattle.fwupd_watch.proofs.Happened.{kept_on, kept_on_still, kept_same, kept_still}
 use Rattle.fwupd_watch.proofs.Noted.{none_driven, run_begun, run_broken, run_noted, run_still}
-use Rattle.fwupd_watch.proofs.Started.{counted_alike, may_end, none_unwritten, seen_next, told_links, turned_apart, unwritten_by, updates_more, updates_none, updates_off, updates_reached, updates_seen, updates_seen_off, watched_apart}
+use Rattle.fwupd_watch.proofs.Started.{counted_alike, may_end, none_begun, none_unwritten, seen_next, told_links, turned_apart, turned_unseen, unwritten_by, updates_more, updates_none, updates_off, updates_reached, updates_seen, updates_seen_off, watched_apart}
 use Rattle.fw_edge.specs.declared.driving.EdgeFault.TheVariants as edges
 use Rattle.fwupd_watch.proofs.running.update_all.Goals as goal
 
@@ -137,6 +137,23 @@ returns-in-Err-clause-sees g c none =
 
 pub returns-in-Err-clause-unwritten : goal.returns-in-Err-clause-unwritten
 returns-in-Err-clause-unwritten g c = none_unwritten c.in-Err.fault _ c.in-Err.ensures.unseen
+
+pub returns-in-Err-clause-begun : goal.returns-in-Err-clause-begun
+returns-in-Err-clause-begun g c = none_begun (number_for c.args.packages.now) _ _ c.in-Err.fault c.in-Err.ensures.unseen
+
+pub returns-in-Err-noted-clause-begun : goal.returns-in-Err-noted-clause-begun
+returns-in-Err-noted-clause-begun g c seen = (0, updates_none (number_for c.args.packages.now) c.args.world.now c.start_all-started.new.world c.in-Ok.ensures.started)
+
+pub returns-in-Err-drive-clause-begun : goal.returns-in-Err-drive-clause-begun
+returns-in-Err-drive-clause-begun g c =
+    none_begun (number_for c.args.packages.now) _ _ c.broken_off.result (turned_unseen c.in-Err-drive.fault c.broken_off.result c.broken_off.ensures.told)
+
+pub returns-in-Err-see_turn-clause-begun : goal.returns-in-Err-see_turn-clause-begun
+returns-in-Err-see_turn-clause-begun g c seen = (
+  c.loop.counter + c.in-Ok-drive.driven.turns,
+  updates_more (number_for c.args.packages.now) c.args.world.now c.loop.world c.drive.new.world c.loop.counter c.in-Ok-drive.driven.turns c.loop.steps.items c.drive.new.steps.items c.loop.invariant.updates
+      c.loop.invariant.none c.drive.ensures.drives.drives c.in-Ok-drive.ensures.done.ticks,
+)
 
 pub returns-in-Err-noted-clause-sees : goal.returns-in-Err-noted-clause-sees
 returns-in-Err-noted-clause-sees g c none =

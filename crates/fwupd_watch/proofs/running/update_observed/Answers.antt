@@ -11,12 +11,13 @@ use Rattle.fwupd_watch.proofs.running.update_observed.Goals as goal
 pub returns-in-Err-clause-fault : goal.returns-in-Err-clause-fault
 returns-in-Err-clause-fault g c =
     update_caused (number_for c.args.packages.now) _ _ _ _ c.in-Err.ensures.fault c.in-Err.ensures.step
-    (unwritten_still c.end-watched.result _ _ c.in-Err.fault c.in-Err.ensures.unwritten c.end-watched.ensures.first c.end-watched.ensures.err) c.end-watched.ensures.ended
+    (unwritten_still c.end-watched.result _ _ c.in-Err.fault c.in-Err.ensures.unwritten c.end-watched.ensures.first c.end-watched.ensures.err) c.in-Err.ensures.begun c.end-watched.ensures.ended
 
 pub returns-in-Err-watched-clause-fault : goal.returns-in-Err-watched-clause-fault
 returns-in-Err-watched-clause-fault g c =
     update_caused (number_for c.args.packages.now) _ _ _ _ c.observer_fault.ensures.ends (λ e. absurd (watched_apart c.in-Err-watched.fault edges.Step (sym c.observer_fault.ensures.told ∙ e)))
-    (unwritten_by c.in-Err-watched.fault _ _ c.observer_fault.ensures.told c.in-Err-watched.ensures.err) c.end-watched.ensures.ended
+    (unwritten_by c.in-Err-watched.fault _ _ c.observer_fault.ensures.told c.in-Err-watched.ensures.err)
+    (λ seen. (c.in-Ok.ensures.updated.ticks, c.in-Ok.ensures.updated.updates)) c.end-watched.ensures.ended
 
 pub returns-in-Err-clause-sees : goal.returns-in-Err-clause-sees
 returns-in-Err-clause-sees g c none = subst (RunsStepsSeen (number_for c.args.packages.now) c.args.world.now c.update_all-end.new.world) (sym c.end-watched.ensures.seen) (c.update_all-end.ensures.sees none)

@@ -1,0 +1,5 @@
+pub mod ClueLines
+pub mod Clues
+pub mod Identifiers
+pub mod Reasons
+pub mod Warnings

@@ -1,5 +1,0 @@
-//! Tests of the nodes.
-#![tactic(auto)]
-
-#[cfg(test)]
-mod tests;

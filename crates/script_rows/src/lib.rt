@@ -1,5 +1,0 @@
-//! Tests of configurations, schedules and reports.
-#![tactic(auto)]
-
-#[cfg(test)]
-mod tests;

@@ -1,5 +1,0 @@
-//! Tests of nodes by themselves.
-#![tactic(auto)]
-
-#[cfg(test)]
-mod tests;

@@ -1,0 +1,4 @@
+//! Tests of soaks and of their checker.
+
+mod histories;
+mod runs;

@@ -1,4 +1,0 @@
-//! Tests of soaks and of their checker.
-
-mod histories;
-mod soaks;
