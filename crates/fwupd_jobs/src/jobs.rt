@@ -1,8 +1,6 @@
 //! A job on any host.
 
 ghost use Rattle.std.specs.Prelude.{◌≡◌, ◌⊎◌, IfErr, OnOk};
-ghost use Rattle.fw_setup.specs.Stocks.{stores_in};
-ghost use Rattle.fwupd_nodes.specs.Hosts.{FoundOf, LeftOf, agent_store_in};
 ghost use Rattle.fwupd_jobs.specs.Jobs.{IsDone, JobEnds};
 ghost use Rattle.fwupd_watch.specs.Running.{HasObserverFault};
 
@@ -15,7 +13,8 @@ use crate::soaking::soak_file;
 use crate::statuses::status_file;
 use crate::telling::sel_file;
 use fwupd_nodes::{
-    Host, Parts, agent_file, answer_serial, decode_file, device_file, run_agent, run_device,
+    Host, HostView, Parts, agent_file, answer_serial, decode_file, device_file, run_agent,
+    run_device,
 };
 use fwupd_watch::JobFault;
 use fwupd_words::{BuildOutput, Job};
@@ -32,38 +31,10 @@ pub fn perform_job<H: Parts>(
     job: &Job<'_>,
     host: &mut Host<H>,
 ) -> Result<(), JobFault>
-    ensures ok { OnOk result (IsDone job.now (record {
-      files = H.Files.holds host.old.files;
-      stores = stores_in (H.Stores.is_known host.old.stores) (H.Stores.files host.old.stores);
-      agent_store = agent_store_in (H.Stores.is_known host.old.stores) (H.Stores.agent_files host.old.stores);
-      lacks = H.Wires.lacks host.old.wires;
-      refuses = H.Watch.refuses host.old.watch;
-      input = H.Input.remaining host.old.input;
-      is_known = H.Places.is_known host.old.places;
-      held = H.Places.held host.old.places;
-      output = host.old.output;
-    }) (record {
-      input = H.Input.remaining host.new.input;
-      watched = H.Watch.watched host.new.watch;
-      held = H.Places.held host.new.places;
-      output = host.new.output;
-    })) }
-    ensures fault { IfErr result (λ e. JobEnds job.now e (record {
-      files = H.Files.holds host.old.files;
-      stores = stores_in (H.Stores.is_known host.old.stores) (H.Stores.files host.old.stores);
-      agent_store = agent_store_in (H.Stores.is_known host.old.stores) (H.Stores.agent_files host.old.stores);
-      lacks = H.Wires.lacks host.old.wires;
-      refuses = H.Watch.refuses host.old.watch;
-      input = H.Input.remaining host.old.input;
-      is_known = H.Places.is_known host.old.places;
-      held = H.Places.held host.old.places;
-      output = host.old.output;
-    }) (record {
-      input = H.Input.remaining host.new.input;
-      watched = H.Watch.watched host.new.watch;
-      held = H.Places.held host.new.places;
-      output = host.new.output;
-    })) }
+    ensures ok { OnOk result (IsDone job.now
+        (⟦<Host<H> as HostView>⟧.found host.old) (⟦<Host<H> as HostView>⟧.left host.new)) }
+    ensures fault { IfErr result (λ e. JobEnds job.now e
+        (⟦<Host<H> as HostView>⟧.found host.old) (⟦<Host<H> as HostView>⟧.left host.new)) }
     ensures untouched { IfErr result (λ e. (host.new.watch ≡ host.old.watch)
         ⊎ HasObserverFault e (H.Watch.watched host.new.watch).fault) }
 {

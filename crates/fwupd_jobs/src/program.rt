@@ -5,8 +5,6 @@ ghost use Rattle.std.specs.IoError.{error_kind};
 ghost use Rattle.std.specs.Process.{exit_status};
 ghost use Rattle.clap.specs.Values.{kind_of};
 ghost use Rattle.clap.specs.declared.error.kind.ErrorKind.TheVariants.{DisplayHelp, DisplayVersion, OutOfMemory};
-ghost use Rattle.fw_setup.specs.Stocks.{stores_in};
-ghost use Rattle.fwupd_nodes.specs.Hosts.{FoundOf, LeftOf, agent_store_in};
 ghost use Rattle.fwupd_jobs.specs.Failures.{status_of};
 ghost use Rattle.fwupd_jobs.specs.Jobs.{Performs, StatusSays, SystemSays};
 ghost use Rattle.fwupd_jobs.specs.Progress.{runs_of_job};
@@ -19,7 +17,7 @@ use crate::words::words;
 use fw_setup::SystemStores;
 use fw_store::SystemFolder;
 use fwupd_clues::{explain, warn};
-use fwupd_nodes::{Host, Parts};
+use fwupd_nodes::{Host, HostView, Parts};
 use fwupd_watch::{
     JobFault, Observers, Output, SystemCalls, SystemFiles, WholeFiles, system_places,
 };
@@ -70,22 +68,8 @@ pub(crate) fn failed(rt: &HostRuntime, fault: &JobFault) -> ExitCode
 /// about a package that was built; or that of the fault, after printing it and, on a terminal, its
 /// clue.
 fn status<H: Parts>(rt: &HostRuntime, job: &Job<'_>, host: &mut Host<H>) -> ExitCode
-    ensures says { StatusSays (exit_status result) job.now (record {
-      files = H.Files.holds host.old.files;
-      stores = stores_in (H.Stores.is_known host.old.stores) (H.Stores.files host.old.stores);
-      agent_store = agent_store_in (H.Stores.is_known host.old.stores) (H.Stores.agent_files host.old.stores);
-      lacks = H.Wires.lacks host.old.wires;
-      refuses = H.Watch.refuses host.old.watch;
-      input = H.Input.remaining host.old.input;
-      is_known = H.Places.is_known host.old.places;
-      held = H.Places.held host.old.places;
-      output = host.old.output;
-    }) (record {
-      input = H.Input.remaining host.new.input;
-      watched = H.Watch.watched host.new.watch;
-      held = H.Places.held host.new.places;
-      output = host.new.output;
-    }) }
+    ensures says { StatusSays (exit_status result) job.now
+        (⟦<Host<H> as HostView>⟧.found host.old) (⟦<Host<H> as HostView>⟧.left host.new) }
     ensures known { exit_status result ≤ 3 }
 {
     match perform_job(rt.alloc(), job, host) {

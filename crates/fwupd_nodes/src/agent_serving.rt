@@ -16,7 +16,7 @@ ghost use Rattle.fwupd_watch.specs.Outputs.{FailsToWriteOutput, WritesOutput};
 
 use crate::agent_stores::{AgentSetup, open_agent};
 use crate::alone::eids_of;
-use crate::host::{Host, Parts};
+use crate::host::{Host, HostView, Parts};
 use crate::outputs::{ProcessOutputs, agent_inputs, check_outputs};
 use crate::sessions::Undone;
 use crate::setups::{configuration, package_files, packages_in};
@@ -212,16 +212,10 @@ fn end_agent<H: Parts>(
     agent: &ServedAgent<'_>,
     host: &mut Host<H>,
 ) -> Result<(), JobFault>
-    ensures ended { OnOk result (EndsServed job.now agent.now host.old.output (record {
-      is_known = H.Places.is_known host.old.places;
-      held = H.Places.held host.new.places;
-      output = host.new.output;
-    })) }
-    ensures fault { IfErr result (λ e. EndFails job.now agent.now e host.old.output (record {
-      is_known = H.Places.is_known host.old.places;
-      held = H.Places.held host.new.places;
-      output = host.new.output;
-    })) }
+    ensures ended { OnOk result (EndsServed job.now agent.now host.old.output
+        (⟦<Host<H> as HostView>⟧.agent_left host.old host.new)) }
+    ensures fault { IfErr result (λ e. EndFails job.now agent.now e host.old.output
+        (⟦<Host<H> as HostView>⟧.agent_left host.old host.new)) }
     ensures untouched { host.new.watch ≡ host.old.watch }
 {
     match keep_log(alloc, job.log, agent, &mut host.places) {
@@ -246,17 +240,11 @@ fn end_observed<H: Parts>(
     watched: Result<(), WatchFault>,
     host: &mut Host<H>,
 ) -> Result<(), JobFault>
-    ensures ended { OnOk result (EndsServed job.now agent.now host.old.output (record {
-      is_known = H.Places.is_known host.old.places;
-      held = H.Places.held host.new.places;
-      output = host.new.output;
-    })) }
+    ensures ended { OnOk result (EndsServed job.now agent.now host.old.output
+        (⟦<Host<H> as HostView>⟧.agent_left host.old host.new)) }
     ensures watched { OnOk result (watched ≡ Ok tt) }
-    ensures fault { IfErr result (λ e. ObservedEndFails job.now agent.now watched e host.old.output (record {
-      is_known = H.Places.is_known host.old.places;
-      held = H.Places.held host.new.places;
-      output = host.new.output;
-    })) }
+    ensures fault { IfErr result (λ e. ObservedEndFails job.now agent.now watched e host.old.output
+        (⟦<Host<H> as HostView>⟧.agent_left host.old host.new)) }
     ensures untouched { host.new.watch ≡ host.old.watch }
 {
     match end_agent(alloc, job, agent, host) {
@@ -295,17 +283,9 @@ fn serve_agent<'p, K: AgentKeeper + Drop, H: Parts>(
 ) -> Result<(), JobFault>
     requires { agent.now ≡ 0 }
     ensures runs { OnOk result (RunsServed K.keeps job.now agent.entry setup.now.eids.now
-        host.old.output (record {
-          is_known = H.Places.is_known host.old.places;
-          held = H.Places.held host.new.places;
-          output = host.new.output;
-        })) }
+        host.old.output (⟦<Host<H> as HostView>⟧.agent_left host.old host.new)) }
     ensures fault { IfErr result (λ e. ServedStops K.keeps job.now agent.entry setup.now.eids.now e
-        host.old.output (record {
-          is_known = H.Places.is_known host.old.places;
-          held = H.Places.held host.new.places;
-          output = host.new.output;
-        })) }
+        host.old.output (⟦<Host<H> as HostView>⟧.agent_left host.old host.new)) }
     ensures untouched { host.new.watch ≡ host.old.watch }
 {
     let watch = match host
@@ -342,18 +322,10 @@ fn serve_new<'p, H: Parts>(
     requires devices { length setup.now.eids.now ≤ 16 }
     ensures runs { OnOk result (RunsServed keeps_nothing job.now (new_served_agent setup.now.network.unit
         setup.now.network.endpoint setup.now.eids.now packages.now) setup.now.eids.now
-        host.old.output (record {
-          is_known = H.Places.is_known host.old.places;
-          held = H.Places.held host.new.places;
-          output = host.new.output;
-        })) }
+        host.old.output (⟦<Host<H> as HostView>⟧.agent_left host.old host.new)) }
     ensures fault { IfErr result (λ e. ServedStops keeps_nothing job.now (new_served_agent setup.now.network.unit
         setup.now.network.endpoint setup.now.eids.now packages.now) setup.now.eids.now e
-        host.old.output (record {
-          is_known = H.Places.is_known host.old.places;
-          held = H.Places.held host.new.places;
-          output = host.new.output;
-        })) }
+        host.old.output (⟦<Host<H> as HostView>⟧.agent_left host.old host.new)) }
     ensures untouched { host.new.watch ≡ host.old.watch }
 {
     let (unit, endpoint) = (setup.network.unit, setup.network.endpoint);
@@ -375,18 +347,10 @@ fn serve_kept<'p, H: Parts>(
     requires devices { length setup.now.eids.now ≤ 16 }
     ensures runs { OnOk result (RunsKept job.now (agent_store_in (H.Stores.is_known host.old.stores)
         (H.Stores.agent_files host.old.stores) root.now) (agent_setup_seen setup.now)
-        packages.now host.old.output (record {
-          is_known = H.Places.is_known host.old.places;
-          held = H.Places.held host.new.places;
-          output = host.new.output;
-        })) }
+        packages.now host.old.output (⟦<Host<H> as HostView>⟧.agent_left host.old host.new)) }
     ensures fault { IfErr result (λ e. KeptStops job.now (agent_store_in (H.Stores.is_known host.old.stores)
         (H.Stores.agent_files host.old.stores) root.now) (agent_setup_seen setup.now)
-        packages.now e host.old.output (record {
-          is_known = H.Places.is_known host.old.places;
-          held = H.Places.held host.new.places;
-          output = host.new.output;
-        })) }
+        packages.now e host.old.output (⟦<Host<H> as HostView>⟧.agent_left host.old host.new)) }
     ensures untouched { host.new.watch ≡ host.old.watch }
 {
     let (node, keeper) = match open_agent(alloc, &host.stores, root, setup) {
@@ -410,18 +374,10 @@ fn serve_setup<'p, H: Parts>(
     requires devices { length setup.now.eids.now ≤ 16 }
     ensures runs { OnOk result (RunsAgentSetup job.now (agent_store_in (H.Stores.is_known host.old.stores)
         (H.Stores.agent_files host.old.stores)) (agent_setup_seen setup.now) packages.now
-        host.old.output (record {
-          is_known = H.Places.is_known host.old.places;
-          held = H.Places.held host.new.places;
-          output = host.new.output;
-        })) }
+        host.old.output (⟦<Host<H> as HostView>⟧.agent_left host.old host.new)) }
     ensures fault { IfErr result (λ e. AgentSetupStops job.now (agent_store_in (H.Stores.is_known host.old.stores)
         (H.Stores.agent_files host.old.stores)) (agent_setup_seen setup.now) packages.now e
-        host.old.output (record {
-          is_known = H.Places.is_known host.old.places;
-          held = H.Places.held host.new.places;
-          output = host.new.output;
-        })) }
+        host.old.output (⟦<Host<H> as HostView>⟧.agent_left host.old host.new)) }
     ensures untouched { host.new.watch ≡ host.old.watch }
 {
     match job.store {
@@ -442,18 +398,12 @@ fn serve_packages<H: Parts>(
     requires whole { AreWhole config.now.agent.eid (map device_of config.now.devices.items) }
     ensures runs { OnOk result (RunsPackages job.now (agent_store_in (H.Stores.is_known host.old.stores)
         (H.Stores.agent_files host.old.stores)) (config_seen config.now)
-        (map (λ f. f.items) contents.now) host.old.output (record {
-          is_known = H.Places.is_known host.old.places;
-          held = H.Places.held host.new.places;
-          output = host.new.output;
-        })) }
+        (map (λ f. f.items) contents.now) host.old.output
+        (⟦<Host<H> as HostView>⟧.agent_left host.old host.new)) }
     ensures fault { IfErr result (λ e. ContentsStop job.now (agent_store_in (H.Stores.is_known host.old.stores)
         (H.Stores.agent_files host.old.stores)) (config_seen config.now)
-        (map (λ f. f.items) contents.now) e host.old.output (record {
-          is_known = H.Places.is_known host.old.places;
-          held = H.Places.held host.new.places;
-          output = host.new.output;
-        })) }
+        (map (λ f. f.items) contents.now) e host.old.output
+        (⟦<Host<H> as HostView>⟧.agent_left host.old host.new)) }
     ensures untouched { host.new.watch ≡ host.old.watch }
 {
     let packages = match packages_in(alloc, contents) {
@@ -523,18 +473,10 @@ pub fn run_agent<H: Parts>(
 ) -> Result<(), JobFault>
     ensures runs { OnOk result (RunsAgent job.now (H.Files.holds host.old.files)
         (agent_store_in (H.Stores.is_known host.old.stores) (H.Stores.agent_files host.old.stores))
-        host.old.output (record {
-          is_known = H.Places.is_known host.old.places;
-          held = H.Places.held host.new.places;
-          output = host.new.output;
-        })) }
+        host.old.output (⟦<Host<H> as HostView>⟧.agent_left host.old host.new)) }
     ensures fault { IfErr result (λ e. AgentProcessEnds job.now e (H.Files.holds host.old.files)
         (agent_store_in (H.Stores.is_known host.old.stores) (H.Stores.agent_files host.old.stores))
-        host.old.output (record {
-          is_known = H.Places.is_known host.old.places;
-          held = H.Places.held host.new.places;
-          output = host.new.output;
-        })) }
+        host.old.output (⟦<Host<H> as HostView>⟧.agent_left host.old host.new)) }
     ensures untouched { host.new.watch ≡ host.old.watch }
 {
     let config = match configuration(alloc, &host.files, job.config) {

@@ -8,12 +8,10 @@ ghost use Rattle.fw_script.specs.Seen.{config_seen, device_of};
 ghost use Rattle.fw_script.specs.Whole.{AreWhole};
 ghost use Rattle.fw_serve.specs.Agents.{agent_report};
 ghost use Rattle.fw_serve.specs.Serving.{device_report};
-ghost use Rattle.fw_setup.specs.Stocks.{stores_in};
 ghost use Rattle.fw_trace.specs.Records.{records_bytes};
 ghost use Rattle.fwupd_nodes.specs.Alone.{AgentEnds, AreOutputsApart, DeviceEnds, DeviceSetupFails, FilterEnds, IsDeviceSetup, IsOnly, IsOutputOver, LacksDevice, NodeEnds, PackagesEnd, ServesAgent, ServesDevice, ServesFilter, ServesNode, ServesPackages, ServesSetup, SetupEnds, device_setup_seen, front_if, place_named};
-ghost use Rattle.fwupd_nodes.specs.Hosts.{FoundOf, LeftOf, agent_store_in};
 
-use crate::host::{Host, Parts};
+use crate::host::{Host, HostView, Parts};
 use crate::images::{configured, place_of};
 use crate::outputs::agent_inputs;
 use crate::setups::{configuration, open_kept, package_files, packages_in};
@@ -113,38 +111,10 @@ fn serve_node<B: Bank + Drop, H: Parts>(
 ) -> Result<(), JobFault>
     requires device { HasComponents node.half.core.device }
     requires front { front ≡ front_if job.is_open node.half.unit node.endpoint }
-    ensures ok { OnOk result (ServesNode job.entry node (record {
-      files = H.Files.holds host.old.files;
-      stores = stores_in (H.Stores.is_known host.old.stores) (H.Stores.files host.old.stores);
-      agent_store = agent_store_in (H.Stores.is_known host.old.stores) (H.Stores.agent_files host.old.stores);
-      lacks = H.Wires.lacks host.old.wires;
-      refuses = H.Watch.refuses host.old.watch;
-      input = H.Input.remaining host.old.input;
-      is_known = H.Places.is_known host.old.places;
-      held = H.Places.held host.old.places;
-      output = host.old.output;
-    }) (record {
-      input = H.Input.remaining host.new.input;
-      watched = H.Watch.watched host.new.watch;
-      held = H.Places.held host.new.places;
-      output = host.new.output;
-    })) }
-    ensures fault { IfErr result (λ e. NodeEnds job.entry node e (record {
-      files = H.Files.holds host.old.files;
-      stores = stores_in (H.Stores.is_known host.old.stores) (H.Stores.files host.old.stores);
-      agent_store = agent_store_in (H.Stores.is_known host.old.stores) (H.Stores.agent_files host.old.stores);
-      lacks = H.Wires.lacks host.old.wires;
-      refuses = H.Watch.refuses host.old.watch;
-      input = H.Input.remaining host.old.input;
-      is_known = H.Places.is_known host.old.places;
-      held = H.Places.held host.old.places;
-      output = host.old.output;
-    }) (record {
-      input = H.Input.remaining host.new.input;
-      watched = H.Watch.watched host.new.watch;
-      held = H.Places.held host.new.places;
-      output = host.new.output;
-    })) }
+    ensures ok { OnOk result (ServesNode job.entry node
+        (⟦<Host<H> as HostView>⟧.found host.old) (⟦<Host<H> as HostView>⟧.left host.new)) }
+    ensures fault { IfErr result (λ e. NodeEnds job.entry node e
+        (⟦<Host<H> as HostView>⟧.found host.old) (⟦<Host<H> as HostView>⟧.left host.new)) }
     ensures untouched { host.new.watch ≡ host.old.watch }
 {
     let options = FilterOptions {
@@ -219,38 +189,10 @@ fn serve_configured<H: Parts>(
     requires whole { AreWhole setup.now.agent (map device_of setup.now.only.items) }
     requires one { length setup.now.only.items ≡ 1 }
     requires none { job.store ≡ None }
-    ensures ok { OnOk result (ServesSetup job.entry (device_setup_seen setup.now) (record {
-      files = H.Files.holds host.old.files;
-      stores = stores_in (H.Stores.is_known host.old.stores) (H.Stores.files host.old.stores);
-      agent_store = agent_store_in (H.Stores.is_known host.old.stores) (H.Stores.agent_files host.old.stores);
-      lacks = H.Wires.lacks host.old.wires;
-      refuses = H.Watch.refuses host.old.watch;
-      input = H.Input.remaining host.old.input;
-      is_known = H.Places.is_known host.old.places;
-      held = H.Places.held host.old.places;
-      output = host.old.output;
-    }) (record {
-      input = H.Input.remaining host.new.input;
-      watched = H.Watch.watched host.new.watch;
-      held = H.Places.held host.new.places;
-      output = host.new.output;
-    })) }
-    ensures fault { IfErr result (λ e. SetupEnds job.entry (device_setup_seen setup.now) e (record {
-      files = H.Files.holds host.old.files;
-      stores = stores_in (H.Stores.is_known host.old.stores) (H.Stores.files host.old.stores);
-      agent_store = agent_store_in (H.Stores.is_known host.old.stores) (H.Stores.agent_files host.old.stores);
-      lacks = H.Wires.lacks host.old.wires;
-      refuses = H.Watch.refuses host.old.watch;
-      input = H.Input.remaining host.old.input;
-      is_known = H.Places.is_known host.old.places;
-      held = H.Places.held host.old.places;
-      output = host.old.output;
-    }) (record {
-      input = H.Input.remaining host.new.input;
-      watched = H.Watch.watched host.new.watch;
-      held = H.Places.held host.new.places;
-      output = host.new.output;
-    })) }
+    ensures ok { OnOk result (ServesSetup job.entry (device_setup_seen setup.now)
+        (⟦<Host<H> as HostView>⟧.found host.old) (⟦<Host<H> as HostView>⟧.left host.new)) }
+    ensures fault { IfErr result (λ e. SetupEnds job.entry (device_setup_seen setup.now) e
+        (⟦<Host<H> as HostView>⟧.found host.old) (⟦<Host<H> as HostView>⟧.left host.new)) }
     ensures untouched { host.new.watch ≡ host.old.watch }
 {
     let device = &setup.only[0];
@@ -272,38 +214,10 @@ fn serve_stored<H: Parts>(
     requires whole { AreWhole setup.agent (map device_of setup.only.items) }
     requires one { length setup.only.items ≡ 1 }
     requires some { option_map (λ p. p.now) job.store ≡ Some root.now }
-    ensures ok { OnOk result (ServesSetup job.entry (device_setup_seen setup) (record {
-      files = H.Files.holds host.old.files;
-      stores = stores_in (H.Stores.is_known host.old.stores) (H.Stores.files host.old.stores);
-      agent_store = agent_store_in (H.Stores.is_known host.old.stores) (H.Stores.agent_files host.old.stores);
-      lacks = H.Wires.lacks host.old.wires;
-      refuses = H.Watch.refuses host.old.watch;
-      input = H.Input.remaining host.old.input;
-      is_known = H.Places.is_known host.old.places;
-      held = H.Places.held host.old.places;
-      output = host.old.output;
-    }) (record {
-      input = H.Input.remaining host.new.input;
-      watched = H.Watch.watched host.new.watch;
-      held = H.Places.held host.new.places;
-      output = host.new.output;
-    })) }
-    ensures fault { IfErr result (λ e. SetupEnds job.entry (device_setup_seen setup) e (record {
-      files = H.Files.holds host.old.files;
-      stores = stores_in (H.Stores.is_known host.old.stores) (H.Stores.files host.old.stores);
-      agent_store = agent_store_in (H.Stores.is_known host.old.stores) (H.Stores.agent_files host.old.stores);
-      lacks = H.Wires.lacks host.old.wires;
-      refuses = H.Watch.refuses host.old.watch;
-      input = H.Input.remaining host.old.input;
-      is_known = H.Places.is_known host.old.places;
-      held = H.Places.held host.old.places;
-      output = host.old.output;
-    }) (record {
-      input = H.Input.remaining host.new.input;
-      watched = H.Watch.watched host.new.watch;
-      held = H.Places.held host.new.places;
-      output = host.new.output;
-    })) }
+    ensures ok { OnOk result (ServesSetup job.entry (device_setup_seen setup)
+        (⟦<Host<H> as HostView>⟧.found host.old) (⟦<Host<H> as HostView>⟧.left host.new)) }
+    ensures fault { IfErr result (λ e. SetupEnds job.entry (device_setup_seen setup) e
+        (⟦<Host<H> as HostView>⟧.found host.old) (⟦<Host<H> as HostView>⟧.left host.new)) }
     ensures untouched { host.new.watch ≡ host.old.watch }
 {
     let DeviceSetup {
@@ -339,38 +253,10 @@ pub fn device_file<H: Parts>(
     job: DeviceAlone<'_>,
     host: &mut Host<H>,
 ) -> Result<(), JobFault>
-    ensures ok { OnOk result (ServesDevice job.entry (record {
-      files = H.Files.holds host.old.files;
-      stores = stores_in (H.Stores.is_known host.old.stores) (H.Stores.files host.old.stores);
-      agent_store = agent_store_in (H.Stores.is_known host.old.stores) (H.Stores.agent_files host.old.stores);
-      lacks = H.Wires.lacks host.old.wires;
-      refuses = H.Watch.refuses host.old.watch;
-      input = H.Input.remaining host.old.input;
-      is_known = H.Places.is_known host.old.places;
-      held = H.Places.held host.old.places;
-      output = host.old.output;
-    }) (record {
-      input = H.Input.remaining host.new.input;
-      watched = H.Watch.watched host.new.watch;
-      held = H.Places.held host.new.places;
-      output = host.new.output;
-    })) }
-    ensures fault { IfErr result (λ e. DeviceEnds job.entry e (record {
-      files = H.Files.holds host.old.files;
-      stores = stores_in (H.Stores.is_known host.old.stores) (H.Stores.files host.old.stores);
-      agent_store = agent_store_in (H.Stores.is_known host.old.stores) (H.Stores.agent_files host.old.stores);
-      lacks = H.Wires.lacks host.old.wires;
-      refuses = H.Watch.refuses host.old.watch;
-      input = H.Input.remaining host.old.input;
-      is_known = H.Places.is_known host.old.places;
-      held = H.Places.held host.old.places;
-      output = host.old.output;
-    }) (record {
-      input = H.Input.remaining host.new.input;
-      watched = H.Watch.watched host.new.watch;
-      held = H.Places.held host.new.places;
-      output = host.new.output;
-    })) }
+    ensures ok { OnOk result (ServesDevice job.entry
+        (⟦<Host<H> as HostView>⟧.found host.old) (⟦<Host<H> as HostView>⟧.left host.new)) }
+    ensures fault { IfErr result (λ e. DeviceEnds job.entry e
+        (⟦<Host<H> as HostView>⟧.found host.old) (⟦<Host<H> as HostView>⟧.left host.new)) }
     ensures untouched { host.new.watch ≡ host.old.watch }
 {
     let setup = match device_setup(alloc, &host.files, job) {
@@ -448,38 +334,10 @@ fn serve_agent<H: Parts>(
     filter: AgentFilter<'_>,
     host: &mut Host<H>,
 ) -> Result<(), JobFault>
-    ensures ok { OnOk result (ServesFilter job.entry filter.entry (record {
-      files = H.Files.holds host.old.files;
-      stores = stores_in (H.Stores.is_known host.old.stores) (H.Stores.files host.old.stores);
-      agent_store = agent_store_in (H.Stores.is_known host.old.stores) (H.Stores.agent_files host.old.stores);
-      lacks = H.Wires.lacks host.old.wires;
-      refuses = H.Watch.refuses host.old.watch;
-      input = H.Input.remaining host.old.input;
-      is_known = H.Places.is_known host.old.places;
-      held = H.Places.held host.old.places;
-      output = host.old.output;
-    }) (record {
-      input = H.Input.remaining host.new.input;
-      watched = H.Watch.watched host.new.watch;
-      held = H.Places.held host.new.places;
-      output = host.new.output;
-    })) }
-    ensures fault { IfErr result (λ e. FilterEnds job.entry filter.entry e (record {
-      files = H.Files.holds host.old.files;
-      stores = stores_in (H.Stores.is_known host.old.stores) (H.Stores.files host.old.stores);
-      agent_store = agent_store_in (H.Stores.is_known host.old.stores) (H.Stores.agent_files host.old.stores);
-      lacks = H.Wires.lacks host.old.wires;
-      refuses = H.Watch.refuses host.old.watch;
-      input = H.Input.remaining host.old.input;
-      is_known = H.Places.is_known host.old.places;
-      held = H.Places.held host.old.places;
-      output = host.old.output;
-    }) (record {
-      input = H.Input.remaining host.new.input;
-      watched = H.Watch.watched host.new.watch;
-      held = H.Places.held host.new.places;
-      output = host.new.output;
-    })) }
+    ensures ok { OnOk result (ServesFilter job.entry filter.entry
+        (⟦<Host<H> as HostView>⟧.found host.old) (⟦<Host<H> as HostView>⟧.left host.new)) }
+    ensures fault { IfErr result (λ e. FilterEnds job.entry filter.entry e
+        (⟦<Host<H> as HostView>⟧.found host.old) (⟦<Host<H> as HostView>⟧.left host.new)) }
     ensures untouched { host.new.watch ≡ host.old.watch }
 {
     let mut filter = filter;
@@ -501,38 +359,10 @@ fn serve_packages<H: Parts>(
 ) -> Result<(), JobFault>
     requires packed { AllByRecursion (λ f. IsOk (package_of f.items)) contents.now }
     requires whole { AreWhole config.now.agent.eid (map device_of config.now.devices.items) }
-    ensures ok { OnOk result (ServesPackages job.entry (config_seen config.now) (map (λ f. f.items) contents.now) (record {
-      files = H.Files.holds host.old.files;
-      stores = stores_in (H.Stores.is_known host.old.stores) (H.Stores.files host.old.stores);
-      agent_store = agent_store_in (H.Stores.is_known host.old.stores) (H.Stores.agent_files host.old.stores);
-      lacks = H.Wires.lacks host.old.wires;
-      refuses = H.Watch.refuses host.old.watch;
-      input = H.Input.remaining host.old.input;
-      is_known = H.Places.is_known host.old.places;
-      held = H.Places.held host.old.places;
-      output = host.old.output;
-    }) (record {
-      input = H.Input.remaining host.new.input;
-      watched = H.Watch.watched host.new.watch;
-      held = H.Places.held host.new.places;
-      output = host.new.output;
-    })) }
-    ensures fault { IfErr result (λ e. PackagesEnd job.entry (config_seen config.now) (map (λ f. f.items) contents.now) e (record {
-      files = H.Files.holds host.old.files;
-      stores = stores_in (H.Stores.is_known host.old.stores) (H.Stores.files host.old.stores);
-      agent_store = agent_store_in (H.Stores.is_known host.old.stores) (H.Stores.agent_files host.old.stores);
-      lacks = H.Wires.lacks host.old.wires;
-      refuses = H.Watch.refuses host.old.watch;
-      input = H.Input.remaining host.old.input;
-      is_known = H.Places.is_known host.old.places;
-      held = H.Places.held host.old.places;
-      output = host.old.output;
-    }) (record {
-      input = H.Input.remaining host.new.input;
-      watched = H.Watch.watched host.new.watch;
-      held = H.Places.held host.new.places;
-      output = host.new.output;
-    })) }
+    ensures ok { OnOk result (ServesPackages job.entry (config_seen config.now) (map (λ f. f.items) contents.now)
+        (⟦<Host<H> as HostView>⟧.found host.old) (⟦<Host<H> as HostView>⟧.left host.new)) }
+    ensures fault { IfErr result (λ e. PackagesEnd job.entry (config_seen config.now) (map (λ f. f.items) contents.now) e
+        (⟦<Host<H> as HostView>⟧.found host.old) (⟦<Host<H> as HostView>⟧.left host.new)) }
     ensures untouched { host.new.watch ≡ host.old.watch }
 {
     let packages = match packages_in(alloc, contents) {
@@ -592,38 +422,10 @@ pub fn agent_file<H: Parts>(
     job: AgentAlone<'_>,
     host: &mut Host<H>,
 ) -> Result<(), JobFault>
-    ensures ok { OnOk result (ServesAgent job.entry (record {
-      files = H.Files.holds host.old.files;
-      stores = stores_in (H.Stores.is_known host.old.stores) (H.Stores.files host.old.stores);
-      agent_store = agent_store_in (H.Stores.is_known host.old.stores) (H.Stores.agent_files host.old.stores);
-      lacks = H.Wires.lacks host.old.wires;
-      refuses = H.Watch.refuses host.old.watch;
-      input = H.Input.remaining host.old.input;
-      is_known = H.Places.is_known host.old.places;
-      held = H.Places.held host.old.places;
-      output = host.old.output;
-    }) (record {
-      input = H.Input.remaining host.new.input;
-      watched = H.Watch.watched host.new.watch;
-      held = H.Places.held host.new.places;
-      output = host.new.output;
-    })) }
-    ensures fault { IfErr result (λ e. AgentEnds job.entry e (record {
-      files = H.Files.holds host.old.files;
-      stores = stores_in (H.Stores.is_known host.old.stores) (H.Stores.files host.old.stores);
-      agent_store = agent_store_in (H.Stores.is_known host.old.stores) (H.Stores.agent_files host.old.stores);
-      lacks = H.Wires.lacks host.old.wires;
-      refuses = H.Watch.refuses host.old.watch;
-      input = H.Input.remaining host.old.input;
-      is_known = H.Places.is_known host.old.places;
-      held = H.Places.held host.old.places;
-      output = host.old.output;
-    }) (record {
-      input = H.Input.remaining host.new.input;
-      watched = H.Watch.watched host.new.watch;
-      held = H.Places.held host.new.places;
-      output = host.new.output;
-    })) }
+    ensures ok { OnOk result (ServesAgent job.entry
+        (⟦<Host<H> as HostView>⟧.found host.old) (⟦<Host<H> as HostView>⟧.left host.new)) }
+    ensures fault { IfErr result (λ e. AgentEnds job.entry e
+        (⟦<Host<H> as HostView>⟧.found host.old) (⟦<Host<H> as HostView>⟧.left host.new)) }
     ensures untouched { host.new.watch ≡ host.old.watch }
 {
     let config = match configuration(alloc, &host.files, job.config) {

@@ -1,5 +1,9 @@
 //! What a job runs on.
 
+ghost use Rattle.fw_setup.specs.Stocks.{stores_in};
+ghost use Rattle.fwupd_nodes.specs.Hosts.{FoundOf, LeftOf, agent_store_in};
+ghost use Rattle.fwupd_nodes.specs.Processes.{AgentLeftOf};
+
 use crate::wires::Wires;
 use crate::wiring::Wiring;
 use fw_edge::Link;
@@ -59,4 +63,43 @@ pub struct Host<H: Parts> {
     pub wiring: H::Wiring,
     /// The output.
     pub output: Output<H::Writer>,
+}
+
+/// A host as contracts see it.
+pub trait HostView {
+    /// What a job finds on the host before it begins.
+    ghost found: { Self → FoundOf };
+
+    /// What a job leaves on the host.
+    ghost left: { Self → LeftOf };
+
+    /// What an agent's process leaves on the second host, which was the first before.
+    ghost agent_left: { Self → Self → AgentLeftOf };
+}
+
+impl<H: Parts> HostView for Host<H> {
+    ghost found = { λ host. record {
+      files = H.Files.holds host.files;
+      stores = stores_in (H.Stores.is_known host.stores) (H.Stores.files host.stores);
+      agent_store = agent_store_in (H.Stores.is_known host.stores) (H.Stores.agent_files host.stores);
+      lacks = H.Wires.lacks host.wires;
+      refuses = H.Watch.refuses host.watch;
+      input = H.Input.remaining host.input;
+      is_known = H.Places.is_known host.places;
+      held = H.Places.held host.places;
+      output = host.output;
+    } };
+
+    ghost left = { λ host. record {
+      input = H.Input.remaining host.input;
+      watched = H.Watch.watched host.watch;
+      held = H.Places.held host.places;
+      output = host.output;
+    } };
+
+    ghost agent_left = { λ before after. record {
+      is_known = H.Places.is_known before.places;
+      held = H.Places.held after.places;
+      output = after.output;
+    } };
 }

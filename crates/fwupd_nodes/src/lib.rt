@@ -22,7 +22,7 @@ pub use alone::{DeviceSetup, agent_file, device_file, device_setup, eids_of};
 pub use answering::answer_serial;
 pub use decoding::decode_file;
 pub use device_serving::run_device;
-pub use host::{Host, Parts};
+pub use host::{Host, HostView, Parts};
 pub use images::configured;
 pub use outputs::{ProcessOutputs, check_outputs};
 pub use sessions::{Undone, undone_in};
