@@ -192,7 +192,8 @@ impl Traffic {
         chances: &mut Chances,
     ) -> Result<(), AllocError>
         ensures goes { ContinuesRun course.old course.new }
-        ensures meets { OnOk result (MeetsPacket arrival (soaking course.old self.old chances.old) (soaking course.new self.new chances.new)) }
+        ensures meets { OnOk result (MeetsPacket arrival (soaking course.old self.old chances.old)
+            (soaking course.new self.new chances.new)) }
     {
         let delays = delays(chances.fate(self.roughness));
         match self.send_each(course, arrival, delays.as_slice()) {

@@ -138,7 +138,8 @@ struct FileLines<'a, P: LineForm> {
 impl<'a, P: LineForm> FileLines<'a, P> {
     /// Appends the line of an input, by its facts and what its packet says.
     fn push(&mut self, facts: &Facts, said: &[u8]) -> Result<(), AllocError>
-        ensures line { OnOk result (AppendsText self.old.text.items self.new.text.items (P.line self.old.form.now facts.now said.now)) }
+        ensures line { OnOk result (AppendsText self.old.text.items self.new.text.items
+            (P.line self.old.form.now facts.now said.now)) }
         ensures decoder { self.new.decoder ≡ self.old.decoder }
         ensures form { self.new.form ≡ self.old.form }
     {

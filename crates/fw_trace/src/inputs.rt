@@ -111,7 +111,9 @@ fn place_after_turn<'a>(turn: &[u8], rest: &'a [u8]) -> Result<PlacedDigits<'a>,
 /// # Errors
 /// `Fields` if the line is neither digits alone nor a trace's; `Number`, for one of its numbers.
 pub fn place_in_line(line: &[u8]) -> Result<PlacedDigits<'_>, InputFault>
-    ensures { result_map_both (λ p. record { turn = p.turn; device = p.device; digits = p.digits.now }) (λ e. e) result ≡ place_in_line line.now }
+    ensures { result_map_both
+        (λ p. record { turn = p.turn; device = p.device; digits = p.digits.now }) (λ e. e) result
+        ≡ place_in_line line.now }
 {
     match cut(line) {
         Some((turn, rest)) => place_after_turn(turn, rest),
