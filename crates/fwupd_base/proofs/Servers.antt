@@ -260,6 +260,29 @@ stopped_past f m s t count a b w v part lacks r = record {
   all = λ _. (r.stands.one, refl, λ _. refl);
 }
 
+-- a flush before a read changes nothing
+pub part_kept : {S : Type 0} (f : S → List ℕ → S → List ℕ → Type 0) (m : ℕ) (s t : S) (count : ℕ) (a b w v z : Option (List ℕ)) (part : List ℕ) → ServesPart f m s t count a b w v part → Keeps v z → ServesPart f m s t count a b w z part
+part_kept f m s t count a b w v z part r kept = record {
+  text = r.text;
+  past = r.past;
+  within = r.within;
+  limit = r.limit;
+  size = r.size;
+  read = r.read;
+  stands = stands_kept f s t r.text w v z part r.stands kept;
+}
+
+-- a flush between two reads failed
+pub part_broken : {S : Type 0} (f : S → List ℕ → S → List ℕ → Type 0) (m : ℕ) (s t : S) (count : ℕ) (a b w v z : Option (List ℕ)) (part : List ℕ) → ServesPart f m s t count a b w v part → Keeps v z → ServeWriteErr f m s t a b w z
+part_broken f m s t count a b w v z part r kept = record {
+  text = r.text;
+  past = r.past;
+  within = r.within;
+  most = past_most r.past r.text m r.limit;
+  read = r.read;
+  off = unflushed f s t r.text w v z part r.stands kept;
+}
+
 -- a reader at its end gave all bytes that were read
 pub finished : {S : Type 0} (f : S → List ℕ → S → List ℕ → Type 0) (m : ℕ) (s t u : S) (count : ℕ) (a b c w v z : Option (List ℕ)) (part : List ℕ) (r : ServesPart f m s t count a b w v part) → count ≤ m → Consumes b c [] → IsAtEnd c
     → ServesText f s u r.text w z → ServeOk f m s u a c w z
