@@ -48,6 +48,6 @@ impl<W: Write + Drop> HeldBack for BufWriter<W> {
     ghost held = { λ w. writer_buffer w };
 
     fn push_out(&mut self) -> io::Result<()> {
-        self.flush()
+        io::Write::flush(self)
     }
 }

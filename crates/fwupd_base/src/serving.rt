@@ -130,10 +130,8 @@ fn prepare_read<W: HeldBack>(
     ensures memory { IfErr result (λ e. e ≡ AnswerFault.Memory → LacksDigitRoom
         (length held.old.items) most (vec_capacity held.old) (vec_capacity bytes.old)) }
 {
-    match flush(writer) {
-        Ok(()) => make_room(held, bytes, most),
-        Err(fault) => Err(fault),
-    }
+    flush(writer)?;
+    make_room(held, bytes, most)
 }
 
 /// Reads a piece, of at most `most` bytes, into the front of `buffer`. Returns the number of bytes;
