@@ -1,14 +1,14 @@
 -- Lemmas on lines that a server serves, and on the served part of a text.
-use Rattle.std.proofs.Common.{◌-◌, min, zero, suc, inl, inr, ◌⊎◌, ◌≡◌, ◌≢◌, ◌<◌, ◌≤◌, ◌+◌, ◌∙◌, ℕ, List, [], ◌∷◌, ◌++◌, length, refl, sym, ap, subst, take, drop, append_assoc, append-nil, length-append, arith, IfErr, IsOk, OnErr, OnOk, Result, Ok, Err, Bool, true, false, Option, Some, None}
+use Rattle.std.proofs.Common.{◌-◌, min, inl, inr, ◌≡◌, ◌≢◌, ◌≤◌, ◌+◌, ◌∙◌, ℕ, List, [], ◌∷◌, ◌++◌, length, refl, sym, ap, subst, take, drop, append_assoc, append-nil, length-append, arith, IfErr, IsOk, OnErr, OnOk, Result, Ok, Err, Bool, true, Option, Some, None}
 use Rattle.std.proofs.lemmas.List.{drop_more, take_all, take-append-drop, length-take-le}
 use Rattle.std.specs.Io.KnownBytes.{Appends, Consumes, IsAtEnd, Keeps}
 use Rattle.std.proofs.KnownBytes.{Consumes-nil, Consumes-trans, Consumes-kept, Appends-nil, Appends-trans, Appends-kept}
 use Rattle.memchr.specs.Find.{IsFirstByte, is_byte}
-use Rattle.fwupd_base.specs.Lines.{lines_of, lines_with_ends, AreLines, IsOneLine}
-use Rattle.fwupd_base.specs.Serving.{BreaksOffLine, BreaksOffNext, BreaksOffText, HasServedLines, ServeErr, ServeOk, ServesLines, ServesPart, ServesText, ServeWriteErr, StopsAtLine, WritesLine}
+use Rattle.fwupd_base.specs.Lines.{lines_with_ends, IsOneLine}
+use Rattle.fwupd_base.specs.Serving.{BreaksOffLine, BreaksOffText, HasServedLines, ServeErr, ServeOk, ServesLines, ServesPart, ServesText, ServeWriteErr, StopsAtLine, WritesLine}
 use Rattle.fwupd_base.specs.Stream.{IsAtLineEnd}
 use Rattle.fwupd_base.specs.declared.stream.AnswerFault.{AnswerFault}
-use Rattle.fwupd_base.specs.declared.stream.AnswerFault.TheVariants.{Read, Write}
+use Rattle.fwupd_base.specs.declared.stream.AnswerFault.TheVariants.{Read}
 use Rattle.fwupd_base.proofs.Streams.{AreLines-push, IsOneLine-append, IsOneLine-before, ended-push, length_rest, line_feed, line_taken, lines_of-ended, lines_of-part, nonempty, taken}
 
 -- what holds whatever a result is

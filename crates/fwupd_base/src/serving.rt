@@ -266,9 +266,10 @@ fn finish<S: LineServer, W: HeldBack>(
 /// Reads lines, has the server serve each, and writes what it prints. A line feed ends a line; the
 /// bytes after the last one are a line too, unless they are empty.
 ///
-/// Before each read, the writer is flushed; so before the next read, all whole lines of the last
-/// read are served and what they print is flushed. After `Ok` nothing is held back. So a peer over a pipe never waits for what a line that it has sent prints. Beside the
-/// server's, work is linear in the input. Interrupted reads and writes are retried.
+/// The writer is flushed before each read, also before the first, and before `Ok` is returned. All
+/// whole lines of the last read are served before the next one. So a peer over a pipe never waits
+/// for what a line that it has sent prints. Beside the server's, work is linear in the input.
+/// Interrupted reads and writes are retried.
 ///
 /// # Errors
 /// - `Read` if the reader fails, or at the first byte past `limit`: exactly the whole lines before

@@ -64,9 +64,10 @@ impl LineServer for AnswerServer {
 /// line; the bytes after the last one are a line too, unless they are empty. The terminus
 /// identifier is kept from line to line; at first it is 0.
 ///
-/// Before each read, the writer is flushed; so before the next read, all whole lines of the last
-/// read are answered and the answers flushed. After `Ok` nothing is held back. So a peer over a pipe never waits for an answer to a line that it has sent. Work is linear in the
-/// input. Interrupted reads and writes are retried.
+/// The writer is flushed before each read, also before the first, and before `Ok` is returned. All
+/// whole lines of the last read are answered before the next one. So a peer over a pipe never waits
+/// for an answer to a line that it has sent. Work is linear in the input. Interrupted reads and
+/// writes are retried.
 ///
 /// # Errors
 /// - `Read` if the reader fails, or at the first byte past 16,777,216;

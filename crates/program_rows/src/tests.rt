@@ -145,7 +145,8 @@ fn nothing_is_read_while_bytes_are_held_back(rt: HostRuntime) {
     let mut input = b"02
 01
 03
-".as_slice();
+"
+        .as_slice();
     let outcome = answer_stream(rt.alloc(), &mut input, &mut writer, 9, Uuid::nil());
     assert!(rt; matches!(outcome, Err(AnswerFault::Write)));
     assert!(rt; writer.taken == 1 && input.len() == 9);

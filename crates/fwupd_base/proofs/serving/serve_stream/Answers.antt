@@ -1,6 +1,6 @@
 use Rattle.std.proofs.Common.{[], ◌∙◌, arith}
 use Rattle.std.proofs.KnownBytes.{Keeps-refl}
-use Rattle.fwupd_base.proofs.Servers.{end_broken, end_stopped, finished, map_err, map_ok, part_broken, part_kept, reads_more, reads_start, stopped_past, stopped_within, turn_broken, turn_stopped}
+use Rattle.fwupd_base.proofs.Servers.{end_broken, end_stopped, finished, map_err, map_ok, part_broken, part_kept, reads_more, reads_start, stopped_within, turn_broken, turn_stopped}
 use Rattle.fwupd_base.proofs.serving.serve_stream.Goals as goal
 
 pub returns-in_default-clause-stopped : goal.returns-in_default-clause-stopped
