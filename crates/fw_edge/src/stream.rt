@@ -6,10 +6,10 @@ ghost use Rattle.fw_edge.specs.Frames.{IsSize, ReadStops, WriteStops, frames_of}
 ghost use Rattle.fw_edge.specs.Links.{AsksForFrame, FailsCall, ReadsFrameAt, SendsPacket, WritesFrameAt};
 
 use crate::frame::{Frame, FrameFault, read_frame_into, write_frame_from};
-use crate::held_back::HeldBack;
 use crate::link::Link;
 use crate::tally::Tally;
 use fw_world::Side;
+use fwupd_base::HeldBack;
 use mctp_wire::{RawPacket, Unit};
 use std::io::Read;
 

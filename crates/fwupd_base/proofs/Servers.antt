@@ -1,14 +1,14 @@
 -- Lemmas on lines that a server serves, and on the served part of a text.
-use Rattle.std.proofs.Common.{◌-◌, min, zero, suc, inl, inr, ◌⊎◌, ◌≡◌, ◌≢◌, ◌<◌, ◌≤◌, ◌+◌, ◌∙◌, ℕ, List, [], ◌∷◌, ◌++◌, length, refl, sym, ap, subst, take, drop, append_assoc, append-nil, length-append, arith, IfErr, IsOk, OnErr, OnOk, Result, Ok, Err, Bool, true, false, Option, Some, None}
+use Rattle.std.proofs.Common.{◌-◌, min, inl, inr, ◌≡◌, ◌≢◌, ◌≤◌, ◌+◌, ◌∙◌, ℕ, List, [], ◌∷◌, ◌++◌, length, refl, sym, ap, subst, take, drop, append_assoc, append-nil, length-append, arith, IfErr, IsOk, OnErr, OnOk, Result, Ok, Err, Bool, true, Option, Some, None}
 use Rattle.std.proofs.lemmas.List.{drop_more, take_all, take-append-drop, length-take-le}
 use Rattle.std.specs.Io.KnownBytes.{Appends, Consumes, IsAtEnd, Keeps}
 use Rattle.std.proofs.KnownBytes.{Consumes-nil, Consumes-trans, Consumes-kept, Appends-nil, Appends-trans, Appends-kept}
 use Rattle.memchr.specs.Find.{IsFirstByte, is_byte}
-use Rattle.fwupd_base.specs.Lines.{lines_of, lines_with_ends, AreLines, IsOneLine}
-use Rattle.fwupd_base.specs.Serving.{BreaksOffLine, BreaksOffNext, BreaksOffText, HasServedLines, ServeErr, ServeOk, ServesLines, ServesPart, ServesText, ServeWriteErr, StopsAtLine, WritesLine}
+use Rattle.fwupd_base.specs.Lines.{lines_with_ends, IsOneLine}
+use Rattle.fwupd_base.specs.Serving.{BreaksOffLine, BreaksOffText, HasServedLines, ServeErr, ServeOk, ServesLines, ServesPart, ServesText, ServeWriteErr, StopsAtLine, WritesLine}
 use Rattle.fwupd_base.specs.Stream.{IsAtLineEnd}
 use Rattle.fwupd_base.specs.declared.stream.AnswerFault.{AnswerFault}
-use Rattle.fwupd_base.specs.declared.stream.AnswerFault.TheVariants.{Read, Write}
+use Rattle.fwupd_base.specs.declared.stream.AnswerFault.TheVariants.{Read}
 use Rattle.fwupd_base.proofs.Streams.{AreLines-push, IsOneLine-append, IsOneLine-before, ended-push, length_rest, line_feed, line_taken, lines_of-ended, lines_of-part, nonempty, taken}
 
 -- what holds whatever a result is
@@ -258,6 +258,29 @@ stopped_past f m s t count a b w v part lacks r = record {
   served = r.stands.served;
   written = r.stands.written;
   all = λ _. (r.stands.one, refl, λ _. refl);
+}
+
+-- a flush before a read changes nothing
+pub part_kept : {S : Type 0} (f : S → List ℕ → S → List ℕ → Type 0) (m : ℕ) (s t : S) (count : ℕ) (a b w v z : Option (List ℕ)) (part : List ℕ) → ServesPart f m s t count a b w v part → Keeps v z → ServesPart f m s t count a b w z part
+part_kept f m s t count a b w v z part r kept = record {
+  text = r.text;
+  past = r.past;
+  within = r.within;
+  limit = r.limit;
+  size = r.size;
+  read = r.read;
+  stands = stands_kept f s t r.text w v z part r.stands kept;
+}
+
+-- a flush between two reads failed
+pub part_broken : {S : Type 0} (f : S → List ℕ → S → List ℕ → Type 0) (m : ℕ) (s t : S) (count : ℕ) (a b w v z : Option (List ℕ)) (part : List ℕ) → ServesPart f m s t count a b w v part → Keeps v z → ServeWriteErr f m s t a b w z
+part_broken f m s t count a b w v z part r kept = record {
+  text = r.text;
+  past = r.past;
+  within = r.within;
+  most = past_most r.past r.text m r.limit;
+  read = r.read;
+  off = unflushed f s t r.text w v z part r.stands kept;
 }
 
 -- a reader at its end gave all bytes that were read

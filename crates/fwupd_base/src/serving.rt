@@ -5,6 +5,7 @@ ghost use Rattle.std.specs.Io.KnownBytes.{Consumes, IsAtEnd, Keeps};
 ghost use Rattle.fwupd_base.specs.Stream.{LacksDigitRoom};
 ghost use Rattle.fwupd_base.specs.Serving.{BreaksOffLine, BreaksOffText, HasServedLines, ServeErr, ServeOk, ServesText, ServeWriteErr, StopsAtLine, WritesLine};
 
+use crate::held_back::HeldBack;
 use crate::retries::{read_some, write_whole};
 use crate::stream::AnswerFault;
 use memchr::memchr;
@@ -83,11 +84,12 @@ fn serve_line<S: LineServer, W: Write>(
 }
 
 /// Flushes the writer.
-fn flush<W: Write>(writer: &mut W) -> Result<(), AnswerFault>
+fn flush<W: HeldBack>(writer: &mut W) -> Result<(), AnswerFault>
+    ensures out { OnOk result (W.held writer.new ≡ []) }
     ensures kept { Keeps (W.contents writer.old) (W.contents writer.new) }
     ensures fault { IfErr result (λ e. e ≡ AnswerFault.Write) }
 {
-    match writer.flush() {
+    match writer.push_out() {
         Ok(()) => Ok(()),
         Err(_) => Err(AnswerFault::Write),
     }
@@ -112,32 +114,43 @@ fn make_room(held: &mut Vec<u8>, bytes: &mut Vec<u8>, most: usize) -> Result<(),
     Ok(())
 }
 
-/// Reads a piece, of at most `most` bytes, into the front of `buffer`, and reserves room to hold
-/// and decode it. Returns the number of bytes; 0 is the end.
-fn read_piece<R: Read>(
-    reader: &mut R,
+/// Flushes the writer, and reserves room to hold and decode a piece of at most `most` bytes.
+fn prepare_read<W: HeldBack>(
+    writer: &mut W,
     held: &mut Vec<u8>,
     bytes: &mut Vec<u8>,
+    most: usize,
+) -> Result<(), AnswerFault>
+    ensures same { held.new.items ≡ held.old.items }
+    ensures out { OnOk result (W.held writer.new ≡ []) }
+    ensures kept { Keeps (W.contents writer.old) (W.contents writer.new) }
+    ensures holds { OnOk result (length held.new.items + most ≤ vec_capacity held.new) }
+    ensures decodes { OnOk result (length held.new.items + most ≤ 2 * vec_capacity bytes.new) }
+    ensures fault { IfErr result (λ e. e ≢ AnswerFault.Read) }
+    ensures memory { IfErr result (λ e. e ≡ AnswerFault.Memory → LacksDigitRoom
+        (length held.old.items) most (vec_capacity held.old) (vec_capacity bytes.old)) }
+{
+    flush(writer)?;
+    make_room(held, bytes, most)
+}
+
+/// Reads a piece, of at most `most` bytes, into the front of `buffer`. Returns the number of bytes;
+/// 0 is the end. `_writer` must hold nothing back: a peer may await it before it sends more.
+fn read_piece<R: Read, W: HeldBack>(
+    reader: &mut R,
+    _writer: &W,
     buffer: &mut [u8],
     most: usize,
 ) -> Result<usize, AnswerFault>
     requires room { most ≤ length buffer.old }
-    ensures same { held.new.items ≡ held.old.items }
+    requires out { W.held _writer.now ≡ [] }
     ensures size { length buffer.new ≡ length buffer.old }
-    ensures holds { OnOk result (length held.new.items + most ≤ vec_capacity held.new) }
-    ensures decodes { OnOk result (length held.new.items + most ≤ 2 * vec_capacity bytes.new) }
     ensures within { IfOk result (λ n. n ≤ most) }
     ensures bytes { IfOk result (λ n. Consumes (R.remaining reader.old) (R.remaining reader.new) (take n buffer.new)) }
     ensures end { IfOk result (λ n. n ≡ 0 → 0 < most → IsAtEnd (R.remaining reader.new)) }
     ensures kept { OnErr result (Keeps (R.remaining reader.old) (R.remaining reader.new)) }
-    ensures fault { IfErr result (λ e. e ≢ AnswerFault.Write) }
-    ensures memory { IfErr result (λ e. e ≡ AnswerFault.Memory → LacksDigitRoom
-        (length held.old.items) most (vec_capacity held.old) (vec_capacity bytes.old)) }
+    ensures fault { IfErr result (λ e. e ≡ AnswerFault.Read) }
 {
-    match make_room(held, bytes, most) {
-        Ok(()) => {}
-        Err(fault) => return Err(fault),
-    }
     match read_some(reader, buffer, most) {
         Ok(read) => Ok(read),
         Err(_) => Err(AnswerFault::Read),
@@ -216,8 +229,9 @@ fn serve_piece<S: LineServer, W: Write>(
     Ok(())
 }
 
-/// Serves the bytes after the last line feed: a line, unless they are empty.
-fn finish<S: LineServer, W: Write>(
+/// Serves the bytes after the last line feed: a line, unless they are empty. What it prints is
+/// flushed; before, the writer must hold nothing back.
+fn finish<S: LineServer, W: HeldBack>(
     server: &mut S,
     held: &[u8],
     buffers: &mut Buffers,
@@ -225,6 +239,8 @@ fn finish<S: LineServer, W: Write>(
 ) -> Result<(), AnswerFault>
     requires digits { S.may_lack ≡ false → length held.now ≤ 2 * vec_capacity buffers.old.bytes }
     requires room { S.may_lack ≡ false → 512 ≤ vec_capacity buffers.old.text }
+    requires out { W.held writer.old ≡ [] }
+    ensures flushed { OnOk result (W.held writer.new ≡ []) }
     ensures ok { (s : S) (all : List ℕ) (before : Option (List ℕ))
         → HasServedLines S.serves s server.old all before (W.contents writer.old) held.now
         → OnOk result (ServesText S.serves s server.new all before (W.contents writer.new)) }
@@ -250,9 +266,10 @@ fn finish<S: LineServer, W: Write>(
 /// Reads lines, has the server serve each, and writes what it prints. A line feed ends a line; the
 /// bytes after the last one are a line too, unless they are empty.
 ///
-/// Before the next read, all whole lines of the last read are served and what they print is
-/// flushed. So a peer over a pipe never waits for what a line that it has sent prints. Beside the
-/// server's, work is linear in the input. Interrupted reads and writes are retried.
+/// The writer is flushed before each read, also before the first, and before `Ok` is returned. All
+/// whole lines of the last read are served before the next one. So a peer over a pipe never waits
+/// for what a line that it has sent prints. Beside the server's, work is linear in the input.
+/// Interrupted reads and writes are retried.
 ///
 /// # Errors
 /// - `Read` if the reader fails, or at the first byte past `limit`: exactly the whole lines before
@@ -261,7 +278,7 @@ fn finish<S: LineServer, W: Write>(
 /// line prints is written;
 /// - `Write` if the writer fails: the lines before are served, and a beginning of what the next
 /// line prints may be written.
-pub fn serve_stream<R: Read, W: Write, S: LineServer>(
+pub fn serve_stream<R: Read, W: HeldBack, S: LineServer>(
     alloc: Global,
     reader: &mut R,
     writer: &mut W,
@@ -271,6 +288,7 @@ pub fn serve_stream<R: Read, W: Write, S: LineServer>(
     requires { limit < 2 ^ 64 - 1 }
     ensures ok { OnOk result (ServeOk S.serves limit server.old server.new (R.remaining reader.old)
         (R.remaining reader.new) (W.contents writer.old) (W.contents writer.new)) }
+    ensures flushed { OnOk result (W.held writer.new ≡ []) }
     ensures stopped { IfErr result (λ e. e ≢ AnswerFault.Write → ServeErr S.serves S.may_lack limit
         server.old server.new e (R.remaining reader.old) (R.remaining reader.new) (W.contents writer.old)
         (W.contents writer.new)) }
@@ -294,7 +312,11 @@ pub fn serve_stream<R: Read, W: Write, S: LineServer>(
     let mut count = 0;
     while count <= limit {
         let most = PIECE.min(limit + 1 - count);
-        let read = match read_piece(reader, &mut held, &mut buffers.bytes, buffer, most) {
+        match prepare_read(writer, &mut held, &mut buffers.bytes, most) {
+            Ok(()) => {}
+            Err(fault) => return Err(fault),
+        }
+        let read = match read_piece(reader, writer, buffer, most) {
             Ok(0) => return finish(server, &held, &mut buffers, writer),
             Ok(read) => read,
             Err(fault) => return Err(fault),
@@ -304,11 +326,10 @@ pub fn serve_stream<R: Read, W: Write, S: LineServer>(
             Ok(()) => {}
             Err(fault) => return Err(fault),
         }
-        match flush(writer) {
-            Ok(()) => {}
-            Err(fault) => return Err(fault),
-        }
         count += read;
     }
-    Err(AnswerFault::Read)
+    match flush(writer) {
+        Ok(()) => Err(AnswerFault::Read),
+        Err(fault) => Err(fault),
+    }
 }

@@ -1,16 +1,17 @@
 //! The engine of `fwupd answer`: reads lines and writes answers.
 
-ghost use Rattle.std.specs.Prelude.{◌≡◌, ◌≢◌, IfErr, OnOk};
+ghost use Rattle.std.specs.Prelude.{[], ◌≡◌, ◌≢◌, IfErr, OnOk};
 ghost use Rattle.fwupd_base.specs.Answers.{endpoint_of};
 ghost use Rattle.fwupd_base.specs.Stream.{AnswerErr, AnswerOk, AnswerWriteErr};
 
+use crate::held_back::HeldBack;
 use crate::responder::Responder;
 use crate::serving::{LineServer, serve_stream};
 use crate::text::{LineText, answer_line};
 use mctp_ctl::Endpoint;
 use pldm_base::Tid;
 use std::alloc::{AllocError, Global};
-use std::io::{Read, Write};
+use std::io::Read;
 use thiserror::Error;
 use uuid::Uuid;
 
@@ -63,9 +64,10 @@ impl LineServer for AnswerServer {
 /// line; the bytes after the last one are a line too, unless they are empty. The terminus
 /// identifier is kept from line to line; at first it is 0.
 ///
-/// Before the next read, all whole lines of the last read are answered and the answers flushed. So
-/// a peer over a pipe never waits for an answer to a line that it has sent. Work is linear in the
-/// input. Interrupted reads and writes are retried.
+/// The writer is flushed before each read, also before the first, and before `Ok` is returned. All
+/// whole lines of the last read are answered before the next one. So a peer over a pipe never waits
+/// for an answer to a line that it has sent. Work is linear in the input. Interrupted reads and
+/// writes are retried.
 ///
 /// # Errors
 /// - `Read` if the reader fails, or at the first byte past 16,777,216;
@@ -73,7 +75,7 @@ impl LineServer for AnswerServer {
 /// answered;
 /// - `Write` if the writer fails: the lines before are answered, and a beginning of the next answer
 /// may be written.
-pub fn answer_stream<R: Read, W: Write>(
+pub fn answer_stream<R: Read, W: HeldBack>(
     alloc: Global,
     reader: &mut R,
     writer: &mut W,
@@ -82,6 +84,7 @@ pub fn answer_stream<R: Read, W: Write>(
 ) -> Result<(), AnswerFault>
     ensures ok { OnOk result (AnswerOk (endpoint_of eid uuid) (R.remaining reader.old)
         (R.remaining reader.new) (W.contents writer.old) (W.contents writer.new)) }
+    ensures flushed { OnOk result (W.held writer.new ≡ []) }
     ensures stopped { IfErr result (λ e. e ≢ AnswerFault.Write
         → AnswerErr (endpoint_of eid uuid) e (R.remaining reader.old) (R.remaining reader.new)
         (W.contents writer.old) (W.contents writer.new)) }

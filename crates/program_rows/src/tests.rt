@@ -8,7 +8,7 @@ mod openings;
 mod printed;
 mod traces;
 
-use fwupd_base::{AnswerFault, answer_stream};
+use fwupd_base::{AnswerFault, HeldBack, answer_stream};
 use std::io::{self, Read, Write};
 use uuid::Uuid;
 
@@ -71,6 +71,12 @@ impl Write for FlushedWriter {
     }
 }
 
+impl HeldBack for FlushedWriter {
+    fn push_out(&mut self) -> io::Result<()> {
+        self.flush()
+    }
+}
+
 #[test]
 fn a_broken_reader_leaves_the_answers_before(rt: HostRuntime) {
     let mut out = Vec::new(rt.alloc());
@@ -98,7 +104,7 @@ fn what_is_interrupted_is_tried_again_and_each_answer_is_flushed(rt: HostRuntime
     assert!(rt; writer.flushes == 3);
 }
 
-/// A writer that takes bytes, and fails to flush them.
+/// A writer that takes bytes, and fails to flush them. It flushes as long as it has none.
 #[derive(Drop)]
 struct ShutWriter {
     taken: usize,
@@ -111,7 +117,16 @@ impl Write for ShutWriter {
     }
 
     fn flush(&mut self) -> io::Result<()> {
+        if self.taken == 0 {
+            return Ok(());
+        }
         Err(io::Error::from(io::ErrorKind::StorageFull))
+    }
+}
+
+impl HeldBack for ShutWriter {
+    fn push_out(&mut self) -> io::Result<()> {
+        self.flush()
     }
 }
 
@@ -121,7 +136,20 @@ fn a_flush_that_fails_stops_the_run(rt: HostRuntime) {
     let mut input = b"02\n01\n03\n".as_slice();
     let outcome = answer_stream(rt.alloc(), &mut input, &mut writer, 9, Uuid::nil());
     assert!(rt; matches!(outcome, Err(AnswerFault::Write)));
-    assert!(rt; writer.taken <= 33);
+    assert!(rt; writer.taken > 0 && writer.taken <= 33);
+}
+
+#[test]
+fn nothing_is_read_while_bytes_are_held_back(rt: HostRuntime) {
+    let mut writer = ShutWriter { taken: 1 };
+    let mut input = b"02
+01
+03
+"
+        .as_slice();
+    let outcome = answer_stream(rt.alloc(), &mut input, &mut writer, 9, Uuid::nil());
+    assert!(rt; matches!(outcome, Err(AnswerFault::Write)));
+    assert!(rt; writer.taken == 1 && input.len() == 9);
 }
 
 #[test]

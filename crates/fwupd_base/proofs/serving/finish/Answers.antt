@@ -1,6 +1,6 @@
 use Rattle.std.proofs.lemmas.Bool.{eqb-true}
 use Rattle.std.proofs.Common.{sym}
-use Rattle.fwupd_base.proofs.Servers.{finish_broken, finish_empty, finish_line, finish_stopped, finish_unflushed, if_err, on_ok}
+use Rattle.fwupd_base.proofs.Servers.{finish_empty, finish_line, finish_unflushed, if_err, on_ok}
 use Rattle.fwupd_base.proofs.serving.finish.Goals as goal
 
 pub returns-then-is_empty-clause-ok : goal.returns-then-is_empty-clause-ok

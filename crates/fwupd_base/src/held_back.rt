@@ -1,9 +1,10 @@
 //! Byte streams that hold back what is written to them.
 
 ghost use Rattle.std.specs.Prelude.{[], ◌≡◌, List, OnOk, ℕ};
+ghost use Rattle.std.specs.Io.Buffered.{writer_buffer};
 ghost use Rattle.std.specs.Io.KnownBytes.{Keeps};
 
-use std::io::{self, Write};
+use std::io::{self, BufWriter, Write};
 use std::os::unix::net::UnixStream;
 
 /// A byte stream that may hold back what is written to it, as in a buffer, until it is flushed. In
@@ -24,5 +25,29 @@ pub trait HeldBack: Write {
 impl HeldBack for UnixStream {
     fn push_out(&mut self) -> io::Result<()> {
         self.flush()
+    }
+}
+
+/// A vector holds nothing back.
+impl HeldBack for Vec<u8> {
+    fn push_out(&mut self) -> io::Result<()> {
+        self.flush()
+    }
+}
+
+/// A slice holds nothing back.
+impl HeldBack for &mut [u8] {
+    fn push_out(&mut self) -> io::Result<()> {
+        self.flush()
+    }
+}
+
+/// A buffered writer holds back the bytes in its buffer. What the writer below it holds back isn't
+/// counted; a flush reaches it too.
+impl<W: Write + Drop> HeldBack for BufWriter<W> {
+    ghost held = { λ w. writer_buffer w };
+
+    fn push_out(&mut self) -> io::Result<()> {
+        io::Write::flush(self)
     }
 }
