@@ -1,33 +1,18 @@
-//! The lines that a run shows on a terminal, and when.
+//! Standard error as a terminal, and the lines that are shown there.
 
-ghost use Rattle.std.specs.Duration.{as_nanos};
 ghost use Rattle.std.specs.Io.KnownBytes.{Appends};
-ghost use Rattle.std.specs.Prelude.{◌≡◌, ◌&&◌, IfOk, OnOk, not, option_map};
-ghost use Rattle.fwupd_watch.specs.Terminals.{erasure_of, explanation_of, is_due_after, is_explaining, lost_line};
+ghost use Rattle.std.specs.Prelude.{◌≡◌, ◌&&◌, IfOk, OnOk, false, is_some, not, option_map, true};
+ghost use Rattle.fwupd_watch.specs.Terminals.{erasure_of, explanation_of, is_explaining, lost_line};
 
 use fw_text::{push_number, push_words};
 use std::alloc::{AllocError, Global};
 use std::env;
 use std::io::{self, ErrorKind, IsTerminal, Write};
-use std::time::Duration;
-
-/// The least time between two updates of the display, in milliseconds.
-const PAUSE: u64 = 100;
+use std::time::Instant;
 
 /// A blank line, which covers one that was shown, between two carriage returns.
 const ERASURE: &[u8] =
     b"\r                                                                        \r";
-
-/// Returns whether the display is due for an update, when this time passed since the last one, if
-/// there was one.
-pub fn is_due(passed: Option<Duration>) -> bool
-    ensures { result ≡ is_due_after (option_map as_nanos passed) }
-{
-    match passed {
-        Some(passed) => passed >= Duration::from_millis(PAUSE),
-        None => true,
-    }
-}
 
 /// Returns whether faults are explained: where standard error is a terminal, or the environment has
 /// `FWUPD_EXPLAIN=1`.
@@ -49,11 +34,40 @@ fn is_explaining(is_terminal: bool, value: Option<&str>) -> bool
     }
 }
 
-/// Whether a run shows its progress: on a terminal, unless it is quiet.
-pub(crate) fn shows_progress(is_quiet: bool, is_terminal: bool) -> bool
-    ensures { result ≡ (not is_quiet && is_terminal) }
-{
-    !is_quiet && is_terminal
+/// Standard error, where progress is shown. A display takes one, and [`Terminal::find`] alone makes
+/// it.
+#[derive(Clone, Copy)]
+pub struct Terminal<'a> {
+    rt: &'a HostRuntime,
+}
+
+impl<'a> Terminal<'a> {
+    /// Returns standard error if progress is shown: if it is a terminal, unless the job is quiet.
+    pub fn find(rt: &'a HostRuntime, is_quiet: bool) -> Option<Terminal<'a>>
+        ensures { is_quiet ≡ true → is_some result ≡ false }
+    {
+        Terminal::by(rt, is_quiet, rt.stderr().is_terminal())
+    }
+
+    /// Returns standard error if it is a terminal, unless the job is quiet.
+    fn by(rt: &'a HostRuntime, is_quiet: bool, is_terminal: bool) -> Option<Terminal<'a>>
+        ensures { is_some result ≡ (not is_quiet && is_terminal) }
+    {
+        if is_quiet || !is_terminal {
+            return None;
+        }
+        Some(Terminal { rt })
+    }
+
+    /// Returns the current time, if the clock can be read.
+    pub fn now(self) -> Option<Instant> {
+        Instant::now(self.rt).ok()
+    }
+
+    /// Returns the runtime whose standard error this is.
+    pub fn runtime(self) -> &'a HostRuntime {
+        self.rt
+    }
 }
 
 /// Erases a progress line, if one was shown.
