@@ -46,6 +46,6 @@ pub use process_faults::process_fault;
 pub use recording::Recording;
 pub use refresh::Refresh;
 pub use running::{Observer, ObserverFault, observer_fault, update_observed};
-pub use terminal::{Terminal, erase_line, explains};
+pub use terminal::{Explaining, Terminal, erase_line};
 pub use tracing_laws::texts_are_lines;
 pub use watching::Observers;

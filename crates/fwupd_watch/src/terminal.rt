@@ -14,23 +14,41 @@ use std::time::Instant;
 const ERASURE: &[u8] =
     b"\r                                                                        \r";
 
-/// Returns whether faults are explained: where standard error is a terminal, or the environment has
-/// `FWUPD_EXPLAIN=1`.
-pub fn explains(rt: &HostRuntime) -> bool {
-    let is_terminal = rt.stderr().is_terminal();
-    match env::var(rt, "FWUPD_EXPLAIN") {
-        Ok(value) => is_explaining(is_terminal, Some(value.as_str())),
-        Err(_) => is_explaining(is_terminal, None),
-    }
+/// Standard error, where faults are explained. What prints an explanation takes one, and
+/// [`Explaining::find`] alone makes it.
+#[derive(Clone, Copy)]
+pub struct Explaining<'a> {
+    rt: &'a HostRuntime,
 }
 
-/// Whether faults are explained: on a terminal, or if the variable's value, if it has one, is 1.
-fn is_explaining(is_terminal: bool, value: Option<&str>) -> bool
-    ensures { result ≡ is_explaining is_terminal (option_map (λ v. v.now) value.entry) }
-{
-    match value {
-        Some(value) => is_terminal || value == "1",
-        None => is_terminal,
+impl<'a> Explaining<'a> {
+    /// Returns standard error if faults are explained: if it is a terminal, or the environment has
+    /// `FWUPD_EXPLAIN=1`.
+    pub fn find(rt: &'a HostRuntime) -> Option<Explaining<'a>> {
+        let is_terminal = rt.stderr().is_terminal();
+        match env::var(rt, "FWUPD_EXPLAIN") {
+            Ok(value) => Explaining::by(rt, is_terminal, Some(value.as_str())),
+            Err(_) => Explaining::by(rt, is_terminal, None),
+        }
+    }
+
+    /// Returns standard error if it is a terminal, or the variable's value, if it has one, is 1.
+    fn by(rt: &'a HostRuntime, is_terminal: bool, value: Option<&str>) -> Option<Explaining<'a>>
+        ensures { is_some result ≡ is_explaining is_terminal (option_map (λ v. v.now) value.entry) }
+    {
+        let is_explaining = match value {
+            Some(value) => is_terminal || value == "1",
+            None => is_terminal,
+        };
+        if !is_explaining {
+            return None;
+        }
+        Some(Explaining { rt })
+    }
+
+    /// Returns the runtime whose standard error this is.
+    pub fn runtime(self) -> &'a HostRuntime {
+        self.rt
     }
 }
 
@@ -100,17 +118,14 @@ fn lost_line(alloc: Global, device: u8) -> Result<Vec<u8>, AllocError>
 pub(crate) fn explain_on<W: Write>(
     alloc: Global,
     writer: &mut W,
-    is_explained: bool,
+    explaining: Option<Explaining<'_>>,
     lost: Option<u8>,
 ) -> io::Result<()>
-    ensures { OnOk result (Appends (W.contents writer.old) (W.contents writer.new) (explanation_of is_explained lost)) }
+    ensures { OnOk result (Appends (W.contents writer.old) (W.contents writer.new) (explanation_of (is_some explaining.entry) lost)) }
 {
-    let Some(device) = lost else {
+    let (Some(device), Some(_)) = (lost, explaining) else {
         return Ok(());
     };
-    if !is_explained {
-        return Ok(());
-    }
     let Ok(line) = lost_line(alloc, device) else {
         return Err(io::Error::from(ErrorKind::OutOfMemory));
     };
