@@ -4,10 +4,13 @@
 ghost use Rattle.std.specs.Prelude.{◌≡◌, is_err};
 ghost use Rattle.fw_package.specs.Reading.{package_of};
 
-use crate::clue_lines::{line_at, package_lines, step_line};
+use crate::clue_lines::{line_at, package_lines};
+use crate::clue_texts::{
+    agent_store_text, numbered_text, reason_text, step_text, store_text, version_text,
+};
 use crate::clues::{Clue, clue_to};
 use crate::identifiers::later_version;
-use crate::reasons::{reason, store_reason};
+use crate::reasons::reason;
 use crate::unwritten::{read_again, unwritten_reason, why_unwritten};
 use crate::warnings::warnings;
 use fw_package::Package;
@@ -17,12 +20,20 @@ use fwupd_watch::{
     Explaining, Files, JobFault, SystemFiles, folder_and_name, history_path, is_special,
 };
 use fwupd_words::Job;
+use std::alloc::AllocError;
 use std::fs::OpenOptions;
 use std::io::{self, Write};
 use std::str;
 
 /// The most bytes of a line that an explanation shows.
 const LONGEST: usize = 100;
+
+/// Prints an explanation. Nothing is printed if memory was refused for its text.
+fn print(explaining: Explaining<'_>, text: Result<String, AllocError>) {
+    if let Ok(text) = text {
+        let _ = explaining.runtime().stderr().write_all(text.as_bytes());
+    }
+}
 
 /// Prints the system's error for a file that can't be read, by reading it once more.
 fn explain_unreadable(explaining: Explaining<'_>, path: &str) {
@@ -50,9 +61,7 @@ fn explain_other(explaining: Explaining<'_>, path: &str) {
     if let Some(bytes) = read_again(rt, path)
         && let Some(version) = later_version(&bytes)
     {
-        let _ = eprintln!(rt;
-            "{path}: it seems to be a package of DSP0267 {version}, and only those of 1.0 are read"
-        );
+        print(explaining, version_text(rt.alloc(), path, version));
     }
 }
 
@@ -94,7 +103,7 @@ fn explain_package(explaining: Explaining<'_>, config: &str) {
             return;
         };
         if is_no_package(&package) {
-            let _ = eprintln!(rt; "{config}: line {number}: {path}");
+            print(explaining, numbered_text(rt.alloc(), config, *number, path));
             return explain_other(explaining, path);
         }
     }
@@ -109,8 +118,8 @@ fn explain_step(explaining: Explaining<'_>, schedule: &str, step: usize) {
     let Ok(text) = str::from_utf8(&bytes) else {
         return;
     };
-    if let Ok(Some((number, line))) = step_line(rt.alloc(), text, step) {
-        let _ = eprintln!(rt; "{schedule}: line {number}: {line}");
+    if let Ok(Some(text)) = step_text(rt.alloc(), schedule, text, step) {
+        print(explaining, Ok(text));
     }
 }
 
@@ -133,13 +142,12 @@ fn refusal(rt: &HostRuntime, path: &str) -> Option<io::Error> {
 /// its way.
 fn explain_unwritten(explaining: Explaining<'_>, job: &Job<'_>, path: &str) {
     let rt = explaining.runtime();
-    let _ = match refusal(rt, path) {
-        Some(error) => eprintln!(rt; "{path}: {error}"),
-        None => {
-            let reason = unwritten_reason(why_unwritten(rt, job, path));
-            eprintln!(rt; "{path}: {reason}")
-        }
-    };
+    if let Some(error) = refusal(rt, path) {
+        let _ = eprintln!(rt; "{path}: {error}");
+        return;
+    }
+    let reason = unwritten_reason(why_unwritten(rt, job, path));
+    print(explaining, reason_text(rt.alloc(), path, reason));
 }
 
 /// Prints why the history of the stores in a folder can't be written.
@@ -152,16 +160,14 @@ fn explain_history(explaining: Explaining<'_>, job: &Job<'_>, folder: &str) {
 
 /// Prints why the store of a device in a folder can't be opened.
 fn explain_store(explaining: Explaining<'_>, root: &str, device: u8, why: OpenFault) {
-    let rt = explaining.runtime();
-    let reason = store_reason(why);
-    let _ = eprintln!(rt; "{root}/{device}: {reason}");
+    let alloc = explaining.runtime().alloc();
+    print(explaining, store_text(alloc, root, device, why));
 }
 
 /// Prints why what the agent keeps in a folder can't be opened.
 fn explain_agent_store(explaining: Explaining<'_>, root: &str, why: OpenFault) {
-    let rt = explaining.runtime();
-    let reason = store_reason(why);
-    let _ = eprintln!(rt; "{root}/agent: {reason}");
+    let alloc = explaining.runtime().alloc();
+    print(explaining, agent_store_text(alloc, root, why));
 }
 
 /// Prints on standard error the clue to why a job failed, where faults are explained.
