@@ -1,4 +1,5 @@
 pub mod ClueLines
+pub mod ClueTexts
 pub mod Clues
 pub mod Identifiers
 pub mod Reasons

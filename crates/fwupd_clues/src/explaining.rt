@@ -4,19 +4,23 @@
 ghost use Rattle.std.specs.Prelude.{◌≡◌, is_err};
 ghost use Rattle.fw_package.specs.Reading.{package_of};
 
-use crate::clue_lines::{line_at, package_lines, step_line};
+use crate::clue_lines::{line_at, package_lines};
+use crate::clue_texts::{
+    agent_store_text, numbered_text, reason_text, step_text, store_text, version_text,
+};
 use crate::clues::{Clue, clue_to};
 use crate::identifiers::later_version;
-use crate::reasons::{reason, store_reason};
+use crate::reasons::reason;
 use crate::unwritten::{read_again, unwritten_reason, why_unwritten};
 use crate::warnings::warnings;
 use fw_package::Package;
 use fw_script::{ScriptFault, read_package_spec};
 use fw_store::OpenFault;
 use fwupd_watch::{
-    Files, JobFault, SystemFiles, explains, folder_and_name, history_path, is_special,
+    Explaining, Files, JobFault, SystemFiles, folder_and_name, history_path, is_special,
 };
 use fwupd_words::Job;
+use std::alloc::AllocError;
 use std::fs::OpenOptions;
 use std::io::{self, Write};
 use std::str;
@@ -24,8 +28,16 @@ use std::str;
 /// The most bytes of a line that an explanation shows.
 const LONGEST: usize = 100;
 
+/// Prints an explanation. Nothing is printed if memory was refused for its text.
+fn print(explaining: Explaining<'_>, text: Result<String, AllocError>) {
+    if let Ok(text) = text {
+        let _ = explaining.runtime().stderr().write_all(text.as_bytes());
+    }
+}
+
 /// Prints the system's error for a file that can't be read, by reading it once more.
-fn explain_unreadable(rt: &HostRuntime, path: &str) {
+fn explain_unreadable(explaining: Explaining<'_>, path: &str) {
+    let rt = explaining.runtime();
     if let Err(error) = SystemFiles::new(rt).read(rt.alloc(), path) {
         if error.kind() != io::ErrorKind::OutOfMemory {
             let _ = eprintln!(rt; "{path}: {error}");
@@ -44,18 +56,18 @@ fn is_no_package(bytes: &[u8]) -> bool
 }
 
 /// Prints the later version of the standard that a file seems to be a package of, if there is one.
-fn explain_other(rt: &HostRuntime, path: &str) {
+fn explain_other(explaining: Explaining<'_>, path: &str) {
+    let rt = explaining.runtime();
     if let Some(bytes) = read_again(rt, path)
         && let Some(version) = later_version(&bytes)
     {
-        let _ = eprintln!(rt;
-            "{path}: it seems to be a package of DSP0267 {version}, and only those of 1.0 are read"
-        );
+        print(explaining, version_text(rt.alloc(), path, version));
     }
 }
 
 /// Prints the line of a fault in a text, as far as it is short, and what is wrong with it.
-fn explain_line(rt: &HostRuntime, path: &str, fault: ScriptFault) {
+fn explain_line(explaining: Explaining<'_>, path: &str, fault: ScriptFault) {
+    let rt = explaining.runtime();
     let Some(bytes) = read_again(rt, path) else {
         return;
     };
@@ -75,7 +87,8 @@ fn explain_line(rt: &HostRuntime, path: &str, fault: ScriptFault) {
 
 /// Prints the first malformed package of a configuration, and its line there. Nothing is printed if
 /// a package before it can't be read again.
-fn explain_package(rt: &HostRuntime, config: &str) {
+fn explain_package(explaining: Explaining<'_>, config: &str) {
+    let rt = explaining.runtime();
     let Some(bytes) = read_again(rt, config) else {
         return;
     };
@@ -90,22 +103,23 @@ fn explain_package(rt: &HostRuntime, config: &str) {
             return;
         };
         if is_no_package(&package) {
-            let _ = eprintln!(rt; "{config}: line {number}: {path}");
-            return explain_other(rt, path);
+            print(explaining, numbered_text(rt.alloc(), config, *number, path));
+            return explain_other(explaining, path);
         }
     }
 }
 
 /// Prints the line of a schedule that contains a step, numbered from 1.
-fn explain_step(rt: &HostRuntime, schedule: &str, step: usize) {
+fn explain_step(explaining: Explaining<'_>, schedule: &str, step: usize) {
+    let rt = explaining.runtime();
     let Some(bytes) = read_again(rt, schedule) else {
         return;
     };
     let Ok(text) = str::from_utf8(&bytes) else {
         return;
     };
-    if let Ok(Some((number, line))) = step_line(rt.alloc(), text, step) {
-        let _ = eprintln!(rt; "{schedule}: line {number}: {line}");
+    if let Ok(Some(text)) = step_text(rt.alloc(), schedule, text, step) {
+        print(explaining, Ok(text));
     }
 }
 
@@ -126,50 +140,51 @@ fn refusal(rt: &HostRuntime, path: &str) -> Option<io::Error> {
 
 /// Prints why a file can't be written or made: the system's error, or else what of the job is in
 /// its way.
-fn explain_unwritten(rt: &HostRuntime, job: &Job<'_>, path: &str) {
-    let _ = match refusal(rt, path) {
-        Some(error) => eprintln!(rt; "{path}: {error}"),
-        None => {
-            let reason = unwritten_reason(why_unwritten(rt, job, path));
-            eprintln!(rt; "{path}: {reason}")
-        }
-    };
+fn explain_unwritten(explaining: Explaining<'_>, job: &Job<'_>, path: &str) {
+    let rt = explaining.runtime();
+    if let Some(error) = refusal(rt, path) {
+        let _ = eprintln!(rt; "{path}: {error}");
+        return;
+    }
+    let reason = unwritten_reason(why_unwritten(rt, job, path));
+    print(explaining, reason_text(rt.alloc(), path, reason));
 }
 
 /// Prints why the history of the stores in a folder can't be written.
-fn explain_history(rt: &HostRuntime, job: &Job<'_>, folder: &str) {
+fn explain_history(explaining: Explaining<'_>, job: &Job<'_>, folder: &str) {
+    let rt = explaining.runtime();
     if let Ok(path) = history_path(rt.alloc(), folder) {
-        explain_unwritten(rt, job, &path);
+        explain_unwritten(explaining, job, &path);
     }
 }
 
 /// Prints why the store of a device in a folder can't be opened.
-fn explain_store(rt: &HostRuntime, root: &str, device: u8, why: OpenFault) {
-    let reason = store_reason(why);
-    let _ = eprintln!(rt; "{root}/{device}: {reason}");
+fn explain_store(explaining: Explaining<'_>, root: &str, device: u8, why: OpenFault) {
+    let alloc = explaining.runtime().alloc();
+    print(explaining, store_text(alloc, root, device, why));
 }
 
 /// Prints why what the agent keeps in a folder can't be opened.
-fn explain_agent_store(rt: &HostRuntime, root: &str, why: OpenFault) {
-    let reason = store_reason(why);
-    let _ = eprintln!(rt; "{root}/agent: {reason}");
+fn explain_agent_store(explaining: Explaining<'_>, root: &str, why: OpenFault) {
+    let alloc = explaining.runtime().alloc();
+    print(explaining, agent_store_text(alloc, root, why));
 }
 
 /// Prints on standard error the clue to why a job failed, where faults are explained.
 pub fn explain(rt: &HostRuntime, job: &Job<'_>, fault: &JobFault) {
-    if !explains(rt) {
+    let Some(explaining) = Explaining::find(rt) else {
         return;
-    }
+    };
     match clue_to(job, fault) {
-        Some(Clue::Unread(path)) => explain_unreadable(rt, path),
-        Some(Clue::Other(path)) => explain_other(rt, path),
-        Some(Clue::Package(config)) => explain_package(rt, config),
-        Some(Clue::Line(path, fault)) => explain_line(rt, path, fault),
-        Some(Clue::Step(schedule, number)) => explain_step(rt, schedule, number),
-        Some(Clue::Unwritten(path)) => explain_unwritten(rt, job, path),
-        Some(Clue::History(folder)) => explain_history(rt, job, folder),
-        Some(Clue::Store(root, device, why)) => explain_store(rt, root, device, why),
-        Some(Clue::AgentStore(root, why)) => explain_agent_store(rt, root, why),
+        Some(Clue::Unread(path)) => explain_unreadable(explaining, path),
+        Some(Clue::Other(path)) => explain_other(explaining, path),
+        Some(Clue::Package(config)) => explain_package(explaining, config),
+        Some(Clue::Line(path, fault)) => explain_line(explaining, path, fault),
+        Some(Clue::Step(schedule, number)) => explain_step(explaining, schedule, number),
+        Some(Clue::Unwritten(path)) => explain_unwritten(explaining, job, path),
+        Some(Clue::History(folder)) => explain_history(explaining, job, folder),
+        Some(Clue::Store(root, device, why)) => explain_store(explaining, root, device, why),
+        Some(Clue::AgentStore(root, why)) => explain_agent_store(explaining, root, why),
         None => {}
     }
 }
@@ -181,15 +196,21 @@ fn warnings_again(rt: &HostRuntime, path: &str) -> Option<Vec<u8>> {
     warnings(rt.alloc(), path, &spec).ok()
 }
 
+/// Prints the warnings about the description of a package, if it can be read again.
+fn print_warnings(explaining: Explaining<'_>, path: &str) {
+    let rt = explaining.runtime();
+    if let Some(text) = warnings_again(rt, path) {
+        let _ = rt.stderr().write_all(&text);
+    }
+}
+
 /// Prints on standard error the warnings about the description of a package that was built, where
 /// faults are explained. If the description can't be read again, nothing is printed.
 pub fn warn(rt: &HostRuntime, job: &Job<'_>) {
     let Job::Build { spec, .. } = job else {
         return;
     };
-    if explains(rt)
-        && let Some(text) = warnings_again(rt, spec)
-    {
-        let _ = rt.stderr().write_all(&text);
+    if let Some(explaining) = Explaining::find(rt) {
+        print_warnings(explaining, spec);
     }
 }

@@ -3,6 +3,7 @@
 #![tactic(auto)]
 
 mod clue_lines;
+mod clue_texts;
 mod clues;
 mod explaining;
 mod identifiers;

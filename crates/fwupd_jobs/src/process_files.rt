@@ -3,11 +3,10 @@
 use fwupd_base::Watching;
 use fwupd_nodes::Observed;
 use fwupd_traces::{NodeRecord, PacketObserver, PacketTrace, ProcessWatch, TracedNode, WatchFault};
-use fwupd_watch::{JobFault, PacketProgress, process_fault};
+use fwupd_watch::{JobFault, PacketProgress, Terminal, process_fault};
 use mctp_wire::RawPacket;
 use std::alloc::Global;
 use std::fs::File;
-use std::io::IsTerminal;
 
 /// Makes the trace of a process, if it is requested.
 fn open_trace(
@@ -53,14 +52,14 @@ fn open_progress<'a>(
     rt: &'a HostRuntime,
     observed: Observed<'_>,
 ) -> Result<Option<PacketProgress<'a>>, JobFault> {
-    if !rt.stderr().is_terminal() {
+    let Some(terminal) = Terminal::find(rt, false) else {
         return Ok(None);
-    }
+    };
     let all = match observed.node {
         TracedNode::Agent(_) => Some(observed.starts.eids.len()),
         TracedNode::Device(_) => None,
     };
-    match PacketProgress::new(rt, all) {
+    match PacketProgress::new(terminal, all) {
         Ok(progress) => Ok(Some(progress)),
         Err(_) => Err(JobFault::Memory),
     }
@@ -97,6 +96,7 @@ impl<'a> PacketObserver for SystemWatch<'a> {
     ghost use Rattle.fwupd_traces.specs.Records.{RecordsPacket, RecordsUnits};
     ghost use Rattle.fwupd_traces.specs.Traces.{KeepsTrace, TracesPacket};
     ghost use Rattle.fwupd_traces.specs.Watches.{EndsAll, Optional};
+    ghost use Rattle.fwupd_watch.specs.Processes.{EndsProgress};
 
     ghost receives = { λ s p t. Optional TracesPacket s.watch.trace p t.watch.trace
         × Optional RecordsPacket s.watch.record p t.watch.record };
@@ -110,7 +110,7 @@ impl<'a> PacketObserver for SystemWatch<'a> {
     ghost begins_round = { λ s unit t. Optional (λ q u r. KeepsTrace q r) s.watch.trace unit t.watch.trace
         × Optional RecordsUnits s.watch.record unit t.watch.record };
 
-    ghost ends = { λ s r t. EndsAll (λ q e u. Prim.Unit {0})
+    ghost ends = { λ s r t. EndsAll EndsProgress
         (record { trace = s.watch.trace; recorded = s.watch.record; progress = s.watch.progress })
         r (record { trace = t.watch.trace; recorded = t.watch.record; progress = t.watch.progress }) };
 

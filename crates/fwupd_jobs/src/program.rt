@@ -19,7 +19,7 @@ use fw_store::SystemFolder;
 use fwupd_clues::{explain, warn};
 use fwupd_nodes::{Host, HostView, Parts};
 use fwupd_watch::{
-    JobFault, Observers, Output, SystemCalls, SystemFiles, WholeFiles, system_places,
+    JobFault, Observers, Output, SystemCalls, SystemFiles, Terminal, WholeFiles, system_places,
 };
 use fwupd_words::{Job, parse};
 use std::fmt::{self, Display};
@@ -143,7 +143,7 @@ fn run<'a, R: Read + Drop, W: Write + Drop>(
         input,
         wires: Sockets::new(rt),
         watch: Observers::new(rt),
-        soak_watch: SoakProgress::new(rt, runs_of(job)),
+        soak_watch: SoakProgress::new(Terminal::find(rt, false), runs_of(job)),
         places: system_places(rt),
         wiring: SystemWiring::new(rt),
         output,

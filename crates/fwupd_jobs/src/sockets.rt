@@ -9,7 +9,7 @@ use crate::socket_names::{SocketNames, SystemNames};
 use crate::write_behind::WriteBehind;
 use fw_edge::StreamLink;
 use fwupd_nodes::Wires;
-use fwupd_watch::{JobFault, explains};
+use fwupd_watch::{Explaining, JobFault};
 use mctp_wire::Unit;
 use std::alloc::{AllocError, Global};
 use std::io;
@@ -81,11 +81,9 @@ fn socket_link<N: SocketNames>(
     link
 }
 
-/// Prints on standard error, where faults are explained, why a socket couldn't be made.
-pub(crate) fn explain_socket(rt: &HostRuntime, path: &str, error: &io::Error) {
-    if !explains(rt) {
-        return;
-    }
+/// Prints why a socket couldn't be made.
+pub(crate) fn explain_socket(explaining: Explaining<'_>, path: &str, error: &io::Error) {
+    let rt = explaining.runtime();
     let _ = match error.kind() {
         io::ErrorKind::AddrInUse => eprintln!(rt;
             "{path}: this name is taken, as a run that was killed leaves it: remove it unless another run goes on"
@@ -107,10 +105,11 @@ impl<'a> Sockets<'a> {
     /// Prints on standard error, where faults are explained, why a socket couldn't be made, if one
     /// couldn't.
     pub fn explain(&self) {
-        let Some((path, error)) = &self.refused else {
-            return;
-        };
-        explain_socket(self.rt, path, error);
+        if let Some((path, error)) = &self.refused
+            && let Some(explaining) = Explaining::find(self.rt)
+        {
+            explain_socket(explaining, path, error);
+        }
     }
 }
 

@@ -6,7 +6,7 @@ use crate::process_files::{SystemWatch, open_watch};
 use crate::sockets::{explain_socket, socket_path};
 use fwupd_base::{DeviceProcess, Serving, Watching, Wire};
 use fwupd_nodes::{Joined, Network, Observed, Wiring};
-use fwupd_watch::{JobFault, explains};
+use fwupd_watch::{Explaining, JobFault};
 use fwupd_wires::{
     AgentSockets, AgentWire, DeviceSockets, DeviceWire, Front, FrontedLine, MachineClock, Port,
     SerialLine,
@@ -27,6 +27,11 @@ fn front(network: &Network, serving: Serving<'_>) -> Option<Front>
         network: network.unit,
         endpoint: network.endpoint,
     })
+}
+
+/// Prints why a serial line couldn't be opened.
+fn explain_tty(explaining: Explaining<'_>, error: &io::Error) {
+    let _ = eprintln!(explaining.runtime(); "tty: {error}");
 }
 
 /// The system's sockets and serial lines, and its clock.
@@ -52,13 +57,14 @@ impl<'a> SystemWiring<'a> {
     /// Prints on standard error, where faults are explained, why a socket or a serial line couldn't
     /// be made or opened, if one couldn't.
     pub(crate) fn explain(&self) {
+        let Some(explaining) = Explaining::find(self.rt) else {
+            return;
+        };
         if let Some((path, error)) = &self.refused {
-            explain_socket(self.rt, path, error);
+            explain_socket(explaining, path, error);
         }
-        if let Some(error) = &self.unopened
-            && explains(self.rt)
-        {
-            let _ = eprintln!(self.rt; "tty: {error}");
+        if let Some(error) = &self.unopened {
+            explain_tty(explaining, error);
         }
     }
 

@@ -11,6 +11,7 @@ pub mod Places
 pub mod Processes
 pub mod Progress
 pub mod Recordings
+pub mod Refreshes
 pub mod Running
 pub mod Serving
 pub mod Terminals

@@ -1,13 +1,7 @@
--- The lines that a run shows on a terminal, and when.
-use Rattle.std.specs.Prelude.{ℕ, ◌*◌, ◌^◌, ◌++◌, ◌||◌, ◌==◌, if◌then◌else◌, Bool, false, true, List, [], ◌∷◌, Option, None, Some, codes, nat_le}
+-- Where progress is shown and faults are explained, and what erases the progress.
+use Rattle.std.specs.Prelude.{ℕ, ◌++◌, ◌||◌, ◌==◌, if◌then◌else◌, Bool, false, true, List, [], ◌∷◌, Option, None, Some, codes}
 use Rattle.std.specs.Str.{bytes_eq}
 use Rattle.fw_text.specs.Printing.{word_and_number}
-
--- whether the display is due for an update, these nanoseconds after the last one, if there was one:
--- at most ten times a second
-abbrev pub is_due_after : Option ℕ → Bool
-is_due_after None = true
-is_due_after (Some nanos) = nat_le (100 * 10 ^ 6) nanos
 
 -- what erases a progress line, if one was shown
 abbrev pub erasure_of : (was_shown : Bool) → List ℕ

@@ -2,18 +2,20 @@
 
 ghost use Rattle.std.specs.Io.KnownBytes.{Appends};
 ghost use Rattle.std.specs.List.{list_any};
-ghost use Rattle.std.specs.Prelude.{[], ◌∷◌, ◌==◌, ◌≡◌, ◌⊎◌, IfOk, OnOk, false, is_some, true, ◌++◌};
+ghost use Rattle.std.specs.Prelude.{[], ◌∷◌, ◌==◌, ◌≡◌, ◌⊎◌, IfNone, IfOk, IfSome, None, OnOk, false, if◌then◌else◌, is_some, length, option_map, true, ◌++◌};
 ghost use Rattle.fw_text.specs.Printing.{AppendsText};
-ghost use Rattle.fwupd_watch.specs.Processes.{done_text, load_line};
+ghost use Rattle.fwupd_watch.specs.Processes.{done_text, latest_line, load_line};
+ghost use Rattle.fwupd_watch.specs.Refreshes.{shown_after, text_if_due, update_due};
 ghost use Rattle.fwupd_watch.specs.Terminals.{erasure_of};
 
 use crate::loads::{Event, Load, event_in, push_load};
-use crate::terminal::{erase_line, is_due};
+use crate::refresh::Refresh;
+use crate::terminal::{Terminal, erase_line};
 use fw_text::{push_number, push_words};
 use fwupd_traces::{PacketObserver, WatchFault};
 use mctp_wire::RawPacket;
 use std::alloc::{AllocError, Global};
-use std::io::{self, Print, Write};
+use std::io::{self, ErrorKind, Write};
 use std::time::Instant;
 
 /// The number of endpoint identifiers.
@@ -71,7 +73,7 @@ fn load_line(
 /// agent, also how many of its devices activated theirs.
 #[derive(Drop)]
 pub struct PacketProgress<'a> {
-    rt: &'a HostRuntime,
+    terminal: Terminal<'a>,
     /// The number of the agent's devices. `None` for a device.
     all: Option<usize>,
     /// The image that each device loads, by its endpoint identifier.
@@ -80,7 +82,7 @@ pub struct PacketProgress<'a> {
     done: Vec<u8>,
     /// The image that was requested last.
     latest: Option<Load>,
-    shown: Option<Instant>,
+    refresh: Refresh,
 }
 
 impl<'a> PacketProgress<'a> {
@@ -89,19 +91,22 @@ impl<'a> PacketProgress<'a> {
     ///
     /// # Errors
     /// `AllocError` if memory is refused.
-    pub fn new(rt: &'a HostRuntime, all: Option<usize>) -> Result<PacketProgress<'a>, AllocError> {
-        let alloc = rt.alloc();
+    pub fn new(terminal: Terminal<'a>, all: Option<usize>) -> Result<PacketProgress<'a>, AllocError>
+        ensures all { IfOk result (λ p. p.all ≡ all) }
+        ensures none { IfOk result (λ p. (p.done.items ≡ []) × (p.latest ≡ None) × (p.refresh.shown ≡ None)) }
+    {
+        let alloc = terminal.runtime().alloc();
         let mut loads = Vec::with_capacity(alloc, EIDS)?;
         for _ in 0..EIDS {
             loads.push(None)?;
         }
         Ok(PacketProgress {
-            rt,
+            terminal,
             all,
             loads,
             done: Vec::with_capacity(alloc, EIDS)?,
             latest: None,
-            shown: None,
+            refresh: Refresh::new(),
         })
     }
 
@@ -127,43 +132,52 @@ impl<'a> PacketProgress<'a> {
         }
     }
 
-    /// The current time, if the display is due for an update.
-    fn due(&self) -> Option<Instant> {
-        let Ok(now) = Instant::now(self.rt) else {
-            return None;
-        };
-        match self.shown {
-            Some(shown) if !is_due(Some(now.duration_since(shown))) => None,
-            _ => Some(now),
+    /// For the agent, the number of its devices that are done, and of all of them.
+    fn done(&self) -> Option<(usize, usize)>
+        ensures { result ≡ option_map (λ all. (length self.now.done.items, all)) self.now.all }
+    {
+        match self.all {
+            Some(all) => Some((self.done.len(), all)),
+            None => None,
         }
     }
 
-    /// Shows the progress, if something was requested since, and the display is due for an update.
-    fn show(&mut self) {
-        let (Some(load), Some(now)) = (self.latest, self.due()) else {
-            return;
+    /// Shows the image that was requested last on a writer, if one was requested since the last
+    /// update, and the display is due for an update at `now`.
+    fn show_on<W: Write>(&mut self, writer: &mut W, now: Option<Instant>) -> io::Result<()>
+        ensures text { OnOk result (Appends (W.contents writer.old) (W.contents writer.new)
+            (text_if_due (update_due self.old.refresh.shown now) (latest_line
+            (option_map (λ all. (length self.old.done.items, all)) self.old.all) self.old.latest))) }
+        ensures shown { OnOk result (self.new.refresh.shown
+            ≡ (if is_some self.old.latest then shown_after self.old.refresh.shown (update_due self.old.refresh.shown now)
+            else self.old.refresh.shown)) }
+        ensures latest { OnOk result (IfNone (update_due self.old.refresh.shown now) (self.new.latest ≡ self.old.latest)) }
+        ensures none { OnOk result (IfSome (update_due self.old.refresh.shown now) (λ _. self.new.latest ≡ None)) }
+    {
+        let (Some(load), Some(now)) = (self.latest, self.refresh.due(now)) else {
+            return Ok(());
         };
-        let done = match self.all {
-            Some(all) => Some((self.done.len(), all)),
-            None => None,
+        let Ok(line) = load_line(self.terminal.runtime().alloc(), self.done(), &load) else {
+            return Err(io::Error::from(ErrorKind::OutOfMemory));
         };
-        let Ok(line) = load_line(self.rt.alloc(), done, &load) else {
-            return;
-        };
-        let _ = self.rt.stderr().write_all(&line);
         self.latest = None;
-        self.shown = Some(now);
+        self.refresh.note(now);
+        writer.write_all(&line)
     }
 
-    /// Erases the progress line on a writer, if one was shown.
-    fn erase_on<W: Write>(&self, writer: &mut W) -> io::Result<()>
-        ensures { OnOk result (Appends (W.contents writer.old) (W.contents writer.new) (erasure_of (is_some self.now.shown))) }
+    /// Erases the progress line on a writer, if one is shown.
+    fn erase_on<W: Write>(&mut self, writer: &mut W) -> io::Result<()>
+        ensures erased { OnOk result (Appends (W.contents writer.old) (W.contents writer.new)
+            (erasure_of (is_some self.old.refresh.shown))) }
+        ensures none { self.new.refresh.shown ≡ None }
     {
-        erase_line(writer, self.shown.is_some())
+        erase_line(writer, self.refresh.take())
     }
 }
 
 impl<'a> PacketObserver for PacketProgress<'a> {
+    ghost use Rattle.fwupd_watch.specs.Processes.{EndsProgress};
+
     ghost receives = { λ s p t. Prim.Unit {0} };
 
     ghost sends = { λ s p t. Prim.Unit {0} };
@@ -172,12 +186,13 @@ impl<'a> PacketObserver for PacketProgress<'a> {
 
     ghost begins_round = { λ s unit t. Prim.Unit {0} };
 
-    ghost ends = { λ s r t. Prim.Unit {0} };
+    ghost ends = { λ s r t. EndsProgress s r t };
 
     fn begin(&mut self, _unit: u32) {}
 
     fn begin_round(&mut self, _unit: u32) {
-        self.show();
+        let mut stderr = self.terminal.runtime().stderr();
+        let _ = self.show_on(&mut stderr, self.terminal.now());
     }
 
     fn receive(&mut self, _stamp: u32, packet: &RawPacket) {
@@ -189,7 +204,8 @@ impl<'a> PacketObserver for PacketProgress<'a> {
     }
 
     fn end(&mut self) -> Result<(), WatchFault> {
-        let _ = self.erase_on(&mut self.rt.stderr());
+        let mut stderr = self.terminal.runtime().stderr();
+        let _ = self.erase_on(&mut stderr);
         Ok(())
     }
 }

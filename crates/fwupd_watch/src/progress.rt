@@ -1,19 +1,21 @@
 //! Shows the progress of a run on a terminal.
 
 ghost use Rattle.std.specs.Io.KnownBytes.{Appends};
-ghost use Rattle.std.specs.Prelude.{◌≡◌, OnOk};
-ghost use Rattle.fwupd_watch.specs.Progress.{end_asked, latest_end};
+ghost use Rattle.std.specs.Prelude.{[], ◌&&◌, ◌==◌, ◌≡◌, ◌⊎◌, IfNone, IfSome, None, OnOk, Some, if◌then◌else◌, length};
+ghost use Rattle.fwupd_watch.specs.Progress.{display, end_asked, latest_end};
+ghost use Rattle.fwupd_watch.specs.Refreshes.{update_due};
 ghost use Rattle.fwupd_watch.specs.Terminals.{display_erasure};
 ghost use Rattle.mctp_wire.specs.Packet.{packet_of};
 ghost use Rattle.mctp_wire.specs.declared.unit.Unit.TheVariants.{U128};
 
 use crate::loads::{Event, Load, event_in};
 use crate::progress_text::{ProgressLine, display, display_erasure, pace_since};
-use crate::terminal::is_due;
+use crate::refresh::Refresh;
+use crate::terminal::Terminal;
 use arrayvec::ArrayVec;
 use fd_core::Bank;
 use fw_world::{SentPackets, World};
-use std::io::{self, ErrorKind, Print, Write};
+use std::io::{self, ErrorKind, Write};
 use std::time::Instant;
 
 /// How many of the latest packets are searched for the device's last RequestFirmwareData.
@@ -33,12 +35,12 @@ struct FirstDisplay {
 /// second.
 #[derive(Drop)]
 pub struct ProgressDisplay<'a> {
-    rt: &'a HostRuntime,
+    terminal: Terminal<'a>,
     /// The first display of the image that each device loads, by the device's place.
     firsts: [Option<FirstDisplay>; DEVICES],
     /// The number of lines that are drawn.
     drawn: usize,
-    shown: Option<Instant>,
+    refresh: Refresh,
 }
 
 /// The end of the bytes that a packet requests, if it is a device's RequestFirmwareData (DSP0267).
@@ -100,84 +102,112 @@ fn line_at(first: &mut Option<FirstDisplay>, load: Load, now: Instant) -> Progre
     ProgressLine { load, pace }
 }
 
+/// The lines at a time: of each device that loads an image, in configured order.
+fn lines_at<B: Bank + Drop>(
+    firsts: &mut [Option<FirstDisplay>; DEVICES],
+    world: &World<'_, B>,
+    now: Instant,
+) -> ArrayVec<ProgressLine, DEVICES> {
+    let mut lines = ArrayVec::new();
+    for place in 0..DEVICES {
+        let Some(first) = firsts.get_mut(place) else {
+            return lines;
+        };
+        match load_at(world, place) {
+            Some(load) => {
+                let _ = lines.try_push(line_at(first, load, now));
+            }
+            None => *first = None,
+        }
+    }
+    lines
+}
+
 impl<'a> ProgressDisplay<'a> {
     /// Creates a display that shows nothing yet.
-    pub fn new(rt: &'a HostRuntime) -> ProgressDisplay<'a> {
+    pub fn new(terminal: Terminal<'a>) -> ProgressDisplay<'a>
+        ensures drawn { result.drawn ≡ 0 }
+        ensures none { result.refresh.shown ≡ None }
+    {
         ProgressDisplay {
-            rt,
+            terminal,
             firsts: [None; DEVICES],
             drawn: 0,
-            shown: None,
+            refresh: Refresh::new(),
         }
     }
 
-    /// The current time, if the display is due for an update.
-    fn due(&self) -> Option<Instant> {
-        let Ok(now) = Instant::now(self.rt) else {
-            return None;
-        };
-        match self.shown {
-            Some(shown) if !is_due(Some(now.duration_since(shown))) => None,
-            _ => Some(now),
-        }
-    }
-
-    /// The lines at a time: of each device that loads an image, in configured order.
-    fn lines<B: Bank + Drop>(
+    /// Draws lines on a writer at `now`, in place of those that are drawn. It does nothing if there
+    /// are none, and none are drawn.
+    fn draw_on<W: Write>(
         &mut self,
-        world: &World<'_, B>,
+        writer: &mut W,
+        lines: &[ProgressLine],
         now: Instant,
-    ) -> ArrayVec<ProgressLine, DEVICES> {
-        let mut lines = ArrayVec::new();
-        for place in 0..DEVICES {
-            let Some(first) = self.firsts.get_mut(place) else {
-                return lines;
-            };
-            match load_at(world, place) {
-                Some(load) => {
-                    let _ = lines.try_push(line_at(first, load, now));
-                }
-                None => *first = None,
-            }
+    ) -> io::Result<()>
+        ensures text { OnOk result (Appends (W.contents writer.old) (W.contents writer.new) (display self.old.drawn lines.now)) }
+        ensures drawn { OnOk result (self.new.drawn ≡ length lines.now) }
+        ensures shown { OnOk result (self.new.refresh.shown ≡ (if self.old.drawn == 0 && length lines.now == 0
+            then self.old.refresh.shown else Some now)) }
+    {
+        if lines.is_empty() && self.drawn == 0 {
+            return Ok(());
         }
-        lines
+        self.refresh.note(now);
+        let Ok(text) = display(self.terminal.runtime().alloc(), self.drawn, lines) else {
+            return Err(io::Error::from(ErrorKind::OutOfMemory));
+        };
+        self.drawn = lines.len();
+        writer.write_all(&text)
     }
 
-    /// Draws lines in place of those that are drawn.
-    fn draw(&mut self, lines: &[ProgressLine]) {
-        let Ok(text) = display(self.rt.alloc(), self.drawn, lines) else {
-            return;
+    /// Shows the progress after a turn on a writer, if the display is due for an update at `now`.
+    fn see_on<B: Bank + Drop, W: Write>(
+        &mut self,
+        writer: &mut W,
+        world: &World<'_, B>,
+        now: Option<Instant>,
+    ) -> io::Result<()>
+        ensures early { IfNone (update_due self.old.refresh.shown now)
+            (OnOk result (Appends (W.contents writer.old) (W.contents writer.new) [])
+            × (self.new.drawn ≡ self.old.drawn) × (self.new.refresh.shown ≡ self.old.refresh.shown)) }
+        ensures due { OnOk result (IfSome (update_due self.old.refresh.shown now)
+            (λ time. (self.new.refresh.shown ≡ Some time) ⊎ ((self.new.drawn ≡ 0) × (self.new.refresh.shown ≡ self.old.refresh.shown)))) }
+    {
+        let Some(now) = self.refresh.due(now) else {
+            return Ok(());
         };
-        let _ = self.rt.stderr().write_all(&text);
-        self.drawn = lines.len();
+        let lines = lines_at(&mut self.firsts, world, now);
+        self.draw_on(writer, lines.as_slice(), now)
     }
 
     /// Shows the progress after a turn, if the display is due for an update.
     pub fn see<B: Bank + Drop>(&mut self, world: &World<'_, B>) {
-        let Some(now) = self.due() else {
-            return;
-        };
-        let lines = self.lines(world, now);
-        if lines.is_empty() && self.drawn == 0 {
-            return;
-        }
-        self.draw(lines.as_slice());
-        self.shown = Some(now);
+        let mut stderr = self.terminal.runtime().stderr();
+        let _ = self.see_on(&mut stderr, world, self.terminal.now());
     }
 
     /// Erases on a writer the lines that are drawn.
-    fn erase_on<W: Write>(&self, writer: &mut W) -> io::Result<()>
-        ensures { OnOk result (Appends (W.contents writer.old) (W.contents writer.new) (display_erasure self.now.drawn)) }
+    fn erase_on<W: Write>(&mut self, writer: &mut W) -> io::Result<()>
+        ensures erased { OnOk result (Appends (W.contents writer.old) (W.contents writer.new) (display_erasure self.old.drawn)) }
+        ensures drawn { self.new.drawn ≡ 0 }
+        ensures none { self.new.refresh.shown ≡ None }
     {
-        let Ok(text) = display_erasure(self.rt.alloc(), self.drawn) else {
+        let drawn = self.drawn;
+        self.drawn = 0;
+        let _ = self.refresh.take();
+        let Ok(text) = display_erasure(self.terminal.runtime().alloc(), drawn) else {
             return Err(io::Error::from(ErrorKind::OutOfMemory));
         };
         writer.write_all(&text)
     }
 
     /// Erases the lines that are drawn.
-    pub fn end(&mut self) {
-        let _ = self.erase_on(&mut self.rt.stderr());
-        self.drawn = 0;
+    pub fn end(&mut self)
+        ensures drawn { self.new.drawn ≡ 0 }
+        ensures none { self.new.refresh.shown ≡ None }
+    {
+        let mut stderr = self.terminal.runtime().stderr();
+        let _ = self.erase_on(&mut stderr);
     }
 }

@@ -1,59 +1,91 @@
-//! The lines that a run shows on a terminal, and when.
+//! Standard error as a terminal, and the lines that are shown there.
 
-ghost use Rattle.std.specs.Duration.{as_nanos};
 ghost use Rattle.std.specs.Io.KnownBytes.{Appends};
-ghost use Rattle.std.specs.Prelude.{◌≡◌, ◌&&◌, IfOk, OnOk, not, option_map};
-ghost use Rattle.fwupd_watch.specs.Terminals.{erasure_of, explanation_of, is_due_after, is_explaining, lost_line};
+ghost use Rattle.std.specs.Prelude.{◌≡◌, ◌&&◌, IfOk, OnOk, false, is_some, not, option_map, true};
+ghost use Rattle.fwupd_watch.specs.Terminals.{erasure_of, explanation_of, is_explaining, lost_line};
 
 use fw_text::{push_number, push_words};
 use std::alloc::{AllocError, Global};
 use std::env;
 use std::io::{self, ErrorKind, IsTerminal, Write};
-use std::time::Duration;
-
-/// The least time between two updates of the display, in milliseconds.
-const PAUSE: u64 = 100;
+use std::time::Instant;
 
 /// A blank line, which covers one that was shown, between two carriage returns.
 const ERASURE: &[u8] =
     b"\r                                                                        \r";
 
-/// Returns whether the display is due for an update, when this time passed since the last one, if
-/// there was one.
-pub fn is_due(passed: Option<Duration>) -> bool
-    ensures { result ≡ is_due_after (option_map as_nanos passed) }
-{
-    match passed {
-        Some(passed) => passed >= Duration::from_millis(PAUSE),
-        None => true,
+/// Standard error, where faults are explained. What prints an explanation takes one, and
+/// [`Explaining::find`] alone makes it.
+#[derive(Clone, Copy)]
+pub struct Explaining<'a> {
+    rt: &'a HostRuntime,
+}
+
+impl<'a> Explaining<'a> {
+    /// Returns standard error if faults are explained: if it is a terminal, or the environment has
+    /// `FWUPD_EXPLAIN=1`.
+    pub fn find(rt: &'a HostRuntime) -> Option<Explaining<'a>> {
+        let is_terminal = rt.stderr().is_terminal();
+        match env::var(rt, "FWUPD_EXPLAIN") {
+            Ok(value) => Explaining::by(rt, is_terminal, Some(value.as_str())),
+            Err(_) => Explaining::by(rt, is_terminal, None),
+        }
+    }
+
+    /// Returns standard error if it is a terminal, or the variable's value, if it has one, is 1.
+    fn by(rt: &'a HostRuntime, is_terminal: bool, value: Option<&str>) -> Option<Explaining<'a>>
+        ensures { is_some result ≡ is_explaining is_terminal (option_map (λ v. v.now) value.entry) }
+    {
+        let is_explaining = match value {
+            Some(value) => is_terminal || value == "1",
+            None => is_terminal,
+        };
+        if !is_explaining {
+            return None;
+        }
+        Some(Explaining { rt })
+    }
+
+    /// Returns the runtime whose standard error this is.
+    pub fn runtime(self) -> &'a HostRuntime {
+        self.rt
     }
 }
 
-/// Returns whether faults are explained: where standard error is a terminal, or the environment has
-/// `FWUPD_EXPLAIN=1`.
-pub fn explains(rt: &HostRuntime) -> bool {
-    let is_terminal = rt.stderr().is_terminal();
-    match env::var(rt, "FWUPD_EXPLAIN") {
-        Ok(value) => is_explaining(is_terminal, Some(value.as_str())),
-        Err(_) => is_explaining(is_terminal, None),
-    }
+/// Standard error, where progress is shown. A display takes one, and [`Terminal::find`] alone makes
+/// it.
+#[derive(Clone, Copy)]
+pub struct Terminal<'a> {
+    rt: &'a HostRuntime,
 }
 
-/// Whether faults are explained: on a terminal, or if the variable's value, if it has one, is 1.
-fn is_explaining(is_terminal: bool, value: Option<&str>) -> bool
-    ensures { result ≡ is_explaining is_terminal (option_map (λ v. v.now) value.entry) }
-{
-    match value {
-        Some(value) => is_terminal || value == "1",
-        None => is_terminal,
+impl<'a> Terminal<'a> {
+    /// Returns standard error if progress is shown: if it is a terminal, unless the job is quiet.
+    pub fn find(rt: &'a HostRuntime, is_quiet: bool) -> Option<Terminal<'a>>
+        ensures { is_quiet ≡ true → is_some result ≡ false }
+    {
+        Terminal::by(rt, is_quiet, rt.stderr().is_terminal())
     }
-}
 
-/// Whether a run shows its progress: on a terminal, unless it is quiet.
-pub(crate) fn shows_progress(is_quiet: bool, is_terminal: bool) -> bool
-    ensures { result ≡ (not is_quiet && is_terminal) }
-{
-    !is_quiet && is_terminal
+    /// Returns standard error if it is a terminal, unless the job is quiet.
+    fn by(rt: &'a HostRuntime, is_quiet: bool, is_terminal: bool) -> Option<Terminal<'a>>
+        ensures { is_some result ≡ (not is_quiet && is_terminal) }
+    {
+        if is_quiet || !is_terminal {
+            return None;
+        }
+        Some(Terminal { rt })
+    }
+
+    /// Returns the current time, if the clock can be read.
+    pub fn now(self) -> Option<Instant> {
+        Instant::now(self.rt).ok()
+    }
+
+    /// Returns the runtime whose standard error this is.
+    pub fn runtime(self) -> &'a HostRuntime {
+        self.rt
+    }
 }
 
 /// Erases a progress line, if one was shown.
@@ -86,17 +118,14 @@ fn lost_line(alloc: Global, device: u8) -> Result<Vec<u8>, AllocError>
 pub(crate) fn explain_on<W: Write>(
     alloc: Global,
     writer: &mut W,
-    is_explained: bool,
+    explaining: Option<Explaining<'_>>,
     lost: Option<u8>,
 ) -> io::Result<()>
-    ensures { OnOk result (Appends (W.contents writer.old) (W.contents writer.new) (explanation_of is_explained lost)) }
+    ensures { OnOk result (Appends (W.contents writer.old) (W.contents writer.new) (explanation_of (is_some explaining.entry) lost)) }
 {
-    let Some(device) = lost else {
+    let (Some(device), Some(_)) = (lost, explaining) else {
         return Ok(());
     };
-    if !is_explained {
-        return Ok(());
-    }
     let Ok(line) = lost_line(alloc, device) else {
         return Err(io::Error::from(ErrorKind::OutOfMemory));
     };
