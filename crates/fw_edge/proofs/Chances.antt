@@ -1,7 +1,7 @@
 -- The fate of a packet, by whether it is lost and whether it is duplicated.
-use Rattle.std.proofs.Common.{◌≡◌, ◌<◌, ◌≤◌, ◌+◌, ◌%◌, ℕ, Bool, true, false, refl, sym, arith, nat_lt, if◌then◌else◌}
+use Rattle.std.proofs.Common.{◌≡◌, ◌+◌, ◌%◌, ℕ, Bool, true, false, refl, arith, nat_lt, if◌then◌else◌}
 use Rattle.std.proofs.lemmas.Bool.{ltb-false, ltb-true}
-use Rattle.fw_edge.specs.Fates.{fate_by, fate_of, word_after, word_of}
+use Rattle.fw_edge.specs.Fates.{fate_by, word_after, word_of}
 use Rattle.fw_edge.specs.Roughening.{FatesAreWithin, IsWithinRoughness}
 use Rattle.fw_edge.specs.declared.fates.Fate.TheVariants as fates
 use Rattle.fwupd_base.specs.declared.roughness.Roughness.{Roughness}

@@ -4,7 +4,7 @@ use Rattle.fw_steps.specs.Worlds.{WorldOf, eids_of}
 use Rattle.fw_steps.specs.declared.step.Step.{Step}
 use Rattle.fw_edge.specs.Drives.{DrivesCounted, delivers_in, ticks_in}
 use Rattle.fw_edge.specs.Ledgers.{ReportsFaultOfLinks, packet_counts}
-use Rattle.fw_edge.specs.Outcomes.{LinksDriveOk, LinksExchangeOk, LinksReadOk, LinksWriteErr, LinksWriteOk, PartErr, RoundErr}
+use Rattle.fw_edge.specs.Outcomes.{LinksDriveOk, LinksExchangeOk, LinksReadOk, LinksWriteErr, LinksWriteOk, PartErr, RoundErr, drive_at, link_view, read_at}
 use Rattle.fw_edge.specs.Links.{LinkBytes, LinksOf, links_at}
 use Rattle.fw_edge.specs.Turns.{RoundStops, StopsTurn}
 use Rattle.fw_edge.specs.declared.driving.EdgeFault.{EdgeFault}
@@ -20,7 +20,7 @@ frame_is_no_step e is other = absurd (cc)
 
 -- a packet isn't taken
 pub stopped_refused : {A : Type 0} (t : A → Tally) (taken gave : A → LinkBytes) (e : EdgeFault) (w : WorldOf) (ss : List Step) (written : List ℕ) (olds news : List A) → LinksWriteErr t e olds news
-    → PartErr t taken gave (RoundStops e (eids_of w.sites)) e w ss written olds w ss news
+    → PartErr (link_view t taken gave) (RoundStops e (eids_of w.sites)) e (drive_at w ss written olds) (read_at w ss news)
 stopped_refused t taken gave e w ss written olds news h = record {
   drives = drives_none w ss;
   no_tick = refl;
@@ -31,8 +31,8 @@ stopped_refused t taken gave e w ss written olds news h = record {
 
 -- an end gives no answer, after the writing
 pub stopped_reading : {A : Type 0} (t : A → Tally) (taken gave : A → LinkBytes) (e : EdgeFault) (w v : WorldOf) (before after : List Step) (written : List ℕ) (olds mids news : List A)
-    → map (λ l. (t l).failures) mids ≡ map (λ l. (t l).failures) olds → RoundErr t e w before mids v after news
-    → PartErr t taken gave (RoundStops e (eids_of w.sites)) e w before written olds v after news
+    → map (λ l. (t l).failures) mids ≡ map (λ l. (t l).failures) olds → RoundErr t e (read_at w before mids) (read_at v after news)
+    → PartErr (link_view t taken gave) (RoundStops e (eids_of w.sites)) e (drive_at w before written olds) (read_at v after news)
 stopped_reading t taken gave e w v before after written olds mids news kept h = record {
   drives = h.drives;
   no_tick = h.no_tick;
@@ -44,8 +44,8 @@ stopped_reading t taken gave e w v before after written olds mids news kept h = 
 -- a part stops after another
 pub stopped_later : {A : Type 0} (t : A → Tally) (taken gave : A → LinkBytes) (later stops : WorldOf → List Step → LinksOf → WorldOf → List Step → Type 0) (e : EdgeFault) (w u v : WorldOf)
     (before mid after : List Step) (ws us : List ℕ) (olds mids news : List A) (delivers : ℕ) → DrivesCounted w before u mid 0 delivers
-    → map (λ l. (t l).failures) mids ≡ map (λ l. (t l).failures) olds → PartErr t taken gave later e u mid us mids v after news
-    → stops w before (links_at ws (map taken olds) (map gave olds)) v after → PartErr t taken gave stops e w before ws olds v after news
+    → map (λ l. (t l).failures) mids ≡ map (λ l. (t l).failures) olds → PartErr (link_view t taken gave) later e (drive_at u mid us mids) (read_at v after news)
+    → stops w before (links_at ws (map taken olds) (map gave olds)) v after → PartErr (link_view t taken gave) stops e (drive_at w before ws olds) (read_at v after news)
 stopped_later t taken gave later stops e w u v before mid after ws us olds mids news delivers g kept h so = record {
   drives = goes_off w u v before mid after 0 delivers g h.drives;
   no_tick = h.no_tick ∙ g.ticks_rise ∙ none (ticks_in before);
@@ -120,7 +120,7 @@ pub clock_at : (e : EdgeFault) (w v : WorldOf) (before after : List Step) → St
 clock_at e w v before after h is = let stands = h.0 is in subst (λ x. x.now ≡ 2 ^ 32 - 1) (sym stands.1) stands.0
 
 -- no turn
-pub driven_none : {A : Type 0} (t : A → Tally) (w : WorldOf) (ss : List Step) (ws : List ℕ) (links : List A) → ws ≡ packet_counts w.sites → length ws ≡ length links → LinksDriveOk t 0 w ss links w ss links 0
+pub driven_none : {A : Type 0} (t : A → Tally) (w : WorldOf) (ss : List Step) (ws : List ℕ) (links : List A) → ws ≡ packet_counts w.sites → length ws ≡ length links → LinksDriveOk t 0 (read_at w ss links) (read_at w ss links) 0
 driven_none t w ss ws links all same = record {
   kept = refl;
   asked = rose_none (map (λ l. (t l).asked) links);
@@ -130,8 +130,8 @@ driven_none t w ss ws links all same = record {
 
 -- one more turn
 pub driven_on : {A : Type 0} (t : A → Tally) (turns : ℕ) (w u v : WorldOf) (before mid after : List Step) (ws us : List ℕ) (olds mids news : List A) (known more foreign : ℕ)
-    → ws ≡ packet_counts u.sites → us ≡ packet_counts v.sites → delivers_in after ≡ delivers_in mid + known → LinksDriveOk t turns w before olds u mid mids foreign
-    → LinksExchangeOk t 2 (known + more) ws us mids news → LinksDriveOk t (turns + 1) w before olds v after news (foreign + more)
+    → ws ≡ packet_counts u.sites → us ≡ packet_counts v.sites → delivers_in after ≡ delivers_in mid + known → LinksDriveOk t turns (read_at w before olds) (read_at u mid mids) foreign
+    → LinksExchangeOk t 2 (known + more) ws us mids news → LinksDriveOk t (turns + 1) (read_at w before olds) (read_at v after news) (foreign + more)
 driven_on t turns w u v before mid after ws us olds mids news known more foreign start end rise h g = record {
   kept = g.kept ∙ h.kept;
   asked =

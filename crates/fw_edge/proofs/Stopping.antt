@@ -9,7 +9,7 @@ use Rattle.fw_edge.specs.Drives.{Drives, ticks_in}
 use Rattle.fw_edge.specs.Links.{AsksForFrame, LinkBytes, FailsCall, LinksOf, CountsOne}
 use Rattle.fw_edge.specs.Ledgers.{RefusesPacket, TakesPackets}
 use Rattle.fw_edge.specs.Hearing.{IsKnown}
-use Rattle.fw_edge.specs.Outcomes.{LinkReadOk, LinkReadErr, StepErr}
+use Rattle.fw_edge.specs.Outcomes.{LinkReadOk, LinkReadErr, StepErr, link_view, read_at}
 use Rattle.fw_edge.specs.Turns.{Ask, AsksSome, ReadsAllEnds, HandlesFrames, RoundStops, both_ends, eid_in, round_ends}
 use Rattle.fw_edge.specs.declared.driving.EdgeFault.{EdgeFault}
 use Rattle.fw_edge.specs.declared.driving.EdgeFault.TheVariants as faults
@@ -88,7 +88,7 @@ memory_is_no_frame e is other = absurd (cc)
 
 -- an end gives no answer
 pub link_failed : {A : Type 0} (t : A → Tally) (e : EdgeFault) (device : ℕ) (side : Side) (w : WorldOf) (ss : List Step) (old new : A) → e ≡ faults.Frame → FailsCall (t old) (t new)
-    → LinkReadErr t e ((device, side) ∷ []) w ss old w ss new
+    → LinkReadErr t e ((device, side) ∷ []) (read_at w ss old) (read_at w ss new)
 link_failed t e device side w ss old new is f = record {
   drives = drives_none w ss;
   no_tick = refl;
@@ -114,7 +114,7 @@ rises_by o n (inr h) lt = absurd (let a = h.0 in let b = h.1 in omega arith)
 
 -- or a frame that can't be delivered
 pub link_refused : {A : Type 0} (t : A → Tally) (e : EdgeFault) (device : ℕ) (side : Side) (w v : WorldOf) (before after : List Step) (gave : Bool) (old new : A) → StepErr e w before v after
-    → (bytes : List ℕ) → IsKnown w device bytes → AsksForFrame gave (t old) (t new) → LinkReadErr t e ((device, side) ∷ []) w before old v after new
+    → (bytes : List ℕ) → IsKnown w device bytes → AsksForFrame gave (t old) (t new) → LinkReadErr t e ((device, side) ∷ []) (read_at w before old) (read_at v after new)
 link_refused t e device side w v before after gave old new r bytes known a = record {
   drives = drives_same w w v before before after (drives_none w before) r.same r.unlisted;
   no_tick = ap ticks_in r.unlisted;
@@ -138,8 +138,8 @@ link_refused t e device side w v before after gave old new r bytes known a = rec
 }
 
 -- the first of both ends
-pub link_first : {A : Type 0} (t : A → Tally) (e : EdgeFault) (device : ℕ) (w v : WorldOf) (before after : List Step) (old new : A) → LinkReadErr t e ((device, sides.Device) ∷ []) w before old v after new
-    → LinkReadErr t e (both_ends device) w before old v after new
+pub link_first : {A : Type 0} (t : A → Tally) (e : EdgeFault) (device : ℕ) (w v : WorldOf) (before after : List Step) (old new : A) → LinkReadErr t e ((device, sides.Device) ∷ []) (read_at w before old) (read_at v after new)
+    → LinkReadErr t e (both_ends device) (read_at w before old) (read_at v after new)
 link_first t e device w v before after old new h = record {
   drives = h.drives;
   no_tick = h.no_tick;
@@ -157,8 +157,8 @@ link_first t e device w v before after old new h = record {
 
 -- and the second
 pub link_second : {A : Type 0} (t : A → Tally) (taken gave : A → LinkBytes) (e : EdgeFault) (device : ℕ) (w u v : WorldOf) (before mid after : List Step) (old between new : A) (known foreign : ℕ)
-    → LinkReadOk t taken gave ((device, sides.Device) ∷ []) 1 w before old u mid between known foreign → LinkReadErr t e ((device, sides.Agent) ∷ []) u mid between v after new
-    → LinkReadErr t e (both_ends device) w before old v after new
+    → LinkReadOk (link_view t taken gave) ((device, sides.Device) ∷ []) 1 (read_at w before old) (read_at u mid between) known foreign → LinkReadErr t e ((device, sides.Agent) ∷ []) (read_at u mid between) (read_at v after new)
+    → LinkReadErr t e (both_ends device) (read_at w before old) (read_at v after new)
 link_second t taken gave e device w u v before mid after old between new known foreign h k = record {
   drives = goes_off w u v before mid after 0 known h.goes k.drives;
   no_tick = (let first = h.goes.ticks_rise in let second = k.no_tick in omega arith);

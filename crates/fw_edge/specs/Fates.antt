@@ -1,6 +1,6 @@
 -- The fate of a packet on a rough link: the numbers of a generator determine it, so a seed
 -- determines the fates of all packets.
-use Rattle.std.specs.Prelude.{ℕ, ◌≡◌, ◌+◌, ◌%◌, if◌then◌else◌, nat_lt}
+use Rattle.std.specs.Prelude.{ℕ, ◌+◌, ◌%◌, if◌then◌else◌, nat_lt}
 use Rattle.fw_edge.specs.declared.fates.Fate.{Fate}
 use Rattle.fw_edge.specs.declared.fates.Fate.TheVariants as fates
 use Rattle.fwupd_base.specs.declared.roughness.Roughness.{Roughness}

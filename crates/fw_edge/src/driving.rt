@@ -5,7 +5,7 @@ ghost use Rattle.fw_edge.specs.Drives.{Drives, DrivesCounted, DrivesLiving, all_
 ghost use Rattle.fw_edge.specs.Links.{links_at};
 ghost use Rattle.fw_edge.specs.Turns.{DrivesTurns, StopsDrive, StopsTurn, TakesTurn};
 ghost use Rattle.fw_edge.specs.Ledgers.{packet_counts};
-ghost use Rattle.fw_edge.specs.Outcomes.{PartOk, DriveOk, DriveErr, TurnErr};
+ghost use Rattle.fw_edge.specs.Outcomes.{PartOk, DriveOk, DriveErr, TurnErr, drive_at, link_view, read_at};
 
 use crate::link::Link;
 use crate::outgoing::sent_at;
@@ -62,12 +62,13 @@ fn turn<B: Bank + Drop, L: Link>(
     requires few { length links.old ≤ 16 }
     requires written { length written.old ≡ length links.old }
     requires all { written.old ≡ packet_counts world.old.sites }
-    ensures done { IfOk result (λ f. PartOk L.tally L.taken L.gave TakesTurn 1 1055 world.old
-        steps.old.items written.old links.old world.new steps.new.items written.new links.new
-        f.known f.foreign) }
+    ensures done { IfOk result (λ f. PartOk (link_view L.tally L.taken L.gave) TakesTurn 1 1055
+        (drive_at world.old steps.old.items written.old links.old)
+        (drive_at world.new steps.new.items written.new links.new) f.known f.foreign) }
     ensures all { OnOk result (written.new ≡ packet_counts world.new.sites) }
-    ensures stopped { IfErr result (λ e. TurnErr L.tally L.taken L.gave e world.old steps.old.items
-        written.old links.old world.new steps.new.items links.new) }
+    ensures stopped { IfErr result (λ e. TurnErr (link_view L.tally L.taken L.gave) e
+        (drive_at world.old steps.old.items written.old links.old)
+        (read_at world.new steps.new.items links.new)) }
     ensures links { length links.new ≡ length links.old }
     ensures written { length written.new ≡ length written.old }
 {
@@ -102,12 +103,14 @@ fn take_turns<B: Bank + Drop, L: Link>(
     requires written { length written.old ≡ length links.old }
     requires all { written.old ≡ packet_counts world.old.sites }
     ensures drives { Drives world.old steps.old.items world.new steps.new.items }
-    ensures done { IfOk result (λ d. DriveOk L.tally L.taken L.gave turns world.old steps.old.items
-        written.old links.old world.new steps.new.items written.new links.new d.turns d.foreign) }
+    ensures done { IfOk result (λ d. DriveOk (link_view L.tally L.taken L.gave) turns
+        (drive_at world.old steps.old.items written.old links.old)
+        (drive_at world.new steps.new.items written.new links.new) d.turns d.foreign) }
     ensures over { all_over world.old ≡ true → steps.new.items ≡ steps.old.items }
     ensures all { OnOk result (written.new ≡ packet_counts world.new.sites) }
-    ensures stopped { IfErr result (λ e. DriveErr L.tally L.taken L.gave turns e world.old
-        steps.old.items written.old links.old world.new steps.new.items links.new) }
+    ensures stopped { IfErr result (λ e. DriveErr (link_view L.tally L.taken L.gave) turns e
+        (drive_at world.old steps.old.items written.old links.old)
+        (read_at world.new steps.new.items links.new)) }
     ensures links { length links.new ≡ length links.old }
 {
     let mut foreign = 0;
@@ -148,13 +151,14 @@ pub fn drive<B: Bank + Drop, L: Link>(
 ) -> Result<Driven, EdgeFault>
     requires { length links.old ≡ length world.old.sites }
     ensures drives { DrivesLiving world.old steps.old.items world.new steps.new.items }
-    ensures done { IfOk result (λ d. DriveOk L.tally L.taken L.gave turns world.old steps.old.items
-        (packet_counts world.old.sites) links.old world.new steps.new.items
-        (packet_counts world.new.sites) links.new d.turns d.foreign) }
+    ensures done { IfOk result (λ d. DriveOk (link_view L.tally L.taken L.gave) turns
+        (drive_at world.old steps.old.items (packet_counts world.old.sites) links.old)
+        (drive_at world.new steps.new.items (packet_counts world.new.sites) links.new)
+        d.turns d.foreign) }
     ensures over { all_over world.old ≡ true → steps.new.items ≡ steps.old.items }
-    ensures stopped { IfErr result (λ e. DriveErr L.tally L.taken L.gave turns e world.old
-        steps.old.items (packet_counts world.old.sites) links.old world.new steps.new.items
-        links.new) }
+    ensures stopped { IfErr result (λ e. DriveErr (link_view L.tally L.taken L.gave) turns e
+        (drive_at world.old steps.old.items (packet_counts world.old.sites) links.old)
+        (read_at world.new steps.new.items links.new)) }
     ensures devices { length links.new ≡ length world.new.sites }
 {
     let mut written = all_sent(world);

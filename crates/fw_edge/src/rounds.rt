@@ -6,7 +6,7 @@ ghost use Rattle.fw_edge.specs.Turns.{ReadsAllEnds, ReadsEnds, ExchangeStops, Ta
 ghost use Rattle.fw_edge.specs.Drives.{Drives, DrivesCounted};
 ghost use Rattle.fw_edge.specs.Hearing.{IsHeard, IsKnown};
 ghost use Rattle.fw_edge.specs.Ledgers.{NoCountFalls, packet_counts};
-ghost use Rattle.fw_edge.specs.Outcomes.{LinkReadOk, LinkReadErr, PartOk, PartErr, RoundOk, RoundErr, StepErr};
+ghost use Rattle.fw_edge.specs.Outcomes.{LinkReadOk, LinkReadErr, PartOk, PartErr, RoundOk, RoundErr, StepErr, drive_at, link_view, read_at};
 ghost use Rattle.fw_steps.specs.Steps.{may_step};
 ghost use Rattle.fw_steps.specs.Worlds.{eids_of};
 ghost use Rattle.fw_steps.specs.declared.step.Step.{Step};
@@ -118,10 +118,12 @@ fn read_end<B: Bank + Drop, L: Link>(
     packet: &mut RawPacket,
     steps: &mut Vec<Step>,
 ) -> Result<Frames, EdgeFault>
-    ensures read { IfOk result (λ f. LinkReadOk L.tally L.taken L.gave ((device, end) ∷ []) 1
-        world.old steps.old.items link.old world.new steps.new.items link.new f.known f.foreign) }
-    ensures stopped { IfErr result (λ e. LinkReadErr L.tally e ((device, end) ∷ []) world.old
-        steps.old.items link.old world.new steps.new.items link.new) }
+    ensures read { IfOk result (λ f. LinkReadOk (link_view L.tally L.taken L.gave) ((device, end) ∷ []) 1
+        (read_at world.old steps.old.items link.old) (read_at world.new steps.new.items link.new)
+        f.known f.foreign) }
+    ensures stopped { IfErr result (λ e. LinkReadErr L.tally e ((device, end) ∷ [])
+        (read_at world.old steps.old.items link.old)
+        (read_at world.new steps.new.items link.new)) }
 {
     let came = match link.receive_into(end, packet) {
         Ok(came) => came,
@@ -144,10 +146,12 @@ fn read_both<B: Bank + Drop, L: Link>(
     packet: &mut RawPacket,
     steps: &mut Vec<Step>,
 ) -> Result<Frames, EdgeFault>
-    ensures read { IfOk result (λ f. LinkReadOk L.tally L.taken L.gave (both_ends device) 2
-        world.old steps.old.items link.old world.new steps.new.items link.new f.known f.foreign) }
-    ensures stopped { IfErr result (λ e. LinkReadErr L.tally e (both_ends device) world.old
-        steps.old.items link.old world.new steps.new.items link.new) }
+    ensures read { IfOk result (λ f. LinkReadOk (link_view L.tally L.taken L.gave) (both_ends device) 2
+        (read_at world.old steps.old.items link.old) (read_at world.new steps.new.items link.new)
+        f.known f.foreign) }
+    ensures stopped { IfErr result (λ e. LinkReadErr L.tally e (both_ends device)
+        (read_at world.old steps.old.items link.old)
+        (read_at world.new steps.new.items link.new)) }
 {
     let first = match read_end(world, device, Side::Device, link, packet, steps) {
         Ok(frames) => frames,
@@ -178,10 +182,11 @@ fn read_round<B: Bank + Drop, L: Link>(
 ) -> Result<Frames, EdgeFault>
     requires few { length links.old ≤ 16 }
     requires devices { length links.old ≡ length world.old.sites }
-    ensures read { IfOk result (λ f. RoundOk L.tally L.taken L.gave world.old steps.old.items
-        links.old world.new steps.new.items links.new f.known f.foreign) }
-    ensures stopped { IfErr result (λ e. RoundErr L.tally e world.old steps.old.items links.old
-        world.new steps.new.items links.new) }
+    ensures read { IfOk result (λ f. RoundOk (link_view L.tally L.taken L.gave)
+        (read_at world.old steps.old.items links.old) (read_at world.new steps.new.items links.new)
+        f.known f.foreign) }
+    ensures stopped { IfErr result (λ e. RoundErr L.tally e (read_at world.old steps.old.items links.old)
+        (read_at world.new steps.new.items links.new)) }
     ensures links { length links.new ≡ length links.old }
 {
     let mut frames = Frames::none();
@@ -207,13 +212,15 @@ fn round<B: Bank + Drop, L: Link>(
     requires few { length links.old ≤ 16 }
     requires written { length written.old ≡ length links.old }
     requires within { NoCountFalls written.old (packet_counts world.old.sites) }
-    ensures done { IfOk result (λ f. PartOk L.tally L.taken L.gave
-        (RoundOf (eids_of world.old.sites)) 0 32 world.old steps.old.items written.old links.old
-        world.new steps.new.items written.new links.new f.known f.foreign) }
+    ensures done { IfOk result (λ f. PartOk (link_view L.tally L.taken L.gave)
+        (RoundOf (eids_of world.old.sites)) 0 32
+        (drive_at world.old steps.old.items written.old links.old)
+        (drive_at world.new steps.new.items written.new links.new) f.known f.foreign) }
     ensures within { OnOk result (NoCountFalls written.new (packet_counts world.new.sites)) }
-    ensures stopped { IfErr result (λ e. PartErr L.tally L.taken L.gave
-        (RoundStops e (eids_of world.old.sites)) e world.old steps.old.items written.old links.old
-        world.new steps.new.items links.new) }
+    ensures stopped { IfErr result (λ e. PartErr (link_view L.tally L.taken L.gave)
+        (RoundStops e (eids_of world.old.sites)) e
+        (drive_at world.old steps.old.items written.old links.old)
+        (read_at world.new steps.new.items links.new)) }
     ensures links { length links.new ≡ length links.old }
     ensures written { length written.new ≡ length written.old }
 {
@@ -239,13 +246,15 @@ fn rounds<B: Bank + Drop, L: Link>(
     requires few { length links.old ≤ 16 }
     requires written { length written.old ≡ length links.old }
     requires within { NoCountFalls written.old (packet_counts world.old.sites) }
-    ensures done { IfOk result (λ f. PartOk L.tally L.taken L.gave
-        (TakesRounds (eids_of world.old.sites)) 0 1055 world.old steps.old.items written.old
-        links.old world.new steps.new.items written.new links.new f.known f.foreign) }
+    ensures done { IfOk result (λ f. PartOk (link_view L.tally L.taken L.gave)
+        (TakesRounds (eids_of world.old.sites)) 0 1055
+        (drive_at world.old steps.old.items written.old links.old)
+        (drive_at world.new steps.new.items written.new links.new) f.known f.foreign) }
     ensures within { OnOk result (NoCountFalls written.new (packet_counts world.new.sites)) }
-    ensures stopped { IfErr result (λ e. PartErr L.tally L.taken L.gave
-        (RoundsStop e (eids_of world.old.sites)) e world.old steps.old.items written.old links.old
-        world.new steps.new.items links.new) }
+    ensures stopped { IfErr result (λ e. PartErr (link_view L.tally L.taken L.gave)
+        (RoundsStop e (eids_of world.old.sites)) e
+        (drive_at world.old steps.old.items written.old links.old)
+        (read_at world.new steps.new.items links.new)) }
     ensures links { length links.new ≡ length links.old }
     ensures written { length written.new ≡ length written.old }
 {
@@ -273,13 +282,15 @@ pub(crate) fn exchange<B: Bank + Drop, L: Link>(
     requires few { length links.old ≤ 16 }
     requires written { length written.old ≡ length links.old }
     requires within { NoCountFalls written.old (packet_counts world.old.sites) }
-    ensures done { IfOk result (λ f. PartOk L.tally L.taken L.gave
-        (TakesExchange (eids_of world.old.sites)) 0 1055 world.old steps.old.items written.old
-        links.old world.new steps.new.items written.new links.new f.known f.foreign) }
+    ensures done { IfOk result (λ f. PartOk (link_view L.tally L.taken L.gave)
+        (TakesExchange (eids_of world.old.sites)) 0 1055
+        (drive_at world.old steps.old.items written.old links.old)
+        (drive_at world.new steps.new.items written.new links.new) f.known f.foreign) }
     ensures all { OnOk result (written.new ≡ packet_counts world.new.sites) }
-    ensures stopped { IfErr result (λ e. PartErr L.tally L.taken L.gave
-        (ExchangeStops e (eids_of world.old.sites)) e world.old steps.old.items written.old
-        links.old world.new steps.new.items links.new) }
+    ensures stopped { IfErr result (λ e. PartErr (link_view L.tally L.taken L.gave)
+        (ExchangeStops e (eids_of world.old.sites)) e
+        (drive_at world.old steps.old.items written.old links.old)
+        (read_at world.new steps.new.items links.new)) }
     ensures links { length links.new ≡ length links.old }
     ensures written { length written.new ≡ length written.old }
 {

@@ -2,7 +2,7 @@ use Rattle.std.proofs.Common.{◌≡◌, ◌≤◌, ◌+◌, ◌*◌, length, ma
 use Rattle.fw_edge.specs.Drives.{Drives, all_over, ticks_in}
 use Rattle.fw_edge.specs.Ledgers.{packet_counts}
 use Rattle.fw_edge.specs.Links.{links_at}
-use Rattle.fw_edge.specs.Outcomes.{LinksDriveOk}
+use Rattle.fw_edge.specs.Outcomes.{LinksDriveOk, read_at}
 use Rattle.fw_edge.specs.Turns.{DrivesTurns}
 use Rattle.fw_edge.proofs.driving.take_turns.Given as goal
 
@@ -16,6 +16,6 @@ invariant-loop-count g l = record {
   same : length l.links ≡ length l.fn.links;
   written : length l.written ≡ length l.links;
   few : l.foreign ≤ 1055 * l.count;
-  counts : LinksDriveOk g.L.Link.tally l.count l.fn.world l.fn.steps.items l.fn.links l.world l.steps.items l.links l.foreign;
+  counts : LinksDriveOk g.L.Link.tally l.count (read_at l.fn.world l.fn.steps.items l.fn.links) (read_at l.world l.steps.items l.links) l.foreign;
   all : l.written ≡ packet_counts l.world.sites;
 }
