@@ -389,7 +389,7 @@ fn serve_kept<'p, H: Parts>(
         })) }
     ensures untouched { host.new.watch ≡ host.old.watch }
 {
-    let (node, keeper) = match open_agent(alloc, &host.stores, root, setup) {
+    let (node, keeper) = match open_agent(alloc, &mut host.stores, root, setup) {
         Ok(opened) => opened,
         Err(fault) => return Err(fault),
     };
