@@ -8,6 +8,7 @@ use Rattle.fw_store.specs.Kept.{KeptOf, image_for}
 use Rattle.fw_store.specs.Opening.{found_in}
 use Rattle.fw_store.specs.declared.faults.OpenFault.{OpenFault}
 use Rattle.fw_store.specs.declared.faults.OpenFault.TheVariants as reasons
+use Rattle.fw_setup.specs.Paths.{store_path}
 use Rattle.fw_setup.specs.declared.stores.Unopened.{Unopened}
 
 -- the image that a component is configured with
@@ -39,6 +40,10 @@ pub record StoresOf : Type 0 where
 -- the facts about the stores in the folder of all stores
 abbrev pub stores_in : Bool → ((root : List ℕ) → (device : ℕ) → Files) → (root : List ℕ) → StoresOf
 stores_in is_known files root = record { is_known = is_known; files = files root }
+
+-- the paths of the folders of these devices' stores, in their order
+abbrev pub store_paths : (root : List ℕ) → List DeviceConfigOf → List (List ℕ)
+store_paths root xs = map (λ x. store_path root x.endpoint.eid) xs
 
 -- A device with the images that are found in its folder, in place of its configured images.
 pub record HasStoredImages (s : StoresOf) (x y : DeviceConfigOf) : Type 0 where

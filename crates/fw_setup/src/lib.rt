@@ -19,4 +19,4 @@ pub use foretold::{
 pub use nodes::{device_node, opening_world, opening_world_over};
 pub use stocks::{configured_images, stock};
 pub use store_banks::StoreBanks;
-pub use stores::{Stores, SystemStores, Unopened, open_stores, read_stores};
+pub use stores::{ReadStores, Stores, SystemStores, Unopened, open_stores, read_stores};

@@ -9,7 +9,7 @@ ghost use Rattle.fwupd_nodes.specs.Setups.{source_of};
 use crate::numbering::{is_numbered, numbered};
 use fw_json::plan_in;
 use fw_script::Config;
-use fw_setup::{Stores, forecast};
+use fw_setup::{ReadStores, forecast};
 use fw_store::Folder;
 use fwupd_nodes::{configured, package_files, packages_in, read_kept};
 use fwupd_watch::{Files, JobFault, Output};
@@ -26,7 +26,7 @@ use std::io::Write;
 /// package of this number; of each of its packages; `Store` of the first device whose store can't
 /// be read. `Output` if the text can't be written; a beginning of it may be written. `Memory` if
 /// memory is refused; nothing is written then.
-pub fn plan_file<F: Files, D: Folder + Drop, T: Stores<D>, W: Write + Drop>(
+pub fn plan_file<F: Files, D: Folder + Drop, T: ReadStores<D>, W: Write + Drop>(
     alloc: Global,
     files: &F,
     stores: &T,

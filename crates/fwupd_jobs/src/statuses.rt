@@ -8,7 +8,7 @@ ghost use Rattle.fwupd_nodes.specs.Setups.{source_of};
 
 use fw_json::status_in;
 use fw_script::Config;
-use fw_setup::Stores;
+use fw_setup::ReadStores;
 use fw_store::Folder;
 use fwupd_nodes::{configured, read_kept};
 use fwupd_watch::{Files, JobFault, Output};
@@ -23,7 +23,7 @@ use std::io::Write;
 /// The first fault of the configuration and its images; `Store` of the first device whose store
 /// can't be read. `Output` if the text can't be written; a beginning of it may be written. `Memory`
 /// if memory is refused; nothing is written then.
-pub fn status_file<F: Files, D: Folder + Drop, T: Stores<D>, W: Write + Drop>(
+pub fn status_file<F: Files, D: Folder + Drop, T: ReadStores<D>, W: Write + Drop>(
     alloc: Global,
     files: &F,
     stores: &T,

@@ -368,7 +368,7 @@ pub fn update_files<H: Parts>(
         }
     };
     let mut devices = devices;
-    let mut banks = match open_kept(alloc, &host.stores, root, &mut devices) {
+    let mut banks = match open_kept(alloc, &mut host.stores, root, &mut devices) {
         Ok(banks) => banks,
         Err(fault) => return Err(fault),
     };

@@ -353,7 +353,7 @@ fn serve_kept<'p, H: Parts>(
         packages.now e host.old.output (⟦<Host<H> as HostView>⟧.agent_left host.old host.new)) }
     ensures untouched { host.new.watch ≡ host.old.watch }
 {
-    let (node, keeper) = match open_agent(alloc, &host.stores, root, setup) {
+    let (node, keeper) = match open_agent(alloc, &mut host.stores, root, setup) {
         Ok(opened) => opened,
         Err(fault) => return Err(fault),
     };

@@ -123,15 +123,15 @@ fn claimed_node<F: Folder>(
 #[tactic(auto, using(crate::proofs::AgentStores::begins))]
 pub fn open_agent<F: Folder + Drop, T: Stores<F>>(
     alloc: Global,
-    stores: &T,
+    stores: &mut T,
     root: &str,
     setup: &AgentSetup<'_>,
 ) -> Result<(AgentNode, FolderKeeper<F>), JobFault>
     requires { length setup.now.eids.now ≤ 16 }
-    ensures begins { IfOk result (λ opened. IfSome (agent_store_in (T.is_known stores.now)
-        (T.agent_files stores.now) root.now) (λ files. BeginsWithStore files
+    ensures begins { IfOk result (λ opened. IfSome (agent_store_in (T.is_known stores.old)
+        (T.agent_files stores.old) root.now) (λ files. BeginsWithStore files
         (agent_setup_seen setup.now) opened.0)) }
-    ensures known { IfOk result (λ opened. T.is_known stores.now ≡ true → opened.1.is_known ≡ true) }
+    ensures known { IfOk result (λ opened. T.is_known stores.old ≡ true → opened.1.is_known ≡ true) }
     ensures claimed { IfOk result (λ opened. opened.1.is_known ≡ true → opened.1.packages
         ≡ Some (packages_text (map (λ p. p.items) setup.now.contents.now))) }
 {

@@ -189,7 +189,7 @@ fn serve_stored<H: Parts>(
         agent,
         mut only,
     } = setup;
-    let mut banks = match open_kept(alloc, &host.stores, root, &mut only) {
+    let mut banks = match open_kept(alloc, &mut host.stores, root, &mut only) {
         Ok(banks) => banks,
         Err(fault) => return Err(fault),
     };

@@ -17,7 +17,7 @@ use fw_script::{
     Config, DeviceConfig, ScheduleLine, ScriptCause, ScriptFault, read_config, read_lines,
     step_count,
 };
-use fw_setup::{StoreBanks, Stores, Unopened, open_stores, read_stores};
+use fw_setup::{ReadStores, StoreBanks, Stores, Unopened, open_stores, read_stores};
 use fw_store::{Folder, OpenFault};
 use fwupd_watch::{FileFault, Files, JobFault};
 use std::alloc::{AllocError, Global};
@@ -192,7 +192,7 @@ pub fn packages_in<'p>(alloc: Global, contents: &'p [Vec<u8>]) -> Result<Vec<Pac
 /// # Errors
 /// `Store` of the first device whose store can't be read, and `Memory`.
 #[tactic(auto, using(crate::proofs::Packed::told_unopened))]
-pub fn read_kept<D: Folder + Drop, T: Stores<D>>(
+pub fn read_kept<D: Folder + Drop, T: ReadStores<D>>(
     alloc: Global,
     stores: &T,
     root: Option<&str>,
@@ -226,18 +226,18 @@ pub fn read_kept<D: Folder + Drop, T: Stores<D>>(
 #[tactic(auto, using(crate::proofs::Packed::told_unopened))]
 pub fn open_kept<D: Folder + Drop, T: Stores<D>>(
     alloc: Global,
-    stores: &T,
+    stores: &mut T,
     root: &str,
     devices: &mut Vec<DeviceConfig>,
 ) -> Result<StoreBanks<D>, JobFault>
-    ensures stocked { OnOk result (HaveStoredImages (stores_in (T.is_known stores.now)
-        (T.files stores.now) root.now) (map device_of devices.old.items)
+    ensures stocked { OnOk result (HaveStoredImages (stores_in (T.is_known stores.old)
+        (T.files stores.old) root.now) (map device_of devices.old.items)
         (map device_of devices.new.items)) }
     ensures whole { OnOk result ((agent : ℕ)
         → AreWhole agent (map device_of devices.old.items)
         → AreWhole agent (map device_of devices.new.items)) }
     ensures fault { IfErr result (λ e. (e ≡ JobFault.Memory)
-        ⊎ TellsUnopened (stores_in (T.is_known stores.now) (T.files stores.now) root.now)
+        ⊎ TellsUnopened (stores_in (T.is_known stores.old) (T.files stores.old) root.now)
         (map device_of devices.old.items) e) }
 {
     match open_stores(alloc, stores, root, devices.as_mut_slice()) {

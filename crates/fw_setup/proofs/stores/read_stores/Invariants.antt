@@ -4,4 +4,4 @@ use Rattle.fw_setup.proofs.stores.read_stores.Given as goal
 
 -- the devices so far have the images that their folders keep
 abbrev pub invariant-loop-device : goal.invariant-loop-device
-invariant-loop-device g l = AreSeenSoFar (stores_in (g.S.Stores.is_known l.stores) (g.S.Stores.files l.stores) l.root) l.fn.devices l.devices l.device-index
+invariant-loop-device g l = AreSeenSoFar (stores_in (g.S.ReadStores.is_known l.stores) (g.S.ReadStores.files l.stores) l.root) l.fn.devices l.devices l.device-index

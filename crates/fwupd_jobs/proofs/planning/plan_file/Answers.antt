@@ -16,7 +16,7 @@ pub returns-in-Ok-write-clause-ok : goal.returns-in-Ok-write-clause-ok
 returns-in-Ok-write-clause-ok g c = record {
   text = c.in-Ok-plan_in.text.items;
   forecasts =
-      foretold (g.F.Files.holds c.args.files.now) (source_of (stores_in (g.T.Stores.is_known c.args.stores.now) (g.T.Stores.files c.args.stores.now)) (option_map (λ p. p.now) c.args.job.store) (config_source c.args.job.config)) c.args.job.number c.args.job.form c.in-Ok.config c.as_slice.result.now c.in-Ok-package_files.contents.items c.as_slice-2.result.now
+      foretold (g.F.Files.holds c.args.files.now) (source_of (stores_in (g.T.ReadStores.is_known c.args.stores.now) (g.T.ReadStores.files c.args.stores.now)) (option_map (λ p. p.now) c.args.job.store) (config_source c.args.job.config)) c.args.job.number c.args.job.form c.in-Ok.config c.as_slice.result.now c.in-Ok-package_files.contents.items c.as_slice-2.result.now
       c.in-Ok-packages_in.packages.items c.as_slice-3.result.now c.in-Some.contents.now c.read_kept.new.devices.items c.as_slice-4.result.now c.in-Ok-plan_in.text.items
       c.in-Ok.ensures.says c.as_slice.ensures.value c.in-Ok-package_files.ensures.packed c.as_slice-2.ensures.value c.in-Ok-packages_in.ensures.is c.as_slice-3.ensures.value
       c.in-Some.ensures.is c.in-Some.ensures.there.0 c.in-Some.ensures.there.1 c.in-Ok-read_kept.ensures.devices c.as_slice-4.ensures.value c.in-Ok-plan_in.ensures;
@@ -25,9 +25,9 @@ returns-in-Ok-write-clause-ok g c = record {
 
 pub returns-clause-fault : goal.returns-clause-fault
 returns-clause-fault g c =
-    plan_breaks (g.F.Files.holds c.args.files.now) (source_of (stores_in (g.T.Stores.is_known c.args.stores.now) (g.T.Stores.files c.args.stores.now)) (option_map (λ p. p.now) c.args.job.store) (config_source c.args.job.config)) c.args.job.number c.args.job.form c.in-Ok-plan_in.text.items c.in-Err-write.fault c.args.output.now c.write.new.self
+    plan_breaks (g.F.Files.holds c.args.files.now) (source_of (stores_in (g.T.ReadStores.is_known c.args.stores.now) (g.T.ReadStores.files c.args.stores.now)) (option_map (λ p. p.now) c.args.job.store) (config_source c.args.job.config)) c.args.job.number c.args.job.form c.in-Ok-plan_in.text.items c.in-Err-write.fault c.args.output.now c.write.new.self
     c.in-Err-write.ensures.fault
-    (foretold (g.F.Files.holds c.args.files.now) (source_of (stores_in (g.T.Stores.is_known c.args.stores.now) (g.T.Stores.files c.args.stores.now)) (option_map (λ p. p.now) c.args.job.store) (config_source c.args.job.config)) c.args.job.number c.args.job.form c.in-Ok.config c.as_slice.result.now c.in-Ok-package_files.contents.items c.as_slice-2.result.now
+    (foretold (g.F.Files.holds c.args.files.now) (source_of (stores_in (g.T.ReadStores.is_known c.args.stores.now) (g.T.ReadStores.files c.args.stores.now)) (option_map (λ p. p.now) c.args.job.store) (config_source c.args.job.config)) c.args.job.number c.args.job.form c.in-Ok.config c.as_slice.result.now c.in-Ok-package_files.contents.items c.as_slice-2.result.now
     c.in-Ok-packages_in.packages.items c.as_slice-3.result.now c.in-Some.contents.now c.read_kept.new.devices.items c.as_slice-4.result.now c.in-Ok-plan_in.text.items
     c.in-Ok.ensures.says c.as_slice.ensures.value c.in-Ok-package_files.ensures.packed c.as_slice-2.ensures.value c.in-Ok-packages_in.ensures.is c.as_slice-3.ensures.value
     c.in-Some.ensures.is c.in-Some.ensures.there.0 c.in-Some.ensures.there.1 c.in-Ok-read_kept.ensures.devices c.as_slice-4.ensures.value c.in-Ok-plan_in.ensures)
@@ -51,7 +51,7 @@ returns-in-Err-package_files-clause-fault g c =
 
 pub returns-in-Err-read_kept-clause-fault : goal.returns-in-Err-read_kept-clause-fault
 returns-in-Err-read_kept-clause-fault g c =
-    lacks_images (g.F.Files.holds c.args.files.now) (source_of (stores_in (g.T.Stores.is_known c.args.stores.now) (g.T.Stores.files c.args.stores.now)) (option_map (λ p. p.now) c.args.job.store) (config_source c.args.job.config)) c.args.job.number c.args.job.form c.in-Ok.config c.as_slice.result.now c.in-Ok-packages_in.packages.items c.in-Err-read_kept.fault c.args.output.now
+    lacks_images (g.F.Files.holds c.args.files.now) (source_of (stores_in (g.T.ReadStores.is_known c.args.stores.now) (g.T.ReadStores.files c.args.stores.now)) (option_map (λ p. p.now) c.args.job.store) (config_source c.args.job.config)) c.args.job.number c.args.job.form c.in-Ok.config c.as_slice.result.now c.in-Ok-packages_in.packages.items c.in-Err-read_kept.fault c.args.output.now
     c.in-Ok.ensures.says c.as_slice.ensures.value
     (named_there (g.F.Files.holds c.args.files.now) c.in-Ok.config c.as_slice.result.now c.in-Ok-package_files.contents.items c.as_slice-2.result.now c.in-Ok-packages_in.packages.items c.as_slice.ensures.value
     c.in-Ok-package_files.ensures.packed c.as_slice-2.ensures.value c.in-Ok-packages_in.ensures.is)
