@@ -7,6 +7,7 @@ mod Ends
 mod Noted
 mod Opening
 mod Overs
+mod PathCalls
 mod Paths
 mod Put
 mod Refused

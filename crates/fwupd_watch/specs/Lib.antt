@@ -6,6 +6,7 @@ pub mod Inputs
 pub mod Loads
 pub mod Openings
 pub mod Outputs
+pub mod PathCalls
 pub mod Paths
 pub mod Places
 pub mod Processes

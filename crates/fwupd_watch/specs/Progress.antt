@@ -1,6 +1,8 @@
 -- The progress of the devices of a run: the requests for bytes of their images, and what is shown
 -- of them.
-use Rattle.std.specs.Prelude.{ℕ, ◌==◌, ◌&&◌, ◌+◌, ◌-◌, ◌*◌, ◌/◌, ◌^◌, ◌++◌, nat_le, Bool, codes, if◌then◌else◌, List, [], ◌∷◌, Option, None, Some, Result, drop, length}
+use Rattle.std.specs.Prelude.{ℕ, ◌==◌, ◌&&◌, ◌+◌, ◌-◌, ◌*◌, ◌/◌, ◌^◌, ◌++◌, nat_le, Bool, codes, if◌then◌else◌, List, [], ◌∷◌, Option, None, Some, Result, drop, is_some, length, min}
+use Rattle.std.specs.Time.{instant_nanos}
+use Rattle.std.specs.declared.time.Instant.{Instant}
 use Rattle.std.specs.List.{flat_map}
 use Rattle.std.specs.Option.{unwrap_or}
 use Rattle.exch_lane.specs.Lanes.{Sent}
@@ -10,6 +12,7 @@ use Rattle.fwupd_watch.specs.Terminals.{cursor_up, end_of_line_erased, end_of_sc
 use Rattle.fwupd_watch.specs.declared.loads.Event.{Event}
 use Rattle.fwupd_watch.specs.declared.loads.Event.TheVariants as events
 use Rattle.fwupd_watch.specs.declared.loads.Load.{Load}
+use Rattle.fwupd_watch.specs.declared.progress.FirstDisplay.{FirstDisplay}
 use Rattle.fwupd_watch.specs.declared.progress_text.Pace.{Pace}
 use Rattle.fwupd_watch.specs.declared.progress_text.ProgressLine.{ProgressLine}
 use Rattle.mctp_wire.specs.Packet.{packet_of}
@@ -53,6 +56,16 @@ is_one_image earlier later =
 abbrev pub pace_since : (first load : Load) → (nanos : ℕ) → Option Pace
 pace_since first load nanos =
     if is_one_image first load then Some (record { gained = loaded load - loaded first; nanos = nanos }) else None
+
+-- the same at a time, if there was a first display; times are those of the clock, and what passed
+-- since is at most 2 ^ 64 - 1 nanoseconds
+abbrev pub pace_at : (first : Option FirstDisplay) → (load : Load) → (now : Instant) → Option Pace
+pace_at None load now = None
+pace_at (Some first) load now = pace_since first.load load (min (instant_nanos now - instant_nanos first.time) (2 ^ 64 - 1))
+
+-- the first display of an image that is shown at a time: this one, unless there was one of it
+abbrev pub first_after : (first : Option FirstDisplay) → (load : Load) → (now : Instant) → Option FirstDisplay
+first_after first load now = if is_some (pace_at first load now) then first else Some (record { load = load; time = now })
 
 -- the bytes a second, rounded down; 0 if no time passed
 abbrev pub rate : Pace → ℕ

@@ -1,7 +1,7 @@
 //! The files that a job reads.
 
 ghost use Rattle.std.specs.Io.KnownBytes.{IsAtEnd};
-ghost use Rattle.std.specs.Prelude.{◌≡◌, ◌≢◌, ◌<◌, ◌≤◌, ◌⊎◌, ◌↔◌, IfErr, IfOk, IfSome, IsSomeAnd, List, OnOk, Some, codes, option_map, false, length, map, string_bytes, take, true, ℕ};
+ghost use Rattle.std.specs.Prelude.{◌≡◌, ◌≢◌, ◌<◌, ◌≤◌, ◌⊎◌, ◌↔◌, IfErr, IfOk, IfSome, IsSomeAnd, List, None, OnOk, Some, codes, option_map, false, length, map, string_bytes, take, true, ℕ};
 ghost use Rattle.std.specs.List.{AllByRecursion};
 ghost use Rattle.fw_package.specs.Outlines.{IsBeginning};
 ghost use Rattle.fwupd_watch.specs.Files.{AreTwoPlaces, FileOf, IsApartFrom, IsInFolder, IsOneEntry, IsOnePlace, IsOutsideFolder, IsOver, IsOverOne, MayBe, MayBegin, MayHold, MayLink, any_file};
@@ -11,6 +11,7 @@ ghost use Rattle.fwupd_watch.specs.Paths.{IsFolderAndName, path_in, system_path}
 
 use crate::beginnings::{BEGINNING, Beginning, read_first};
 use crate::inputs::Inputs;
+use crate::path_calls::{PathCalls, are_one_place, is_below};
 use fwupd_base::{ImageFile, read_some};
 use std::alloc::{AllocError, Global};
 use std::fs::{self, File};
@@ -100,31 +101,6 @@ impl<'a> SystemFiles<'a> {
         read_whole(alloc, &mut file, size)
     }
 
-    /// Whether a path is in this folder or in one of its subfolders.
-    fn lies_in(&self, alloc: Global, path: &str, folder: FileIdentity) -> Result<bool, AllocError> {
-        let (own, _) = folder_and_name(path);
-        let above = path_above(alloc, own)?;
-        Ok(is_in(self.identity(own), self.identity(&above), folder))
-    }
-
-    /// Whether a path may be a link to a file in this folder or in one of its subfolders. A
-    /// dangling link may lead to any place.
-    fn leads_into(
-        &self,
-        alloc: Global,
-        path: &str,
-        folder: FileIdentity,
-    ) -> Result<bool, AllocError> {
-        if !self.is_link(path) {
-            return Ok(false);
-        }
-        match fs::canonicalize(self.rt, system_path(path)) {
-            Ok(found) => self.lies_in(alloc, found.to_string_lossy(), folder),
-            Err(error) if error.kind() == ErrorKind::OutOfMemory => Err(AllocError),
-            Err(_) => Ok(true),
-        }
-    }
-
     /// The beginning of a file. A file that states a larger size isn't read further.
     fn read_beginning(&self, alloc: Global, path: &str) -> io::Result<Beginning>
         ensures { IfOk result (λ b. MayBegin any_file b.bytes.items b.file_length) }
@@ -142,8 +118,11 @@ fn system_path(path: &str) -> &str
     if path == "-" { "/dev/stdin" } else { path }
 }
 
-/// The path of the folder that contains a folder.
-fn path_above(alloc: Global, own: &str) -> Result<String, AllocError>
+/// Returns the path of the folder that contains a folder.
+///
+/// # Errors
+/// `AllocError` if memory is refused.
+pub(crate) fn path_above(alloc: Global, own: &str) -> Result<String, AllocError>
     ensures { IfOk result (λ path. string_bytes path ≡ path_in own.now (codes "..")) }
 {
     match format!(in alloc; "{own}/..") {
@@ -152,9 +131,13 @@ fn path_above(alloc: Global, own: &str) -> Result<String, AllocError>
     }
 }
 
-/// Whether a file is in a folder or in one of its subfolders, by its own folder and by the one that
-/// contains it, if they exist.
-fn is_in(own: Option<FileIdentity>, above: Option<FileIdentity>, folder: FileIdentity) -> bool
+/// Returns whether a file is in a folder or in one of its subfolders, by its own folder and by the
+/// one that contains it, if they exist.
+pub(crate) fn is_in(
+    own: Option<FileIdentity>,
+    above: Option<FileIdentity>,
+    folder: FileIdentity,
+) -> bool
     ensures { result ≡ true ↔ ((own ≡ Some folder) ⊎ (above ≡ Some folder)) }
 {
     own == Some(folder) || above == Some(folder)
@@ -231,6 +214,35 @@ fn file_fault(kind: ErrorKind) -> FileFault
     }
 }
 
+impl<'a> PathCalls for SystemFiles<'a> {
+    ghost known = { λ f. None };
+
+    fn identity_of(&self, path: &str) -> Option<FileIdentity> {
+        match fs::metadata(self.rt, system_path(path)) {
+            Ok(found) => Some(FileIdentity {
+                device: found.dev(),
+                number: found.ino(),
+            }),
+            Err(_) => None,
+        }
+    }
+
+    fn names_link(&self, path: &str) -> bool {
+        match fs::symlink_metadata(self.rt, system_path(path)) {
+            Ok(found) => found.is_symlink(),
+            Err(_) => false,
+        }
+    }
+
+    fn target_of(&self, alloc: Global, path: &str) -> Result<Option<String>, AllocError> {
+        match fs::canonicalize(self.rt, system_path(path)) {
+            Ok(found) => Ok(Some(found.to_string_lossy().to_owned(alloc)?)),
+            Err(error) if error.kind() == ErrorKind::OutOfMemory => Err(AllocError),
+            Err(_) => Ok(None),
+        }
+    }
+}
+
 impl<'a> Files for SystemFiles<'a> {
     ghost holds = { λ f path. any_file };
 
@@ -249,37 +261,21 @@ impl<'a> Files for SystemFiles<'a> {
     }
 
     fn identity(&self, path: &str) -> Option<FileIdentity> {
-        match fs::metadata(self.rt, system_path(path)) {
-            Ok(found) => Some(FileIdentity {
-                device: found.dev(),
-                number: found.ino(),
-            }),
-            Err(_) => None,
-        }
+        self.identity_of(path)
     }
 
     fn is_link(&self, path: &str) -> bool {
-        match fs::symlink_metadata(self.rt, system_path(path)) {
-            Ok(found) => found.is_symlink(),
-            Err(_) => false,
-        }
+        self.names_link(path)
     }
 
     #[tactic(auto, using(crate::proofs::AnyFiles::any_place))]
     fn is_one_place(&self, one: &str, other: &str) -> bool {
-        let (one_folder, one_name) = folder_and_name(one);
-        let (other_folder, other_name) = folder_and_name(other);
-        let one_folder = self.identity(one_folder);
-        let other_folder = self.identity(other_folder);
-        is_one_entry(one_folder, one_name, other_folder, other_name)
+        are_one_place(self, one, other)
     }
 
     #[tactic(auto, using(crate::proofs::AnyFiles::any_below))]
     fn is_below(&self, alloc: Global, path: &str, folder: &str) -> Result<bool, AllocError> {
-        let Some(root) = self.identity(folder) else {
-            return Ok(false);
-        };
-        Ok(self.lies_in(alloc, path, root)? || self.leads_into(alloc, path, root)?)
+        is_below(self, alloc, path, folder)
     }
 }
 
@@ -297,8 +293,8 @@ pub fn folder_and_name(path: &str) -> (&str, &str)
     (folder, name)
 }
 
-/// Whether two names in folders, which may not exist, name the same directory entry.
-fn is_one_entry(
+/// Returns whether two names in folders, which may not exist, name the same directory entry.
+pub(crate) fn is_one_entry(
     one_folder: Option<FileIdentity>,
     one_name: &str,
     other_folder: Option<FileIdentity>,

@@ -15,6 +15,7 @@ mod loads;
 mod logging;
 mod output;
 mod packet_progress;
+mod path_calls;
 mod places;
 mod process_faults;
 mod progress;

@@ -2,7 +2,7 @@
 
 ghost use Rattle.std.specs.Io.KnownBytes.{Appends};
 ghost use Rattle.std.specs.Prelude.{[], ◌&&◌, ◌==◌, ◌≡◌, ◌⊎◌, IfNone, IfSome, None, OnOk, Some, if◌then◌else◌, length};
-ghost use Rattle.fwupd_watch.specs.Progress.{display, end_asked, latest_end};
+ghost use Rattle.fwupd_watch.specs.Progress.{display, end_asked, first_after, latest_end, pace_at};
 ghost use Rattle.fwupd_watch.specs.Refreshes.{update_due};
 ghost use Rattle.fwupd_watch.specs.Terminals.{display_erasure};
 ghost use Rattle.mctp_wire.specs.Packet.{packet_of};
@@ -88,7 +88,10 @@ fn load_at<B: Bank + Drop>(world: &World<'_, B>, place: usize) -> Option<Load> {
 
 /// The line of an image that is shown at a time. If it isn't the image of the first display, this
 /// is its first one.
-fn line_at(first: &mut Option<FirstDisplay>, load: Load, now: Instant) -> ProgressLine {
+fn line_at(first: &mut Option<FirstDisplay>, load: Load, now: Instant) -> ProgressLine
+    ensures line { result ≡ record { load = load; pace = pace_at first.old load now } }
+    ensures first { first.new ≡ first_after first.old load now }
+{
     let pace = match first {
         Some(first) => {
             let passed = now.duration_since(first.time).as_nanos();
