@@ -280,6 +280,9 @@ fn open_each<F: Folder + Drop, S: ReadStores<F>>(
 ) -> Result<StoreBanks<F>, Unopened>
     ensures stocked { OnOk result (HaveStoredImages (stores_in (S.is_known stores.now)
         (S.files stores.now) root.now) (map device_of devices.old) (map device_of devices.new)) }
+    ensures whole { OnOk result ((agent : ℕ)
+        → AreWhole agent (map device_of devices.old)
+        → AreWhole agent (map device_of devices.new)) }
     ensures order { IfOk result (λ b. map (λ s. s.device) b.stores.items ≡ eids_of (map device_of devices.old)) }
     ensures folders { IfOk result (λ b. S.is_known stores.now ≡ true → AllByRecursion
         (λ s. F.files s.store.folder ≡ S.files stores.now root.now s.device) b.stores.items) }
@@ -341,6 +344,7 @@ fn make_folders<F: Folder + Drop, S: Stores<F>>(
 /// The first device whose store isn't opened, and the cause: `Damaged` and `Foreign` as `found_in`
 /// defines them, `Unreadable` if its folder can't be read, and `Memory`; no folder is made then. Or
 /// the first device whose folder can't be made. Images of devices before it may be replaced then.
+#[tactic(auto, using(crate::proofs::Stocking::unmade_so))]
 pub fn open_stores<F: Folder + Drop, S: Stores<F>>(
     alloc: Global,
     stores: &mut S,

@@ -4,7 +4,7 @@ use Rattle.fw_script.specs.Seen.{device_of}
 use Rattle.fw_script.specs.Whole.{eids_of}
 use Rattle.fw_setup.specs.Stocks.{stores_in}
 use Rattle.fw_setup.specs.declared.store_banks.DeviceStore.{DeviceStore}
-use Rattle.fw_setup.proofs.Stocking.{all_end, eids_more, memory_so, seen_all, seen_more, seen_unopened}
+use Rattle.fw_setup.proofs.Stocking.{all_end, eids_more, memory_so, seen_all, seen_more, seen_unopened, whole_stocked}
 use Rattle.fw_setup.proofs.stores.open_each.Goals as goal
 
 pub returns-in-Err-clause-fault : goal.returns-in-Err-clause-fault
@@ -43,6 +43,12 @@ pub returns-clause-stocked : goal.returns-clause-stocked
 returns-clause-stocked g c =
     seen_all (stores_in (g.S.ReadStores.is_known c.args.stores.now) (g.S.ReadStores.files c.args.stores.now) c.args.root.now) c.args.devices.now c.loop-device.devices c.loop-device.device-index (omega arith)
     c.loop-device.invariant.kept
+
+pub returns-clause-whole : goal.returns-clause-whole
+returns-clause-whole g c agent whole =
+    let s = stores_in (g.S.ReadStores.is_known c.args.stores.now) (g.S.ReadStores.files c.args.stores.now) c.args.root.now in
+    whole_stocked s agent (map device_of c.args.devices.now) (map device_of c.loop-device.devices)
+    (seen_all s c.args.devices.now c.loop-device.devices c.loop-device.device-index (omega arith) c.loop-device.invariant.kept) whole
 
 pub returns-clause-order : goal.returns-clause-order
 returns-clause-order g c =
