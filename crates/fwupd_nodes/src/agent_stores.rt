@@ -134,6 +134,9 @@ pub fn open_agent<F: Folder + Drop, T: Stores<F>>(
     ensures known { IfOk result (λ opened. T.is_known stores.old ≡ true → opened.1.is_known ≡ true) }
     ensures claimed { IfOk result (λ opened. opened.1.is_known ≡ true → opened.1.packages
         ≡ Some (packages_text (map (λ p. p.items) setup.now.contents.now))) }
+    ensures kept { (T.is_known stores.new ≡ T.is_known stores.old)
+        × (T.files stores.new ≡ T.files stores.old)
+        × (T.agent_files stores.new ≡ T.agent_files stores.old) }
 {
     let eid = setup.network.endpoint.eid;
     let mut folder = match stores.make_agent(alloc, root) {

@@ -239,6 +239,9 @@ pub fn open_kept<D: Folder + Drop, T: Stores<D>>(
     ensures fault { IfErr result (λ e. (e ≡ JobFault.Memory)
         ⊎ TellsUnopened (stores_in (T.is_known stores.old) (T.files stores.old) root.now)
         (map device_of devices.old.items) e) }
+    ensures kept { (T.is_known stores.new ≡ T.is_known stores.old)
+        × (T.files stores.new ≡ T.files stores.old)
+        × (T.agent_files stores.new ≡ T.agent_files stores.old) }
 {
     match open_stores(alloc, stores, root, devices.as_mut_slice()) {
         Ok(banks) => Ok(banks),

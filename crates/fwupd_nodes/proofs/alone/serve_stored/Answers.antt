@@ -17,9 +17,11 @@ serve_node-requires-clause-front g c = rw c.in-Ok-device_node.ensures.is c.front
 pub returns-clause-ok : goal.returns-clause-ok
 returns-clause-ok g c =
     setup_served c.serve_node.result c.args.job _ (device_of c.index-device.result.now) c.in-Ok-device_node.node _ _ c.in-Ok-device_node.ensures.is
-    (stocked_some _ _ c.args.root.now c.args.setup.only.items c.open_kept.new.devices.items c.index-device.result.now c.requires.some c.requires.one c.in-Ok.ensures.stocked c.index-device.ensures) c.serve_node.ensures.ok
+    (stocked_some _ _ c.args.root.now c.args.setup.only.items c.open_kept.new.devices.items c.index-device.result.now c.requires.some c.requires.one c.in-Ok.ensures.stocked c.index-device.ensures)
+    (rw (c.in-Ok.ensures.kept.0, c.in-Ok.ensures.kept.1, c.in-Ok.ensures.kept.2) at c.serve_node.ensures.ok)
 
 pub returns-clause-fault : goal.returns-clause-fault
 returns-clause-fault g c =
     setup_ends c.serve_node.result c.args.job _ (device_of c.index-device.result.now) c.in-Ok-device_node.node _ _ c.in-Ok-device_node.ensures.is
-    (stocked_some _ _ c.args.root.now c.args.setup.only.items c.open_kept.new.devices.items c.index-device.result.now c.requires.some c.requires.one c.in-Ok.ensures.stocked c.index-device.ensures) c.serve_node.ensures.fault
+    (stocked_some _ _ c.args.root.now c.args.setup.only.items c.open_kept.new.devices.items c.index-device.result.now c.requires.some c.requires.one c.in-Ok.ensures.stocked c.index-device.ensures)
+    (rw (c.in-Ok.ensures.kept.0, c.in-Ok.ensures.kept.1, c.in-Ok.ensures.kept.2) at c.serve_node.ensures.fault)
