@@ -4,6 +4,7 @@ pub mod Started
 mod Answering
 mod Begun
 mod Ends
+mod Lines
 mod Noted
 mod Opening
 mod Overs

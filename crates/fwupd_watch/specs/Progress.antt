@@ -1,11 +1,13 @@
 -- The progress of the devices of a run: the requests for bytes of their images, and what is shown
 -- of them.
-use Rattle.std.specs.Prelude.{ℕ, ◌==◌, ◌&&◌, ◌+◌, ◌-◌, ◌*◌, ◌/◌, ◌^◌, ◌++◌, nat_le, Bool, codes, if◌then◌else◌, List, [], ◌∷◌, Option, None, Some, Result, drop, is_some, length, min}
+use Rattle.std.specs.Prelude.{ℕ, ◌==◌, ◌&&◌, ◌+◌, ◌-◌, ◌*◌, ◌/◌, ◌^◌, ◌++◌, nat_le, Bool, codes, if◌then◌else◌, List, [], ◌∷◌, Option, None, Some, Result, drop, is_some, length, min, option_map, slice_get, suc}
 use Rattle.std.specs.Time.{instant_nanos}
 use Rattle.std.specs.declared.time.Instant.{Instant}
 use Rattle.std.specs.List.{flat_map}
 use Rattle.std.specs.Option.{unwrap_or}
 use Rattle.exch_lane.specs.Lanes.{Sent}
+use Rattle.fd_core.specs.States.{staged_of}
+use Rattle.fw_steps.specs.Worlds.{SiteOf}
 use Rattle.fw_text.specs.Printing.{word_and_number}
 use Rattle.fwupd_watch.specs.Loads.{event_of, load_text, loaded}
 use Rattle.fwupd_watch.specs.Terminals.{cursor_up, end_of_line_erased, end_of_screen_erased}
@@ -40,6 +42,25 @@ last_end device before (packet ∷ packets) = last_end device (unwrap_or (end_as
 abbrev pub latest_end : (device : ℕ) → List Sent → ℕ
 latest_end device packets = last_end device 0 (drop (length packets - 16) packets)
 
+-- the image that a device loads, if it loads one
+abbrev pub load_of : SiteOf → Option Load
+load_of site = option_map (λ staged. record {
+  device = site.node.endpoint.eid;
+  key = staged.0;
+  asked = latest_end site.node.endpoint.eid site.packets;
+  size = staged.1;
+}) (staged_of site.node.half.core.device.phase)
+
+-- the same, if there is a device
+abbrev pub load_in : Option SiteOf → Option Load
+load_in None = None
+load_in (Some site) = load_of site
+
+-- the images that the devices at the first `count` places load, in configured order
+abbrev pub loads_at : List SiteOf → (count : ℕ) → List (Option Load)
+loads_at sites Prim.Native.Nat.zero = []
+loads_at sites (suc place) = loads_at sites place ++ load_in (slice_get sites place) ∷ []
+
 -- the part of an image that is loaded, in percent, rounded down; an empty image is loaded
 abbrev pub percent : Load → ℕ
 percent load = if load.size == 0 then 100 else loaded load * 100 / load.size
@@ -66,6 +87,26 @@ pace_at (Some first) load now = pace_since first.load load (min (instant_nanos n
 -- the first display of an image that is shown at a time: this one, unless there was one of it
 abbrev pub first_after : (first : Option FirstDisplay) → (load : Load) → (now : Instant) → Option FirstDisplay
 first_after first load now = if is_some (pace_at first load now) then first else Some (record { load = load; time = now })
+
+-- the line of the image that a device loads, if it loads one
+abbrev pub lines_for : (first : Option FirstDisplay) → Option Load → (now : Instant) → List ProgressLine
+lines_for first None now = []
+lines_for first (Some load) now = record { load = load; pace = pace_at first load now } ∷ []
+
+-- its first display then; none if the device loads none
+abbrev pub first_left : (first : Option FirstDisplay) → Option Load → (now : Instant) → Option FirstDisplay
+first_left first None now = None
+first_left first (Some load) now = first_after first load now
+
+-- the lines of the images that devices load, in order, by their first displays
+abbrev pub lines_of : (firsts : List (Option FirstDisplay)) → List (Option Load) → (now : Instant) → List ProgressLine
+lines_of (first ∷ firsts) (load ∷ loads) now = lines_for first load now ++ lines_of firsts loads now
+lines_of firsts loads now = []
+
+-- their first displays then
+abbrev pub firsts_left : (firsts : List (Option FirstDisplay)) → List (Option Load) → (now : Instant) → List (Option FirstDisplay)
+firsts_left (first ∷ firsts) (load ∷ loads) now = first_left first load now ∷ firsts_left firsts loads now
+firsts_left firsts loads now = firsts
 
 -- the bytes a second, rounded down; 0 if no time passed
 abbrev pub rate : Pace → ℕ

@@ -1,8 +1,8 @@
 //! Shows the progress of a run on a terminal.
 
 ghost use Rattle.std.specs.Io.KnownBytes.{Appends};
-ghost use Rattle.std.specs.Prelude.{[], ◌&&◌, ◌==◌, ◌≡◌, ◌⊎◌, IfNone, IfSome, None, OnOk, Some, if◌then◌else◌, length};
-ghost use Rattle.fwupd_watch.specs.Progress.{display, end_asked, first_after, latest_end, pace_at};
+ghost use Rattle.std.specs.Prelude.{[], ◌++◌, ◌<◌, ◌&&◌, ◌==◌, ◌≡◌, ◌⊎◌, IfNone, IfSome, None, OnOk, Some, if◌then◌else◌, length, slice_get};
+ghost use Rattle.fwupd_watch.specs.Progress.{display, end_asked, first_after, latest_end, first_left, firsts_left, lines_for, lines_of, load_in, loads_at, pace_at};
 ghost use Rattle.fwupd_watch.specs.Refreshes.{update_due};
 ghost use Rattle.fwupd_watch.specs.Terminals.{display_erasure};
 ghost use Rattle.mctp_wire.specs.Packet.{packet_of};
@@ -70,7 +70,9 @@ fn asked(packets: &SentPackets<'_>, device: u8) -> u32
 }
 
 /// The image that the device at a place loads, if it loads one.
-fn load_at<B: Bank + Drop>(world: &World<'_, B>, place: usize) -> Option<Load> {
+fn load_at<B: Bank + Drop>(world: &World<'_, B>, place: usize) -> Option<Load>
+    ensures { result ≡ load_in (slice_get world.now.sites place) }
+{
     let (Some(node), Some(packets)) = (world.device_at(place), world.packets_at(place)) else {
         return None;
     };
@@ -84,6 +86,17 @@ fn load_at<B: Bank + Drop>(world: &World<'_, B>, place: usize) -> Option<Load> {
         asked: asked(&packets, device),
         size,
     })
+}
+
+/// The images that the devices load, by place.
+fn loads_of<B: Bank + Drop>(world: &World<'_, B>) -> [Option<Load>; DEVICES]
+    ensures { result ≡ loads_at world.now.sites 16 }
+{
+    let mut loads = [None; DEVICES];
+    for place in 0..DEVICES {
+        loads[place] = load_at(world, place);
+    }
+    loads
 }
 
 /// The line of an image that is shown at a time. If it isn't the image of the first display, this
@@ -105,23 +118,37 @@ fn line_at(first: &mut Option<FirstDisplay>, load: Load, now: Instant) -> Progre
     ProgressLine { load, pace }
 }
 
-/// The lines at a time: of each device that loads an image, in configured order.
-fn lines_at<B: Bank + Drop>(
-    firsts: &mut [Option<FirstDisplay>; DEVICES],
-    world: &World<'_, B>,
+/// Appends the line of the image that a device loads, if it loads one.
+fn push_line_at(
+    lines: &mut ArrayVec<ProgressLine, DEVICES>,
+    first: &mut Option<FirstDisplay>,
+    load: Option<Load>,
     now: Instant,
-) -> ArrayVec<ProgressLine, DEVICES> {
+)
+    requires { length lines.old.items < 16 }
+    ensures lines { lines.new.items ≡ lines.old.items ++ lines_for first.old load now }
+    ensures first { first.new ≡ first_left first.old load now }
+{
+    match load {
+        Some(load) => lines.push(line_at(first, load, now)),
+        None => *first = None,
+    }
+}
+
+/// The lines of the images that devices load, at a time.
+fn lines_at(
+    firsts: &mut [Option<FirstDisplay>; DEVICES],
+    loads: &[Option<Load>; DEVICES],
+    now: Instant,
+) -> ArrayVec<ProgressLine, DEVICES>
+    ensures lines { result.items ≡ lines_of firsts.old loads.now now }
+    ensures firsts { firsts.new ≡ firsts_left firsts.old loads.now now }
+{
     let mut lines = ArrayVec::new();
     for place in 0..DEVICES {
-        let Some(first) = firsts.get_mut(place) else {
-            return lines;
-        };
-        match load_at(world, place) {
-            Some(load) => {
-                let _ = lines.try_push(line_at(first, load, now));
-            }
-            None => *first = None,
-        }
+        let mut first = firsts[place];
+        push_line_at(&mut lines, &mut first, loads[place], now);
+        firsts[place] = first;
     }
     lines
 }
@@ -152,6 +179,7 @@ impl<'a> ProgressDisplay<'a> {
         ensures drawn { OnOk result (self.new.drawn ≡ length lines.now) }
         ensures shown { OnOk result (self.new.refresh.shown ≡ (if self.old.drawn == 0 && length lines.now == 0
             then self.old.refresh.shown else Some now)) }
+        ensures firsts { self.new.firsts ≡ self.old.firsts }
     {
         if lines.is_empty() && self.drawn == 0 {
             return Ok(());
@@ -176,11 +204,19 @@ impl<'a> ProgressDisplay<'a> {
             × (self.new.drawn ≡ self.old.drawn) × (self.new.refresh.shown ≡ self.old.refresh.shown)) }
         ensures due { OnOk result (IfSome (update_due self.old.refresh.shown now)
             (λ time. (self.new.refresh.shown ≡ Some time) ⊎ ((self.new.drawn ≡ 0) × (self.new.refresh.shown ≡ self.old.refresh.shown)))) }
+        ensures text { OnOk result (IfSome (update_due self.old.refresh.shown now)
+            (λ time. Appends (W.contents writer.old) (W.contents writer.new)
+            (display self.old.drawn (lines_of self.old.firsts (loads_at world.now.sites 16) time)))) }
+        ensures drawn { OnOk result (IfSome (update_due self.old.refresh.shown now)
+            (λ time. self.new.drawn ≡ length (lines_of self.old.firsts (loads_at world.now.sites 16) time))) }
+        ensures firsts { IfSome (update_due self.old.refresh.shown now)
+            (λ time. self.new.firsts ≡ firsts_left self.old.firsts (loads_at world.now.sites 16) time) }
     {
         let Some(now) = self.refresh.due(now) else {
             return Ok(());
         };
-        let lines = lines_at(&mut self.firsts, world, now);
+        let loads = loads_of(world);
+        let lines = lines_at(&mut self.firsts, &loads, now);
         self.draw_on(writer, lines.as_slice(), now)
     }
 
