@@ -1,7 +1,7 @@
 //! The inputs of jobs on worlds: a configuration, its packages, and the images in the stores of its
 //! devices.
 
-ghost use Rattle.std.specs.Prelude.{◌≡◌, ◌≢◌, ◌≤◌, ◌-◌, ◌^◌, ◌⊎◌, IfErr, IfOk, IsOk, IsSomeAnd, Ok, OnOk, length, map, option_map, string_bytes, ℕ};
+ghost use Rattle.std.specs.Prelude.{◌≡◌, ◌≢◌, ◌≤◌, ◌-◌, ◌^◌, ◌++◌, ◌⊎◌, IfErr, IfOk, IsOk, IsSomeAnd, Ok, OnErr, OnOk, length, map, option_map, string_bytes, true, ℕ};
 ghost use Rattle.std.specs.List.{AllByRecursion};
 ghost use Rattle.fw_package.specs.Reading.{package_of};
 ghost use Rattle.fw_script.specs.Configs.{config_of};
@@ -9,7 +9,7 @@ ghost use Rattle.fw_script.specs.ScheduleLines.{all_steps};
 ghost use Rattle.fw_script.specs.Schedules.{script_of};
 ghost use Rattle.fw_script.specs.Seen.{config_seen, device_of};
 ghost use Rattle.fw_script.specs.Whole.{AreWhole};
-ghost use Rattle.fw_setup.specs.Stocks.{HaveStoredImages, stores_in};
+ghost use Rattle.fw_setup.specs.Stocks.{HaveStoredImages, store_paths, stores_in};
 ghost use Rattle.fwupd_nodes.specs.Setups.{AreDevices, ArePacked, IsPacked, IsUnreadable, PackageFails, PackagesFail, Says, TellsUnopened, TextFails, TextFault, job_fault_of_misread, job_fault_of_unread};
 
 use fw_package::Package;
@@ -239,6 +239,13 @@ pub fn open_kept<D: Folder + Drop, T: Stores<D>>(
     ensures fault { IfErr result (λ e. (e ≡ JobFault.Memory)
         ⊎ TellsUnopened (stores_in (T.is_known stores.old) (T.files stores.old) root.now)
         (map device_of devices.old.items) e) }
+    ensures untouched { OnErr result ((stores.new ≡ stores.old)
+        ⊎ HaveStoredImages (stores_in (T.is_known stores.old) (T.files stores.old) root.now)
+        (map device_of devices.old.items) (map device_of devices.new.items)) }
+    ensures made { OnOk result (AllByRecursion (λ x. T.makes stores.old root.now x.endpoint.eid ≡ true)
+        (map device_of devices.new.items)) }
+    ensures log { OnOk result (T.is_known stores.old ≡ true → T.made_paths stores.new
+        ≡ T.made_paths stores.old ++ store_paths root.now (map device_of devices.new.items)) }
     ensures kept { (T.is_known stores.new ≡ T.is_known stores.old)
         × (T.files stores.new ≡ T.files stores.old)
         × (T.agent_files stores.new ≡ T.agent_files stores.old) }

@@ -2,7 +2,7 @@
 
 ghost use Rattle.std.specs.Io.KnownBytes.{Appends};
 ghost use Rattle.std.specs.List.{list_any};
-ghost use Rattle.std.specs.Prelude.{[], ◌∷◌, ◌==◌, ◌≡◌, ◌⊎◌, IfNone, IfOk, IfSome, None, OnOk, false, if◌then◌else◌, is_some, length, option_map, true, ◌++◌};
+ghost use Rattle.std.specs.Prelude.{[], ◌∷◌, ◌==◌, ◌≡◌, ◌⊎◌, IfNone, IfOk, IfSome, None, OnOk, false, if◌then◌else◌, is_some, length, option_map, slice_get, true, vec_capacity, ◌++◌, ◌≤◌};
 ghost use Rattle.fw_text.specs.Printing.{AppendsText};
 ghost use Rattle.fwupd_watch.specs.Processes.{done_text, latest_line, load_line};
 ghost use Rattle.fwupd_watch.specs.Refreshes.{shown_after, text_if_due, update_due};
@@ -25,7 +25,8 @@ const EIDS: usize = 256;
 fn add_done(done: &mut Vec<u8>, device: u8)
     ensures same { list_any (λ d. d == device) done.old.items ≡ true → done.new.items ≡ done.old.items }
     ensures added { list_any (λ d. d == device) done.old.items ≡ false
-        → (done.new.items ≡ done.old.items ++ device ∷ []) ⊎ (done.new.items ≡ done.old.items) }
+        → (done.new.items ≡ done.old.items ++ device ∷ [])
+        ⊎ ((done.new.items ≡ done.old.items) × (vec_capacity done.old ≤ length done.old.items)) }
 {
     if !done.contains(&device) {
         let _ = done.push(device);
@@ -94,12 +95,12 @@ impl<'a> PacketProgress<'a> {
     pub fn new(terminal: Terminal<'a>, all: Option<usize>) -> Result<PacketProgress<'a>, AllocError>
         ensures all { IfOk result (λ p. p.all ≡ all) }
         ensures none { IfOk result (λ p. (p.done.items ≡ []) × (p.latest ≡ None) × (p.refresh.shown ≡ None)) }
+        ensures places { IfOk result (λ p. length p.loads.items ≡ 256) }
+        ensures room { IfOk result (λ p. 256 ≤ vec_capacity p.done) }
     {
         let alloc = terminal.runtime().alloc();
-        let mut loads = Vec::with_capacity(alloc, EIDS)?;
-        for _ in 0..EIDS {
-            loads.push(None)?;
-        }
+        let mut loads = Vec::new(alloc);
+        loads.resize(EIDS, None)?;
         Ok(PacketProgress {
             terminal,
             all,
@@ -125,7 +126,10 @@ impl<'a> PacketProgress<'a> {
     }
 
     /// A device requested bytes of its image up to an end.
-    fn note_asked(&mut self, device: u8, end: u32) {
+    fn note_asked(&mut self, device: u8, end: u32)
+        ensures latest { IfSome (slice_get self.old.loads.items device)
+            (λ place. IfSome place (λ load. self.new.latest ≡ Some (record load { asked = end }))) }
+    {
         if let Some(Some(load)) = self.loads.get_mut(usize::from(device)) {
             load.asked = end;
             self.latest = Some(*load);

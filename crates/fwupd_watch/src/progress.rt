@@ -177,8 +177,8 @@ impl<'a> ProgressDisplay<'a> {
     ) -> io::Result<()>
         ensures text { OnOk result (Appends (W.contents writer.old) (W.contents writer.new) (display self.old.drawn lines.now)) }
         ensures drawn { OnOk result (self.new.drawn ≡ length lines.now) }
-        ensures shown { OnOk result (self.new.refresh.shown ≡ (if self.old.drawn == 0 && length lines.now == 0
-            then self.old.refresh.shown else Some now)) }
+        ensures shown { self.new.refresh.shown ≡ (if self.old.drawn == 0 && length lines.now == 0
+            then self.old.refresh.shown else Some now) }
         ensures firsts { self.new.firsts ≡ self.old.firsts }
     {
         if lines.is_empty() && self.drawn == 0 {
@@ -201,9 +201,12 @@ impl<'a> ProgressDisplay<'a> {
     ) -> io::Result<()>
         ensures early { IfNone (update_due self.old.refresh.shown now)
             (OnOk result (Appends (W.contents writer.old) (W.contents writer.new) [])
-            × (self.new.drawn ≡ self.old.drawn) × (self.new.refresh.shown ≡ self.old.refresh.shown)) }
+            × (self.new.drawn ≡ self.old.drawn)
+            × (self.new.refresh.shown ≡ self.old.refresh.shown)
+            × (self.new.firsts ≡ self.old.firsts)) }
         ensures due { OnOk result (IfSome (update_due self.old.refresh.shown now)
-            (λ time. (self.new.refresh.shown ≡ Some time) ⊎ ((self.new.drawn ≡ 0) × (self.new.refresh.shown ≡ self.old.refresh.shown)))) }
+            (λ time. (self.new.refresh.shown ≡ Some time)
+            ⊎ ((self.new.drawn ≡ 0) × (self.new.refresh.shown ≡ self.old.refresh.shown)))) }
         ensures text { OnOk result (IfSome (update_due self.old.refresh.shown now)
             (λ time. Appends (W.contents writer.old) (W.contents writer.new)
             (display self.old.drawn (lines_of self.old.firsts (loads_at world.now.sites 16) time)))) }
