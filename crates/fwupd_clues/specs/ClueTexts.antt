@@ -8,6 +8,10 @@ use Rattle.fwupd_clues.specs.Reasons.{reason_of_store}
 abbrev pub reason_text : (path reason : List ℕ) → List ℕ
 reason_text path reason = path ++ (codes ": " ++ (reason ++ codes "\n"))
 
+-- the same, and what is shown of the line in which that is
+abbrev pub fault_text : (path reason start dots : List ℕ) → List ℕ
+fault_text path reason start dots = path ++ (codes ": " ++ (reason ++ (codes ": " ++ (start ++ (dots ++ codes "\n")))))
+
 -- a line of a file, with its number
 abbrev pub numbered_text : (path : List ℕ) → (number : ℕ) → (line : List ℕ) → List ℕ
 numbered_text path number line = path ++ (codes ": line " ++ (decimal number ++ (codes ": " ++ (line ++ codes "\n"))))

@@ -1,12 +1,15 @@
 //! What is printed below the line of a fault, to explain it.
 
-ghost use Rattle.std.specs.Prelude.{◌≡◌, IfOk, option_map, string_bytes};
-ghost use Rattle.fwupd_clues.specs.ClueTexts.{agent_store_text, numbered_text, reason_text, step_text, store_text, version_text};
+ghost use Rattle.std.specs.Prelude.{◌≡◌, ◌<◌, ◌≤◌, IfOk, IsCharBoundary, codes, length, option_map, string_bytes, take, ℕ};
+ghost use Rattle.fwupd_clues.specs.ClueTexts.{agent_store_text, fault_text, numbered_text, reason_text, step_text, store_text, version_text};
 
 use crate::clue_lines::step_line;
 use crate::reasons::store_reason;
 use fw_store::OpenFault;
 use std::alloc::{AllocError, Global};
+
+/// The most bytes of a line that an explanation shows.
+const LONGEST: usize = 100;
 
 /// Returns a path, and what is wrong with its file.
 ///
@@ -16,6 +19,45 @@ pub(crate) fn reason_text(alloc: Global, path: &str, reason: &str) -> Result<Str
     ensures { IfOk result (λ text. string_bytes text ≡ reason_text path.now reason.now) }
 {
     match format!(in alloc; "{path}: {reason}\n") {
+        Ok(text) => Ok(text),
+        Err(_) => Err(AllocError),
+    }
+}
+
+/// Returns what an explanation shows of a line: the line, and no dots; or of one longer than 100
+/// bytes the characters that are within its first 100, and two dots.
+pub(crate) fn shown_part(line: &str) -> (&str, &str)
+    ensures whole { length line.now ≤ 100 → (result.0.now ≡ line.now) × (result.1.now ≡ codes "") }
+    ensures dots { 100 < length line.now → result.1.now ≡ codes ".." }
+    ensures start { 100 < length line.now → result.0.now ≡ take (length result.0.now) line.now }
+    ensures bound { 100 < length line.now → length result.0.now ≤ 100 }
+    ensures nearest { 100 < length line.now → (place : ℕ)
+        → length result.0.now < place
+        → place ≤ 100
+        → IsCharBoundary line.now place
+        → ⊥ }
+{
+    if line.len() <= LONGEST {
+        return (line, "");
+    }
+    let (start, _) = line.split_at(line.floor_char_boundary(LONGEST));
+    (start, "..")
+}
+
+/// Returns a path, what is wrong with its file, and what is shown of the line in which that is.
+///
+/// # Errors
+/// `AllocError` if memory is refused.
+pub(crate) fn fault_text(
+    alloc: Global,
+    path: &str,
+    reason: &str,
+    start: &str,
+    dots: &str,
+) -> Result<String, AllocError>
+    ensures { IfOk result (λ text. string_bytes text ≡ fault_text path.now reason.now start.now dots.now) }
+{
+    match format!(in alloc; "{path}: {reason}: {start}{dots}\n") {
         Ok(text) => Ok(text),
         Err(_) => Err(AllocError),
     }

@@ -6,7 +6,8 @@ ghost use Rattle.fw_package.specs.Reading.{package_of};
 
 use crate::clue_lines::{line_at, package_lines};
 use crate::clue_texts::{
-    agent_store_text, numbered_text, reason_text, step_text, store_text, version_text,
+    agent_store_text, fault_text, numbered_text, reason_text, shown_part, step_text, store_text,
+    version_text,
 };
 use crate::clues::{Clue, clue_to};
 use crate::identifiers::later_version;
@@ -24,9 +25,6 @@ use std::alloc::AllocError;
 use std::fs::OpenOptions;
 use std::io::{self, Write};
 use std::str;
-
-/// The most bytes of a line that an explanation shows.
-const LONGEST: usize = 100;
 
 /// Prints an explanation. Nothing is printed if memory was refused for its text.
 fn print(explaining: Explaining<'_>, text: Result<String, AllocError>) {
@@ -75,14 +73,14 @@ fn explain_line(explaining: Explaining<'_>, path: &str, fault: ScriptFault) {
         return;
     };
     let reason = reason(fault.cause);
-    let _ = match line_at(text, fault.line) {
-        None | Some("") => eprintln!(rt; "{path}: {reason}"),
-        Some(line) if line.len() <= LONGEST => eprintln!(rt; "{path}: {reason}: {line}"),
+    let text = match line_at(text, fault.line) {
+        None | Some("") => reason_text(rt.alloc(), path, reason),
         Some(line) => {
-            let (start, _) = line.split_at(line.floor_char_boundary(LONGEST));
-            eprintln!(rt; "{path}: {reason}: {start}..")
+            let (start, dots) = shown_part(line);
+            fault_text(rt.alloc(), path, reason, start, dots)
         }
     };
+    print(explaining, text);
 }
 
 /// Prints the first malformed package of a configuration, and its line there. Nothing is printed if
