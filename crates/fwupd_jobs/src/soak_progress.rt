@@ -89,7 +89,8 @@ impl<'a> SoakProgress<'a> {
     ) -> io::Result<()>
         ensures text { OnOk result (Appends (W.contents writer.old) (W.contents writer.new)
             (soak_text self.old.runs self.old.refresh.shown now summary.now.runs summary.now.violations)) }
-        ensures shown { OnOk result (self.new.refresh.shown ≡ soak_shown self.old.runs self.old.refresh.shown now summary.now.runs) }
+        ensures shown { OnOk result (self.new.refresh.shown
+            ≡ soak_shown self.old.runs self.old.refresh.shown now summary.now.runs) }
         ensures runs { self.new.runs ≡ self.old.runs }
     {
         if summary.runs >= self.runs {

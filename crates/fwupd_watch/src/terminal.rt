@@ -121,7 +121,8 @@ pub(crate) fn explain_on<W: Write>(
     explaining: Option<Explaining<'_>>,
     lost: Option<u8>,
 ) -> io::Result<()>
-    ensures { OnOk result (Appends (W.contents writer.old) (W.contents writer.new) (explanation_of (is_some explaining.entry) lost)) }
+    ensures { OnOk result (Appends (W.contents writer.old) (W.contents writer.new)
+        (explanation_of (is_some explaining.entry) lost)) }
 {
     let (Some(device), Some(_)) = (lost, explaining) else {
         return Ok(());
